@@ -30,11 +30,12 @@
 /* State of a dump that has not ended. All others are 0 or an error number. */
 #define DUMP_GOES_ON (-1)
 
-/* Returns whether the first `length` bytes of struct sockdiag_long_tcp_info have a field. Each
- * kernel sends struct tcp_info in its own length, which sockdiag_inet_get_long_tcp_info returns. */
-#define SOCKDIAG_HAS(length, field)                                                               \
-    ((length) >= offsetof(struct sockdiag_long_tcp_info, field)                                   \
-                     + sizeof((struct sockdiag_long_tcp_info *)NULL)->field)
+/* Returns whether the first `length` bytes of the struct `info` have a field. Each kernel sends
+ * struct tcp_info and struct mptcp_info in its own length, which the calls that fill `info` return:
+ * sockdiag_inet_get_long_tcp_info and sockdiag_inet_get_mptcp_info. */
+#define SOCKDIAG_HAS(length, info, field)                                                         \
+    ((length) >= (size_t)((const char *)&(info).field - (const char *)&(info))                    \
+                     + sizeof((info).field))
 
 struct dump {
     int fd;

@@ -23,7 +23,7 @@ static void print_connection(void *context, const uint8_t *payload, size_t lengt
     inet_ntop(it.header.family, it.header.source_address, source, sizeof source);
     inet_ntop(it.header.family, it.header.destination_address, destination, sizeof destination);
     printf("%s %u %s %u", source, it.header.source_port, destination, it.header.destination_port);
-    if (SOCKDIAG_HAS(sockdiag_inet_get_long_tcp_info(payload, length, &info), rtt))
+    if (SOCKDIAG_HAS(sockdiag_inet_get_long_tcp_info(payload, length, &info), info, rtt))
         printf(" rtt %uus", info.rtt);
     putchar('\n');
 }

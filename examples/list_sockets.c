@@ -117,7 +117,7 @@ static uint32_t print_inet(const char *protocol, const uint8_t *payload, size_t 
     /* Each kernel sends struct tcp_info in its own size, and a short one is rejected. Does it
      * contain this field? An MPTCP socket has struct mptcp_info there. */
     if (strcmp(protocol, "tcp") == 0 &&
-        SOCKDIAG_HAS(sockdiag_inet_get_long_tcp_info(payload, length, &info), rtt)) {
+        SOCKDIAG_HAS(sockdiag_inet_get_long_tcp_info(payload, length, &info), info, rtt)) {
         rejections.errors[SOCKDIAG_INET_DIAG_INFO] = SOCKDIAG_OK;
         /* 0: not measured, as of a socket that listens. */
         if (info.rtt != 0)

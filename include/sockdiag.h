@@ -38,10 +38,10 @@
  *   returns 0; and if an iteration returns 0 or the code of a framing error;
  * - if sockdiag_check_message returns 0, the header of the other kind.
  *
- * All other fields are set. sockdiag_inet_get_tcp_info, sockdiag_inet_get_long_tcp_info and
- * sockdiag_inet_get_memory set all fields in any case, and so does each call with a struct
- * sockdiag_outcome. The padding between fields may have any contents, so do not compare structs by
- * memcmp.
+ * All other fields are set. sockdiag_inet_get_tcp_info, sockdiag_inet_get_long_tcp_info,
+ * sockdiag_inet_get_mptcp_info and sockdiag_inet_get_memory set all fields in any case, and so does
+ * each call with a struct sockdiag_outcome. The padding between fields may have any contents, so do
+ * not compare structs by memcmp.
  *
  * Numbers in structs are in the byte order of the host, ports included. Addresses are in network
  * byte order, as inet_ntop expects them. A cookie of eight bytes is a copy of the bytes in the
@@ -441,6 +441,12 @@ enum sockdiag_tcp_value {
                                          request. Since Linux 6.14. */
 };
 
+/* Flags of an MPTCP connection. */
+enum sockdiag_mptcp_flag {
+    SOCKDIAG_MPTCP_INFO_FLAG_FALLBACK = 1,           /* The connection fell back to TCP. */
+    SOCKDIAG_MPTCP_INFO_FLAG_REMOTE_KEY_RECEIVED = 2 /* The key of the peer was received. */
+};
+
 /* Protocols and attributes that a request for netlink, packet or XDP sockets selects. */
 enum sockdiag_show {
     SOCKDIAG_NDIAG_PROTO_ALL = 255,      /* Requests sockets of all protocols. */
@@ -546,7 +552,8 @@ uint32_t sockdiag_check_unix_reply(const uint8_t *payload, size_t length,
  * values, and MPTCP sockets of all kernels. sockdiag_inet_get_lenient_details returns the header of
  * such a reply, and the first valid attribute of each kind that has a field in the details. These
  * calls accept a value of any length:
- * - the connection: sockdiag_inet_get_long_tcp_info and sockdiag_inet_get_tcp_info;
+ * - the connection: sockdiag_inet_get_long_tcp_info and sockdiag_inet_get_tcp_info, and for MPTCP
+ *   sockdiag_inet_get_mptcp_info;
  * - the memory: sockdiag_inet_get_memory;
  * - other attributes: sockdiag_next_attribute, which does not check their values.
  */
@@ -826,8 +833,9 @@ struct sockdiag_tcp_info {
  * Kernels without tcpi_snd_wnd send fewer than 232 bytes: a field that ends after the returned
  * length is 0, and not known. Newer kernels send more; the bytes after 232 are not copied. A time
  * that the kernel has not measured is 0 too, such as rtt of a socket that listens. The value is
- * struct tcp_info only if the protocol is TCP: MPTCP has struct mptcp_info, and SCTP has struct
- * sctp_info, whose bytes have no meaning in info.
+ * struct tcp_info only if the protocol is TCP: MPTCP has struct mptcp_info, which
+ * sockdiag_inet_get_mptcp_info returns, and SCTP has struct sctp_info. Their bytes have no meaning
+ * in info.
  *
  * The values of attributes are not checked. So this call also works for a reply that is rejected
  * because a value is too short. Attributes after a framing error are not found.
@@ -1003,6 +1011,75 @@ struct sockdiag_long_tcp_info {
 size_t sockdiag_inet_get_long_tcp_info(const uint8_t *payload, size_t length,
                                        struct sockdiag_long_tcp_info *info);
 
+/* The state of an MPTCP connection: struct mptcp_info of linux/mptcp.h in Linux 6.18. */
+struct sockdiag_mptcp_info {
+    uint8_t subflows;              /* Number of subflows in addition to the first one.
+                                      mptcpi_subflows at 0. */
+    uint8_t add_addr_signal;       /* Number of local addresses that were announced to the peer
+                                      (ADD_ADDR). mptcpi_add_addr_signal at 1. */
+    uint8_t add_addr_accepted;     /* Number of addresses that the peer announced and that were
+                                      accepted. mptcpi_add_addr_accepted at 2. */
+    uint8_t subflows_max;          /* Limit of mptcpi_subflows. mptcpi_subflows_max at 3. */
+    uint8_t add_addr_signal_max;   /* Number of endpoints whose addresses are announced, those
+                                      with the flag signal of ip-mptcp(8).
+                                      mptcpi_add_addr_signal_max at 4. */
+    uint8_t add_addr_accepted_max; /* Limit of mptcpi_add_addr_accepted.
+                                      mptcpi_add_addr_accepted_max at 5. */
+    uint32_t flags;                /* Flags of the connection, bits MPTCP_INFO_FLAG_...
+                                      mptcpi_flags at 8. */
+    uint32_t token;                /* Token of the connection at the local end. mptcpi_token at
+                                      12. */
+    uint64_t write_seq;            /* Sequence number of the connection for the next byte that is
+                                      written. mptcpi_write_seq at 16. */
+    uint64_t snd_una;              /* First sequence number that the peer did not acknowledge.
+                                      mptcpi_snd_una at 24. */
+    uint64_t rcv_nxt;              /* Sequence number of the next byte that is expected from the
+                                      peer. mptcpi_rcv_nxt at 32. */
+    uint8_t local_addr_used;       /* Number of local addresses that are in use for subflows.
+                                      mptcpi_local_addr_used at 40. */
+    uint8_t local_addr_max;        /* Number of endpoints from which subflows are opened, those
+                                      with the flag subflow of ip-mptcp(8). mptcpi_local_addr_max
+                                      at 41. */
+    uint8_t csum_enabled;          /* 1 if data has checksums, else 0. mptcpi_csum_enabled at 42. */
+    uint32_t retransmits;          /* Number of retransmissions of the end of the data
+                                      (DATA_FIN). mptcpi_retransmits at 44. A value of 48 bytes,
+                                      from a kernel without this field, has padding there. */
+    uint64_t bytes_retrans;        /* Number of bytes that the connection retransmitted, on any
+                                      subflow. What TCP retransmits on its subflow is not
+                                      counted. mptcpi_bytes_retrans at 48. */
+    uint64_t bytes_sent;           /* Number of bytes sent, without retransmitted bytes.
+                                      mptcpi_bytes_sent at 56. */
+    uint64_t bytes_received;       /* Number of bytes received. mptcpi_bytes_received at 64. */
+    uint64_t bytes_acked;          /* Number of sent bytes that the peer acknowledged.
+                                      mptcpi_bytes_acked at 72. */
+    uint8_t subflows_total;        /* Number of subflows, including the first one.
+                                      mptcpi_subflows_total at 80. */
+    uint8_t endp_laminar_max;      /* Number of endpoints with the flag laminar.
+                                      mptcpi_endp_laminar_max at 81. It is 0 from kernels without
+                                      this field. */
+    uint32_t last_data_sent;       /* Time since data was sent, in milliseconds.
+                                      mptcpi_last_data_sent at 84. A value of 88 bytes, from a
+                                      kernel without this field, has padding there. */
+    uint32_t last_data_recv;       /* Time since data was received, in milliseconds.
+                                      mptcpi_last_data_recv at 88. */
+    uint32_t last_ack_recv;        /* Time since an acknowledgement was received, in
+                                      milliseconds. mptcpi_last_ack_recv at 92. */
+};
+
+/*
+ * Copies the value of the first INET_DIAG_INFO in a reply to a request for MPTCP, after the header
+ * of 72 bytes: at most the 96 bytes of info. The remaining bytes of info are set to 0. Returns the
+ * length of the value in bytes, or 0 if there is none. Each kernel sends the struct in its own
+ * length: a field that ends after the returned length is 0, and not known. All fields of a socket
+ * that listens are 0 too. In a reply to a request for another protocol the value is another struct,
+ * and its bytes have no meaning in info.
+ *
+ * The values of attributes are not checked. So this call also works for a value that is rejected
+ * with SOCKDIAG_BUFFER_TOO_SMALL, as a lenient call reports it for each value of MPTCP.
+ */
+size_t sockdiag_inet_get_mptcp_info(const uint8_t *payload, size_t length,
+                                    struct sockdiag_mptcp_info *info);
+
 /*
  * The memory of an IPv4 or IPv6 socket (INET_DIAG_SKMEMINFO): the fields SK_MEMINFO_* of
  * linux/sock_diag.h.
@@ -1120,8 +1197,8 @@ uint32_t sockdiag_unix_get_lenient_details(const uint8_t *payload, size_t length
  *
  * Use this call to list sockets: a value that this library does not accept, such as the
  * INET_DIAG_INFO of an old kernel or of MPTCP, hides only itself, and not its socket.
- * sockdiag_inet_get_long_tcp_info returns the value of an old kernel as far as it goes. That of
- * MPTCP is another struct.
+ * sockdiag_inet_get_long_tcp_info returns the value of an old kernel as far as it goes, and
+ * sockdiag_inet_get_mptcp_info that of MPTCP, which is another struct.
  */
 uint32_t sockdiag_inet_get_lenient_details(const uint8_t *payload, size_t length,
                                            struct sockdiag_inet_details *details,
@@ -1982,10 +2059,10 @@ struct sockdiag_inet_request {
     struct sockdiag_request_header header; /* Fields of the netlink header. */
     uint8_t family;                        /* AF_INET or AF_INET6 (sdiag_family). */
     uint8_t extensions;                    /* Attributes that the replies shall have, with the
-                                              bit 1 << (kind - 1) for each kind (idiag_ext).
-                                              Leave out INET_DIAG_INFO for MPTCP, and for kernels
-                                              without tcpi_snd_wnd: sockdiag_inet_get_details
-                                              rejects their replies. */
+                                              bit 1 << (kind - 1) for each kind (idiag_ext). For
+                                              MPTCP, and for kernels without tcpi_snd_wnd, leave
+                                              out INET_DIAG_INFO, or use a lenient call:
+                                              sockdiag_inet_get_details rejects their replies. */
     uint32_t protocol;                     /* Protocol, one of IPPROTO_... Request one protocol
                                               at a time, since replies do not contain it. The low
                                               byte is written to the record (sdiag_protocol, byte

@@ -16,9 +16,24 @@ RECORDS = {
     "TCP_INFO_LEN": ("TcpInfo", "inet/tcp_info.rt", "TcpInfo"),
     "MEM_INFO_LEN": ("InetMemory", "inet/mem_info.rt", "Memory"),
 }
-# The longer struct tcp_info, which C gets as a byte array too: the length of the array, and the
-# name of the struct. It has the fields of `TcpInfo`, and after them the others of `TcpField`.
-LONG_TCP_INFO = ("LONG_TCP_INFO_LEN", "LongTcpInfo")
+# Structs with the fields of an enum, which C gets as byte arrays too: by the length of the array,
+# the struct of the bindings, its documentation, the enum, and the struct with its first fields.
+FIELD_STRUCTS = {
+    "LONG_TCP_INFO_LEN": (
+        "LongTcpInfo",
+        "The state of a TCP connection: `struct tcp_info` of `linux/tcp.h` in Linux 6.18.",
+        "TcpField",
+        "TcpInfo",
+    ),
+    "MPTCP_INFO_LEN": (
+        "MptcpInfo",
+        "The state of an MPTCP connection: `struct mptcp_info` of `linux/mptcp.h` in Linux 6.18.",
+        "MptcpField",
+        None,
+    ),
+}
+# The file of each of these enums, in sock_diag_extras.
+FIELD_FILES = {"TcpField": "tcp_info.rt", "MptcpField": "mptcp_info.rt"}
 # The types of fields that have a width of this many bytes.
 TYPES = {1: "u8", 2: "u16", 4: "u32", 8: "u64"}
 # Variants of `DecodeError` that no call returns.
@@ -57,7 +72,7 @@ FUNCTION = re.compile(
 CONSTANT = re.compile(DOC + r"^pub(?:\(crate\))? const (\w+): (\w+) = (\S+);$", re.M)
 VARIANT = re.compile(DOC + r'^    #\[error\("(.*)"\)\]\s+(\w+)(?: \{((?s:.*?))\})?,', re.M)
 PLAIN_VARIANT = re.compile(DOC + r"^    (\w+)(?: \{(.*?)\})?,$", re.M)
-SPAN = re.compile(r"TcpField::(\w+) => \((\d+), (\d+)\),")
+SPAN = re.compile(r"\w+Field::(\w+) => \((\d+), (\d+)\),")
 BIT = re.compile(r"SocketOption::(\w+) => (\d+),")
 SIZE = re.compile(r"prove!\(size_of::<(\w+)(?:<'static>)?>\(\) == (\d+)\)")
 CODE = re.compile(r"DecodeError::(\w+)(?: \{ \.\. \})? => (\d+),")
@@ -150,7 +165,7 @@ def fields_of(body):
 
 def parameters_of(text):
     """Yields the parameters of a function. An array of bytes is the struct that C gets."""
-    structs = {length: record[0] for length, record in RECORDS.items()} | dict([LONG_TCP_INFO])
+    structs = {length: record[0] for length, record in (RECORDS | FIELD_STRUCTS).items()}
     for name, kind in re.findall(r"(\w+): ([^,]+?)(?:,|\s*$)", text):
         array = re.fullmatch(r"&mut \[u8; (\w+)\]", kind)
         yield Field(name, f"&mut {structs[array[1]]}" if array else kind)
@@ -225,12 +240,12 @@ def socket_options():
         yield Variant(name, bits[name], [], doc_of(comment))
 
 
-def tcp_fields():
-    """Yields the fields of struct tcp_info, with their offsets. The only field of each is its
-    type."""
-    text = text_of(CRATES / "sock_diag_extras/src/tcp_info.rt")
+def struct_fields(enum):
+    """Yields the fields of a struct of the kernel, the variants of an enum, with their offsets. The
+    only field of each is its type."""
+    text = text_of(CRATES / "sock_diag_extras/src" / FIELD_FILES[enum])
     spans = {it[0]: it[1:] for it in SPAN.findall(code_of(text))}
-    for comment, name, _ in PLAIN_VARIANT.findall(enum_in(text, "TcpField")):
+    for comment, name, _ in PLAIN_VARIANT.findall(enum_in(text, enum)):
         offset, width = spans[name]
         yield Variant(name, offset, [Field(snake(name), TYPES[int(width)])], doc_of(comment))
 
@@ -261,7 +276,8 @@ class Library:
         self.sizes = dict(SIZE.findall(self.code))
         for length, (name, path, documented) in RECORDS.items():
             self.structs[name] = self.record(length, name, path, documented)
-        self.structs[LONG_TCP_INFO[1]] = self.long_tcp_info(*LONG_TCP_INFO)
+        for length, (name, *rest) in FIELD_STRUCTS.items():
+            self.structs[name] = self.field_struct(length, name, *rest)
         self.functions = {it[2]: self.function(*it) for it in FUNCTION.findall(text)}
         for name, struct in self.structs.items():
             size = self.layout(struct.fields)["the end"]
@@ -278,19 +294,18 @@ class Library:
         fields = [it._replace(kind=kind) for it, kind in zip(struct.fields, kinds)]
         return struct._replace(fields=fields)
 
-    def long_tcp_info(self, length, name):
-        """Returns the struct with all fields of struct tcp_info: those of `TcpInfo`, whose offsets
-        are those of `TcpField`, and after them the other ones of `TcpField`."""
+    def field_struct(self, length, name, doc, enum, first):
+        """Returns the struct with all fields of an enum: those of the struct `first`, if it is not
+        None, and after them the other ones. Each has the offset that the enum has."""
         self.sizes[name] = self.constants[length].value
-        fields = [*self.structs["TcpInfo"].fields]
-        found = [*tcp_fields()]
+        fields = [*self.structs[first].fields] if first else []
+        found = [*struct_fields(enum)]
         fields += [it.fields[0]._replace(doc=it.doc) for it in found[len(fields):]]
         offsets = self.layout(fields)
         for field, it in zip(fields, found, strict=True):
             own = (field.name, field.kind, str(offsets[field.name]))
             if own != (*it.fields[0][:2], it.number):
-                sys.exit(f"{field.name} of TcpInfo is not {it.name} of TcpField")
-        doc = "The state of a TCP connection: `struct tcp_info` of `linux/tcp.h` in Linux 6.18."
+                sys.exit(f"{field.name} of {name} is not {it.name} of {enum}")
         return Struct(name, "", fields, False, [doc])
 
     def record(self, length, name, path, documented):

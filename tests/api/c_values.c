@@ -151,6 +151,61 @@ static void reads_long_tcp_info(void) {
     }
 }
 
+/* Each field of struct sockdiag_mptcp_info, at its offset in struct mptcp_info. */
+static void check_mptcp_info(const struct sockdiag_mptcp_info *it, const uint8_t *bytes) {
+    FIELD(it->subflows, bytes);
+    FIELD(it->add_addr_signal, bytes + 1);
+    FIELD(it->add_addr_accepted, bytes + 2);
+    FIELD(it->subflows_max, bytes + 3);
+    FIELD(it->add_addr_signal_max, bytes + 4);
+    FIELD(it->add_addr_accepted_max, bytes + 5);
+    FIELD(it->flags, bytes + 8);
+    FIELD(it->token, bytes + 12);
+    FIELD(it->write_seq, bytes + 16);
+    FIELD(it->snd_una, bytes + 24);
+    FIELD(it->rcv_nxt, bytes + 32);
+    FIELD(it->local_addr_used, bytes + 40);
+    FIELD(it->local_addr_max, bytes + 41);
+    FIELD(it->csum_enabled, bytes + 42);
+    FIELD(it->retransmits, bytes + 44);
+    FIELD(it->bytes_retrans, bytes + 48);
+    FIELD(it->bytes_sent, bytes + 56);
+    FIELD(it->bytes_received, bytes + 64);
+    FIELD(it->bytes_acked, bytes + 72);
+    FIELD(it->subflows_total, bytes + 80);
+    FIELD(it->endp_laminar_max, bytes + 81);
+    FIELD(it->last_data_sent, bytes + 84);
+    FIELD(it->last_data_recv, bytes + 88);
+    FIELD(it->last_ack_recv, bytes + 92);
+}
+
+static void reads_mptcp_info(void) {
+    uint8_t bytes[200], value[100];
+    const size_t lengths[9] = {0, 1, 40, 47, 48, 80, 95, 96, 100};
+    size_t row;
+    memcpy(bytes, inet_header, 72);
+    number_bytes(value, sizeof value);
+    for (row = 0; row < 9; row++) {
+        struct sockdiag_mptcp_info it;
+        uint8_t padded[96];
+        const size_t length = lengths[row], end = put(bytes, 72, 2, value, length);
+        memset(padded, 0, sizeof padded);
+        memcpy(padded, value, length < 96 ? length : 96);
+        memset(&it, UNTOUCHED, sizeof it);
+        check(sockdiag_inet_get_mptcp_info(bytes, end, &it) == length, "a length of mptcp_info");
+        check(memcmp(&it, padded, 96) == 0, "the bytes of mptcp_info");
+        check_mptcp_info(&it, padded);
+    }
+    {
+        static const uint8_t zeros[96] = {0};
+        struct sockdiag_mptcp_info it;
+        memset(&it, UNTOUCHED, sizeof it);
+        check(sockdiag_inet_get_mptcp_info(inet_header, 72, &it) == 0 &&
+              memcmp(&it, zeros, 96) == 0, "no mptcp_info");
+        check(sockdiag_inet_get_mptcp_info(NULL, 0, &it) == 0, "no mptcp_info at a null pointer");
+    }
+}
+
 /* Calls a getter with each length up to 24 of a value. It accepts lengths from `least` to `most`,
  * and leaves the target unchanged otherwise. */
 #define GETTER(it, type, call, least, most)                                                      \
@@ -393,6 +448,7 @@ static void has_numbers(void) {
 int main(void) {
     has_the_first_errors();
     reads_long_tcp_info();
+    reads_mptcp_info();
     reads_single_values();
     reads_pending_connections();
     reads_md5_signatures();

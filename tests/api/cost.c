@@ -199,6 +199,7 @@ static void write_requests(const uint8_t *bytes, size_t length) {
     STRUCT(sockdiag_inet_get_tcp_info, struct sockdiag_tcp_info, inet_empty, inet_rejected)     \
     STRUCT(sockdiag_inet_get_long_tcp_info, struct sockdiag_long_tcp_info, inet_empty,          \
            inet_rejected)                                                                       \
+    STRUCT(sockdiag_inet_get_mptcp_info, struct sockdiag_mptcp_info, inet_empty, inet_rejected) \
     STRUCT(sockdiag_inet_get_memory, struct sockdiag_inet_memory, inet_empty, inet_marks)       \
     STRUCT(sockdiag_get_error_number, int32_t, value)                                           \
     STRUCT(sockdiag_get_uid, uint32_t, value)                                                   \

@@ -229,6 +229,17 @@ static void try_tcp_info(const uint8_t *payload, size_t length) {
            "fields after the end of tcp_info");
 }
 
+/* The value of MPTCP is the same attribute. */
+static void try_mptcp_info(const uint8_t *payload, size_t length) {
+    struct sockdiag_tcp_info *tcp =
+        (struct sockdiag_tcp_info *)(void *)bytes_in(output_area, sizeof *tcp);
+    struct sockdiag_mptcp_info *it =
+        (struct sockdiag_mptcp_info *)(void *)bytes_in(buffer_area, sizeof *it);
+    const size_t found = sockdiag_inet_get_mptcp_info(payload, length, it);
+    expect(found == sockdiag_inet_get_tcp_info(payload, length, tcp) &&
+           memcmp(it, tcp, sizeof *it) == 0, "the first bytes of the connection");
+}
+
 static uint32_t try_unix(const uint8_t *payload, size_t length) {
     uint32_t *inode;
     size_t index;
@@ -256,6 +267,7 @@ static uint32_t try_inet(const uint8_t *payload, size_t length) {
     memory = (struct sockdiag_inet_memory *)(void *)bytes_in(output_area, sizeof *memory);
     expect(sockdiag_inet_get_memory(payload, length, memory) <= length, "the length of memory");
     try_tcp_info(payload, length);
+    try_mptcp_info(payload, length);
     try_explaining(sockdiag_inet_explain, payload, length, it_fault);
     return it_fault;
 }

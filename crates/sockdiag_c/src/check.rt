@@ -62,7 +62,8 @@ pub extern "C" fn sockdiag_check_unix_reply(payload: &[u8], header: &mut UnixHea
 /// have such values, and MPTCP sockets of all kernels. `sockdiag_inet_get_lenient_details` returns
 /// the header of such a reply, and the first valid attribute of each kind that has a field in the
 /// details. These calls accept a value of any length:
-/// - the connection: `sockdiag_inet_get_long_tcp_info` and `sockdiag_inet_get_tcp_info`;
+/// - the connection: `sockdiag_inet_get_long_tcp_info` and `sockdiag_inet_get_tcp_info`, and for
+///   MPTCP `sockdiag_inet_get_mptcp_info`;
 /// - the memory: `sockdiag_inet_get_memory`;
 /// - other attributes: `sockdiag_next_attribute`, which does not check their values.
 #[unsafe(no_mangle)]

@@ -139,8 +139,8 @@ pub extern "C" fn sockdiag_unix_get_lenient_details<'a>(
 ///
 /// Use this call to list sockets: a value that this library does not accept, such as the
 /// `INET_DIAG_INFO` of an old kernel or of MPTCP, hides only itself, and not its socket.
-/// `sockdiag_inet_get_long_tcp_info` returns the value of an old kernel as far as it goes. That of
-/// MPTCP is another struct.
+/// `sockdiag_inet_get_long_tcp_info` returns the value of an old kernel as far as it goes, and
+/// `sockdiag_inet_get_mptcp_info` that of MPTCP, which is another struct.
 #[unsafe(no_mangle)]
 pub extern "C" fn sockdiag_inet_get_lenient_details<'a>(
     payload: &'a [u8],

@@ -66,8 +66,8 @@ pub struct InetRequest {
     /// `AF_INET` or `AF_INET6` (`sdiag_family`).
     pub family: u8,
     /// Attributes that the replies shall have, with the bit `1 << (kind - 1)` for each kind
-    /// (`idiag_ext`). Leave out `INET_DIAG_INFO` for MPTCP, and for kernels without
-    /// `tcpi_snd_wnd`: `sockdiag_inet_get_details` rejects their replies.
+    /// (`idiag_ext`). For MPTCP, and for kernels without `tcpi_snd_wnd`, leave out
+    /// `INET_DIAG_INFO`, or use a lenient call: `sockdiag_inet_get_details` rejects their replies.
     pub extensions: u8,
     /// Protocol, one of `IPPROTO_..`. Request one protocol at a time, since replies do not contain
     /// it. The low byte is written to the record (`sdiag_protocol`, byte 17 of the message). A

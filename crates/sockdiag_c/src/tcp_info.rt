@@ -1,5 +1,5 @@
-//! The values of `INET_DIAG_INFO` and `INET_DIAG_SKMEMINFO`: the state of a TCP connection, and the
-//! memory of an internet socket.
+//! The values of `INET_DIAG_INFO` and `INET_DIAG_SKMEMINFO`: the state of a connection of TCP or
+//! MPTCP, and the memory of an internet socket.
 
 ghost use Rattle.std.specs.Prelude.{◌≡◌, List, drop, length};
 ghost use Rattle.netlink_core.specs.Attribute.{Attribute};
@@ -14,6 +14,9 @@ use netlink_packet_sock_diag::inet::nlas::{MEM_INFO_LEN, TCP_INFO_LEN};
 /// Length of `struct tcp_info` of Linux 6.18 in bytes.
 pub(crate) const LONG_TCP_INFO_LEN: usize = 280;
 
+/// Length of `struct mptcp_info` of Linux 6.18 in bytes.
+pub(crate) const MPTCP_INFO_LEN: usize = 96;
+
 /// Copies the value of the first `INET_DIAG_INFO` after the header of a reply about an IPv4 or IPv6
 /// socket, which has 72 bytes: at most the 232 bytes of `info`. The remaining bytes of `info` are
 /// set to 0. Returns the length of the value in bytes, or 0 if there is none.
@@ -21,8 +24,9 @@ pub(crate) const LONG_TCP_INFO_LEN: usize = 280;
 /// Kernels without `tcpi_snd_wnd` send fewer than 232 bytes: a field that ends after the returned
 /// length is 0, and not known. Newer kernels send more; the bytes after 232 are not copied. A time
 /// that the kernel has not measured is 0 too, such as `rtt` of a socket that listens. The value is
-/// `struct tcp_info` only if the protocol is TCP: MPTCP has `struct mptcp_info`, and SCTP has
-/// `struct sctp_info`, whose bytes have no meaning in `info`.
+/// `struct tcp_info` only if the protocol is TCP: MPTCP has `struct mptcp_info`, which
+/// `sockdiag_inet_get_mptcp_info` returns, and SCTP has `struct sctp_info`. Their bytes have no
+/// meaning in `info`.
 ///
 /// The values of attributes are not checked. So this call also works for a reply that is rejected
 /// because a value is too short. Attributes after a framing error are not found.
@@ -59,6 +63,31 @@ pub extern "C" fn sockdiag_inet_get_long_tcp_info(
     ensures bytes { (attributes : List Attribute)
         → AreAttributesIn (drop 72 payload.now) attributes
         → info.new ≡ padded_or_truncated 280 (first_of_type INET_DIAG_INFO attributes) }
+{
+    copy_first_value(payload, INET_DIAG_INFO, info)
+}
+
+/// Copies the value of the first `INET_DIAG_INFO` in a reply to a request for MPTCP, after the
+/// header of 72 bytes: at most the 96 bytes of `info`. The remaining bytes of `info` are set to 0.
+/// Returns the length of the value in bytes, or 0 if there is none. Each kernel sends the struct in
+/// its own length: a field that ends after the returned length is 0, and not known. All fields of a
+/// socket that listens are 0 too. In a reply to a request for another protocol the value is another
+/// struct, and its bytes have no meaning in `info`.
+///
+/// The values of attributes are not checked. So this call also works for a value that is rejected
+/// with `SOCKDIAG_BUFFER_TOO_SMALL`, as a lenient call reports it for each value of MPTCP.
+#[unsafe(no_mangle)]
+pub extern "C" fn sockdiag_inet_get_mptcp_info(
+    payload: &[u8],
+    info: &mut [u8; MPTCP_INFO_LEN],
+) -> usize
+    // attributes: those after the header, up to the end or to a framing error.
+    ensures length { (attributes : List Attribute)
+        → AreAttributesIn (drop 72 payload.now) attributes
+        → result ≡ length (first_of_type INET_DIAG_INFO attributes) }
+    ensures bytes { (attributes : List Attribute)
+        → AreAttributesIn (drop 72 payload.now) attributes
+        → info.new ≡ padded_or_truncated 96 (first_of_type INET_DIAG_INFO attributes) }
 {
     copy_first_value(payload, INET_DIAG_INFO, info)
 }

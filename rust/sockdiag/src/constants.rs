@@ -630,6 +630,14 @@ pub const TCPI_OPT_ECN_SEEN: u8 = 16;
 /// Data in the SYN was acknowledged (TCP Fast Open).
 pub const TCPI_OPT_SYN_DATA: u8 = 32;
 
+// ---- Flags of an MPTCP connection.
+
+/// The connection fell back to TCP.
+pub const MPTCP_INFO_FLAG_FALLBACK: u32 = 1;
+
+/// The key of the peer was received.
+pub const MPTCP_INFO_FLAG_REMOTE_KEY_RECEIVED: u32 = 2;
+
 // ---- Directions of shutdown(2).
 
 /// Disables receiving.

@@ -13,8 +13,8 @@ use core::time::Duration;
 pub use crate::sys::{
     BbrInfo, DctcpInfo, Md5Signature, SocketOptions, StoredAddress, TcpInfo, VegasInfo,
 };
-pub use fields::{SocketOption, TcpField};
-pub use values::{parse_cgroup_id, AttributeRecords, TcpInfoBytes};
+pub use fields::{MptcpField, SocketOption, TcpField};
+pub use values::{parse_cgroup_id, AttributeRecords, MptcpInfoBytes, TcpInfoBytes};
 
 mod fields;
 pub mod nlas;
@@ -60,7 +60,8 @@ crate::flags! {
         /// `INET_DIAG_INFO`. A reply is rejected with `BufferTooSmall` if this attribute has fewer
         /// than 232 bytes, as kernels without `tcpi_snd_wnd` send it, and any version for MPTCP.
         /// [`LenientInetReply`] has its other attributes, and
-        /// [`tcp_info_bytes`](InetReply::tcp_info_bytes) the value.
+        /// [`tcp_info_bytes`](InetReply::tcp_info_bytes) or
+        /// [`mptcp_info_bytes`](InetReply::mptcp_info_bytes) the value.
         INFO = 1 << (INET_DIAG_INFO - 1);
         /// `INET_DIAG_VEGASINFO`.
         VEGASINFO = 1 << (INET_DIAG_VEGASINFO - 1);
@@ -397,8 +398,8 @@ impl From<sys::InetHeader> for InetResponseHeader {
 /// This also works for a payload that is rejected because the value is too short, as older kernels
 /// and MPTCP send it. Fields after the end of the value are then 0. Newer kernels send more bytes
 /// than the 232 of [`TcpInfo`], which are ignored. The value is taken for `struct tcp_info`
-/// whatever the protocol is: for MPTCP and SCTP it is another struct, and the fields are
-/// meaningless. Returns `None` if the payload contains no such value, or an empty one.
+/// whatever the protocol is: for MPTCP ([`MptcpInfoBytes`]) and SCTP it is another struct, and the
+/// fields are meaningless. Returns `None` if the payload contains no such value, or an empty one.
 ///
 /// ```
 /// let mut payload = [0; 84];
@@ -497,6 +498,14 @@ impl<'a> InetReply<'a> {
     /// `struct tcp_info` that it contains.
     pub fn tcp_info_bytes(&self) -> Option<TcpInfoBytes<'a>> {
         self.first(INET_DIAG_INFO, |value| Some(TcpInfoBytes::new(value)))
+    }
+
+    /// Returns the value of the first `INET_DIAG_INFO`, of any length, with all fields of
+    /// `struct mptcp_info` that it contains. The value is taken for this struct whatever the
+    /// protocol is: only the request contains it. [`InetReply::parse`] rejects replies about MPTCP
+    /// sockets with this value; a [`LenientInetReply`] returns it.
+    pub fn mptcp_info_bytes(&self) -> Option<MptcpInfoBytes<'a>> {
+        self.first(INET_DIAG_INFO, |value| Some(MptcpInfoBytes::new(value)))
     }
 
     /// Returns the id of the control group (cgroup v2) of the socket (`INET_DIAG_CGROUP_ID`).

@@ -92,7 +92,7 @@
 //! | which payload of a family is accepted; [`DecodeError`] with its numbers | the choice of the function by the message type and the family; texts |
 //! | the numbers and the bytes of addresses in each header | [`inet::Timer`], IP addresses |
 //! | the getters of a reply, except those of the next two rows | the values of `nlas`, which are decoded a second time, also names (`UnixDiagName`) and [`nlas::MemInfo`](inet::nlas::MemInfo) |
-//! | the bytes of `UNIX_DIAG_ICONS` and of `INET_DIAG_INFO` | `pending_connections`; [`inet::TcpInfoBytes`]; `tcp_info` of a lenient reply whose first `INET_DIAG_INFO` is short |
+//! | the bytes of `UNIX_DIAG_ICONS` and of `INET_DIAG_INFO` | `pending_connections`; [`inet::TcpInfoBytes`]; [`inet::MptcpInfoBytes`]; `tcp_info` of a lenient reply whose first `INET_DIAG_INFO` is short |
 //! | the two numbers of `UNIX_DIAG_RQLEN` | which queue getters of a UNIX socket return `None` |
 //! | the fields of [`netlink`], [`packet`], [`vsock`] and [`xdp`] replies | `None` for what a reply does not contain |
 //! | the values of single attributes, such as `parse_uid` and [`inet::BbrInfo`] | which attribute of a reply a getter of these takes |
@@ -128,9 +128,10 @@
 //! strict replies, and [`rejected`](LenientReply::rejected), which yields the rejected attributes,
 //! each with its error.
 //! [`inet::TcpInfoBytes`] has the 68 fields of `struct tcp_info` of Linux 6.18, as far as a kernel
-//! sends them. Getters of replies have the values that `nlas` yields as `Other`: the cgroup, the
-//! options of the socket, the measurements of Vegas, DCTCP and BBR, MD5 signature keys, SCTP
-//! addresses, and the user id of a UNIX socket.
+//! sends them, and [`inet::MptcpInfoBytes`] the 24 of `struct mptcp_info`. Getters of replies have
+//! the values that `nlas` yields as `Other`: the cgroup, the options of the socket, the
+//! measurements of Vegas, DCTCP and BBR, MD5 signature keys, SCTP addresses, and the user id of a
+//! UNIX socket.
 //!
 //! # Sockets of four more families
 //!

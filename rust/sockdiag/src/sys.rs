@@ -846,6 +846,35 @@ pub(crate) struct LongTcpInfo {
     pub(crate) accecn_opt_seen: u16,
 }
 
+#[repr(C)]
+#[derive(Clone, Copy, Debug, Default, PartialEq, Eq)]
+pub(crate) struct MptcpInfo {
+    pub(crate) subflows: u8,
+    pub(crate) add_addr_signal: u8,
+    pub(crate) add_addr_accepted: u8,
+    pub(crate) subflows_max: u8,
+    pub(crate) add_addr_signal_max: u8,
+    pub(crate) add_addr_accepted_max: u8,
+    pub(crate) flags: u32,
+    pub(crate) token: u32,
+    pub(crate) write_seq: u64,
+    pub(crate) snd_una: u64,
+    pub(crate) rcv_nxt: u64,
+    pub(crate) local_addr_used: u8,
+    pub(crate) local_addr_max: u8,
+    pub(crate) csum_enabled: u8,
+    pub(crate) retransmits: u32,
+    pub(crate) bytes_retrans: u64,
+    pub(crate) bytes_sent: u64,
+    pub(crate) bytes_received: u64,
+    pub(crate) bytes_acked: u64,
+    pub(crate) subflows_total: u8,
+    pub(crate) endp_laminar_max: u8,
+    pub(crate) last_data_sent: u32,
+    pub(crate) last_data_recv: u32,
+    pub(crate) last_ack_recv: u32,
+}
+
 // The sizes that `crates/sockdiag_c/src/layout.rt` proves.
 const _: () = assert!(size_of::<Number>() == 8);
 const _: () = assert!(size_of::<Text>() == 24);
@@ -887,6 +916,7 @@ const _: () = assert!(size_of::<StoredAddress>() == 128);
 const _: () = assert!(size_of::<TcpInfo>() == 232);
 const _: () = assert!(size_of::<InetMemory>() == 36);
 const _: () = assert!(size_of::<LongTcpInfo>() == 280);
+const _: () = assert!(size_of::<MptcpInfo>() == 96);
 
 // A text without bytes. Other texts are only made by the library.
 impl Default for Text<'_> {
@@ -1120,6 +1150,11 @@ extern "C" {
         payload: *const u8,
         length: usize,
         info: *mut LongTcpInfo,
+    ) -> usize;
+    fn sockdiag_inet_get_mptcp_info(
+        payload: *const u8,
+        length: usize,
+        info: *mut MptcpInfo,
     ) -> usize;
     fn sockdiag_inet_get_memory(
         payload: *const u8,
@@ -1445,6 +1480,10 @@ pub(crate) fn inet_get_tcp_info(payload: &[u8], info: &mut TcpInfo) -> usize {
 
 pub(crate) fn inet_get_long_tcp_info(payload: &[u8], info: &mut LongTcpInfo) -> usize {
     unsafe { sockdiag_inet_get_long_tcp_info(payload.as_ptr(), payload.len(), info) }
+}
+
+pub(crate) fn inet_get_mptcp_info(payload: &[u8], info: &mut MptcpInfo) -> usize {
+    unsafe { sockdiag_inet_get_mptcp_info(payload.as_ptr(), payload.len(), info) }
 }
 
 pub(crate) fn inet_get_memory(payload: &[u8], memory: &mut InetMemory) -> usize {

@@ -8,7 +8,7 @@ use common::{bytes_of, inet_reply, message, unix_reply, HEADER, NETLINK, PACKET,
 use sockdiag::constants::SOCK_DIAG_BY_FAMILY;
 use sockdiag::inet::{self, AttributeRecords, BbrInfo, DctcpInfo, InetReply, LenientInetReply};
 use sockdiag::inet::{ExtensionFlags, InetRequest, SocketId, SocketOptions, StateFlags};
-use sockdiag::inet::{TcpField, TcpInfoBytes, VegasInfo};
+use sockdiag::inet::{MptcpField, MptcpInfoBytes, TcpField, TcpInfoBytes, VegasInfo};
 use sockdiag::netlink::NetlinkReply;
 use sockdiag::packet::PacketReply;
 use sockdiag::unix::{self, LenientUnixReply, UnixDiagName, UnixReply};
@@ -108,6 +108,9 @@ fn parse_values(bytes: &[u8]) {
     let found = TcpField::ALL.iter().filter(|it| info.get(**it).is_some());
     assert_eq!(found.count() == 68, bytes.len() >= 280);
     let _ = (info.whole(), SocketOptions::parse(bytes));
+    let info = MptcpInfoBytes::new(bytes);
+    let found = MptcpField::ALL.iter().filter(|it| info.get(**it).is_some());
+    assert_eq!(found.count() == 24, bytes.len() >= 96);
     let _ = (
         VegasInfo::parse(bytes),
         DctcpInfo::parse(bytes),

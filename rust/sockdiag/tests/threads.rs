@@ -30,7 +30,7 @@ can_be_shortened! {
     xdp::XdpReply, LenientUnixReply, LenientInetReply, LenientMessage, SockDiagMessage,
     AnySockDiagMessage, RejectedMessage, Dump, AnyDump, LenientDump, Attribute, Attributes,
     RejectedAttribute, RejectedAttributes, Numbers, Addresses, unix::nlas::Nla, inet::nlas::Nla,
-    unix::UnixDiagName, inet::TcpInfoBytes,
+    unix::UnixDiagName, inet::TcpInfoBytes, inet::MptcpInfoBytes,
 }
 
 #[test]
@@ -51,9 +51,9 @@ fn all_types_are_send_and_sync() {
         inet::RequestBytes, inet::Timer, inet::InetResponseHeader, InetReply, LenientInetReply,
         inet::nlas::Nla, inet::nlas::LegacyMemInfo, inet::nlas::MemInfo, Nlas<inet::nlas::Nla>,
         NlaWalk<inet::nlas::Nla>, inet::TcpField, inet::TcpInfo, inet::TcpInfoBytes,
-        inet::SocketOption, inet::SocketOptions, inet::VegasInfo, inet::DctcpInfo, inet::BbrInfo,
-        inet::Md5Signature, inet::StoredAddress, AttributeRecords<inet::Md5Signature>,
-        AttributeRecords<inet::StoredAddress>,
+        inet::MptcpField, inet::MptcpInfoBytes, inet::SocketOption, inet::SocketOptions,
+        inet::VegasInfo, inet::DctcpInfo, inet::BbrInfo, inet::Md5Signature, inet::StoredAddress,
+        AttributeRecords<inet::Md5Signature>, AttributeRecords<inet::StoredAddress>,
     }
     are_shared! {
         netlink::NetlinkRequest, netlink::NetlinkReply, netlink::NetlinkResponseHeader,

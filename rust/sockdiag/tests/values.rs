@@ -5,6 +5,7 @@ mod common;
 
 use common::{attribute, counted, inet_reply, u32_at, unix_reply};
 use sockdiag::inet::{parse_cgroup_id, AttributeRecords, BbrInfo, DctcpInfo, InetReply};
+use sockdiag::inet::{LenientInetReply, MptcpField, MptcpInfoBytes};
 use sockdiag::inet::{SocketOption, SocketOptions, TcpField, TcpInfoBytes, VegasInfo};
 use sockdiag::unix::{parse_uid, UnixReply};
 use std::collections::BTreeSet;
@@ -104,6 +105,72 @@ fn has_the_struct_and_the_rest_of_tcp_info() {
         assert_eq!(info.rest(), &bytes[length.min(280)..length]);
         assert_eq!((info.len(), info.is_empty()), (length, length == 0));
     }
+}
+
+/// Each field of `struct mptcp_info` of `linux/mptcp.h`, with its offset and its width.
+const MPTCP_FIELDS: [(MptcpField, usize, usize); 24] = [
+    (MptcpField::Subflows, 0, 1),
+    (MptcpField::AddAddrSignal, 1, 1),
+    (MptcpField::AddAddrAccepted, 2, 1),
+    (MptcpField::SubflowsMax, 3, 1),
+    (MptcpField::AddAddrSignalMax, 4, 1),
+    (MptcpField::AddAddrAcceptedMax, 5, 1),
+    (MptcpField::Flags, 8, 4),
+    (MptcpField::Token, 12, 4),
+    (MptcpField::WriteSeq, 16, 8),
+    (MptcpField::SndUna, 24, 8),
+    (MptcpField::RcvNxt, 32, 8),
+    (MptcpField::LocalAddrUsed, 40, 1),
+    (MptcpField::LocalAddrMax, 41, 1),
+    (MptcpField::CsumEnabled, 42, 1),
+    (MptcpField::Retransmits, 44, 4),
+    (MptcpField::BytesRetrans, 48, 8),
+    (MptcpField::BytesSent, 56, 8),
+    (MptcpField::BytesReceived, 64, 8),
+    (MptcpField::BytesAcked, 72, 8),
+    (MptcpField::SubflowsTotal, 80, 1),
+    (MptcpField::EndpLaminarMax, 81, 1),
+    (MptcpField::LastDataSent, 84, 4),
+    (MptcpField::LastDataRecv, 88, 4),
+    (MptcpField::LastAckRecv, 92, 4),
+];
+
+#[test]
+fn has_each_field_of_mptcp_info() {
+    let bytes = counted(1, 100);
+    assert!(MPTCP_FIELDS
+        .iter()
+        .map(|it| it.0)
+        .eq(MptcpField::ALL.iter().copied()));
+    for (field, offset, width) in MPTCP_FIELDS {
+        assert_eq!(field.span(), (offset, width), "{field:?}");
+        let mut number = [0; 8];
+        number[..width].copy_from_slice(&bytes[offset..offset + width]);
+        let number = u64::from_le_bytes(number);
+        for length in 0..=100 {
+            let info = MptcpInfoBytes::new(&bytes[..length]);
+            let expected = (length >= offset + width).then_some(number);
+            assert_eq!(info.get(field), expected, "{field:?} in {length} bytes");
+        }
+    }
+}
+
+#[test]
+fn has_the_mptcp_connection_of_any_length() {
+    let bytes = counted(1, 100);
+    for length in [0, 1, 40, 48, 80, 96, 100] {
+        let mut payload = inet_reply()[..72].to_vec();
+        attribute(&mut payload, 2, &bytes[..length]);
+        assert!(InetReply::parse(&payload).is_err());
+        let reply = LenientInetReply::parse(&payload).unwrap();
+        let info = reply.mptcp_info_bytes().unwrap();
+        assert_eq!(info, MptcpInfoBytes::new(&bytes[..length]));
+        assert_eq!(info.rest(), &bytes[length.min(96)..length]);
+        assert_eq!((info.len(), info.is_empty()), (length, length == 0));
+    }
+    let header = inet_reply()[..72].to_vec();
+    let reply = LenientInetReply::parse(&header).unwrap();
+    assert_eq!(reply.mptcp_info_bytes(), None);
 }
 
 #[test]

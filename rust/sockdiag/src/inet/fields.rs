@@ -1,4 +1,4 @@
-//! The fields of `struct tcp_info`, and the options of a socket.
+//! The fields of `struct tcp_info` and `struct mptcp_info`, and the options of a socket.
 //
 // tools/bindings writes this file from the source of the proved crates.
 
@@ -308,6 +308,130 @@ impl TcpField {
 
 // The first field that `TcpInfo` does not have.
 const _: () = assert!(TcpField::RcvWnd.span().0 == size_of::<TcpInfo>());
+
+/// A field of `struct mptcp_info` of `linux/mptcp.h`, as Linux 6.18 defines it: 96 bytes,
+/// little-endian. The number after `at` is the offset in bytes.
+#[derive(Clone, Copy, Debug, PartialEq, Eq, Hash)]
+#[non_exhaustive]
+pub enum MptcpField {
+    /// Number of subflows in addition to the first one. `mptcpi_subflows` at 0.
+    Subflows,
+    /// Number of local addresses that were announced to the peer (ADD_ADDR).
+    /// `mptcpi_add_addr_signal` at 1.
+    AddAddrSignal,
+    /// Number of addresses that the peer announced and that were accepted.
+    /// `mptcpi_add_addr_accepted` at 2.
+    AddAddrAccepted,
+    /// Limit of `mptcpi_subflows`. `mptcpi_subflows_max` at 3.
+    SubflowsMax,
+    /// Number of endpoints whose addresses are announced, those with the flag `signal` of
+    /// ip-mptcp(8). `mptcpi_add_addr_signal_max` at 4.
+    AddAddrSignalMax,
+    /// Limit of `mptcpi_add_addr_accepted`. `mptcpi_add_addr_accepted_max` at 5.
+    AddAddrAcceptedMax,
+    /// Flags of the connection, bits `MPTCP_INFO_FLAG_..`. `mptcpi_flags` at 8.
+    Flags,
+    /// Token of the connection at the local end. `mptcpi_token` at 12.
+    Token,
+    /// Sequence number of the connection for the next byte that is written. `mptcpi_write_seq` at
+    /// 16.
+    WriteSeq,
+    /// First sequence number that the peer did not acknowledge. `mptcpi_snd_una` at 24.
+    SndUna,
+    /// Sequence number of the next byte that is expected from the peer. `mptcpi_rcv_nxt` at 32.
+    RcvNxt,
+    /// Number of local addresses that are in use for subflows. `mptcpi_local_addr_used` at 40.
+    LocalAddrUsed,
+    /// Number of endpoints from which subflows are opened, those with the flag `subflow` of
+    /// ip-mptcp(8). `mptcpi_local_addr_max` at 41.
+    LocalAddrMax,
+    /// 1 if data has checksums, else 0. `mptcpi_csum_enabled` at 42.
+    CsumEnabled,
+    /// Number of retransmissions of the end of the data (DATA_FIN). `mptcpi_retransmits` at 44. A
+    /// value of 48 bytes, from a kernel without this field, has padding there.
+    Retransmits,
+    /// Number of bytes that the connection retransmitted, on any subflow. What TCP retransmits on
+    /// its subflow is not counted. `mptcpi_bytes_retrans` at 48.
+    BytesRetrans,
+    /// Number of bytes sent, without retransmitted bytes. `mptcpi_bytes_sent` at 56.
+    BytesSent,
+    /// Number of bytes received. `mptcpi_bytes_received` at 64.
+    BytesReceived,
+    /// Number of sent bytes that the peer acknowledged. `mptcpi_bytes_acked` at 72.
+    BytesAcked,
+    /// Number of subflows, including the first one. `mptcpi_subflows_total` at 80.
+    SubflowsTotal,
+    /// Number of endpoints with the flag `laminar`. `mptcpi_endp_laminar_max` at 81. It is 0 from
+    /// kernels without this field.
+    EndpLaminarMax,
+    /// Time since data was sent, in milliseconds. `mptcpi_last_data_sent` at 84. A value of 88
+    /// bytes, from a kernel without this field, has padding there.
+    LastDataSent,
+    /// Time since data was received, in milliseconds. `mptcpi_last_data_recv` at 88.
+    LastDataRecv,
+    /// Time since an acknowledgement was received, in milliseconds. `mptcpi_last_ack_recv` at 92.
+    LastAckRecv,
+}
+
+impl MptcpField {
+    /// All fields, in the order of their offsets.
+    pub const ALL: &'static [MptcpField] = &[
+        MptcpField::Subflows,
+        MptcpField::AddAddrSignal,
+        MptcpField::AddAddrAccepted,
+        MptcpField::SubflowsMax,
+        MptcpField::AddAddrSignalMax,
+        MptcpField::AddAddrAcceptedMax,
+        MptcpField::Flags,
+        MptcpField::Token,
+        MptcpField::WriteSeq,
+        MptcpField::SndUna,
+        MptcpField::RcvNxt,
+        MptcpField::LocalAddrUsed,
+        MptcpField::LocalAddrMax,
+        MptcpField::CsumEnabled,
+        MptcpField::Retransmits,
+        MptcpField::BytesRetrans,
+        MptcpField::BytesSent,
+        MptcpField::BytesReceived,
+        MptcpField::BytesAcked,
+        MptcpField::SubflowsTotal,
+        MptcpField::EndpLaminarMax,
+        MptcpField::LastDataSent,
+        MptcpField::LastDataRecv,
+        MptcpField::LastAckRecv,
+    ];
+
+    /// Returns the offset of the field and its width, both in bytes.
+    pub const fn span(self) -> (usize, usize) {
+        match self {
+            MptcpField::Subflows => (0, 1),
+            MptcpField::AddAddrSignal => (1, 1),
+            MptcpField::AddAddrAccepted => (2, 1),
+            MptcpField::SubflowsMax => (3, 1),
+            MptcpField::AddAddrSignalMax => (4, 1),
+            MptcpField::AddAddrAcceptedMax => (5, 1),
+            MptcpField::Flags => (8, 4),
+            MptcpField::Token => (12, 4),
+            MptcpField::WriteSeq => (16, 8),
+            MptcpField::SndUna => (24, 8),
+            MptcpField::RcvNxt => (32, 8),
+            MptcpField::LocalAddrUsed => (40, 1),
+            MptcpField::LocalAddrMax => (41, 1),
+            MptcpField::CsumEnabled => (42, 1),
+            MptcpField::Retransmits => (44, 4),
+            MptcpField::BytesRetrans => (48, 8),
+            MptcpField::BytesSent => (56, 8),
+            MptcpField::BytesReceived => (64, 8),
+            MptcpField::BytesAcked => (72, 8),
+            MptcpField::SubflowsTotal => (80, 1),
+            MptcpField::EndpLaminarMax => (81, 1),
+            MptcpField::LastDataSent => (84, 4),
+            MptcpField::LastDataRecv => (88, 4),
+            MptcpField::LastAckRecv => (92, 4),
+        }
+    }
+}
 
 /// An option of an IPv4 or IPv6 socket: a bit of `struct inet_diag_sockopt` of `linux/inet_diag.h`.
 /// Bits of the first byte are counted from its least significant bit. ip(7) describes most options.

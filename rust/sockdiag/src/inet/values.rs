@@ -1,15 +1,18 @@
 //! Values of single attributes: those that `nlas` yields as `Other`, and `INET_DIAG_INFO` of any
-//! length.
+//! length, of TCP and of MPTCP.
 
 use super::{BbrInfo, DctcpInfo, Md5Signature, SocketOptions, StoredAddress, VegasInfo};
-use super::{TcpField, TcpInfo};
+use super::{MptcpField, TcpField, TcpInfo};
 use crate::calls;
 use crate::constants::{AF_INET, AF_INET6};
 use crate::sys::{self, Cursor};
 use core::net::{IpAddr, Ipv4Addr, Ipv6Addr};
 
 /// Length of `struct tcp_info` of Linux 6.18 in bytes.
-const ALL_FIELDS: usize = 280;
+const ALL_TCP_FIELDS: usize = 280;
+
+/// Length of `struct mptcp_info` of Linux 6.18 in bytes.
+const ALL_MPTCP_FIELDS: usize = 96;
 
 /// The borrowed value of `INET_DIAG_INFO` of a TCP connection, of any length. Each kernel version
 /// sends `struct tcp_info` in its own size; newer versions append fields. A time that the kernel
@@ -46,10 +49,7 @@ impl<'a> TcpInfoBytes<'a> {
 
     /// Returns the value of the field. Returns `None` if the bytes end before the end of the field.
     pub fn get(&self, field: TcpField) -> Option<u64> {
-        let (offset, width) = field.span();
-        let bytes = self.bytes.get(offset..)?.get(..width)?;
-        let number = |number, byte: &u8| number << 8 | u64::from(*byte);
-        Some(bytes.iter().rev().fold(0, number))
+        number_at(self.bytes, field.span())
     }
 
     /// Returns the struct with the first 232 bytes. Returns `None` if there are fewer bytes.
@@ -60,8 +60,61 @@ impl<'a> TcpInfoBytes<'a> {
     /// Returns the bytes from offset 280 on, after the fields that [`TcpField`] lists. There are
     /// none if the value has at most 280 bytes.
     pub fn rest(&self) -> &'a [u8] {
-        self.bytes.get(ALL_FIELDS..).unwrap_or_default()
+        self.bytes.get(ALL_TCP_FIELDS..).unwrap_or_default()
     }
+}
+
+/// The borrowed value of `INET_DIAG_INFO` of an MPTCP socket, of any length. Each kernel version
+/// sends `struct mptcp_info` in its own size; newer versions append fields. All fields of a socket
+/// that listens are 0.
+///
+/// ```
+/// use sockdiag::inet::{MptcpField, MptcpInfoBytes};
+///
+/// let info = MptcpInfoBytes::new(&[2, 0, 0, 8, 0, 0, 0, 0, 3, 0, 0, 0]);
+/// assert_eq!(info.get(MptcpField::Subflows), Some(2));
+/// assert_eq!(info.get(MptcpField::Flags), Some(3));
+/// assert_eq!(info.get(MptcpField::Token), None);
+/// ```
+#[derive(Clone, Copy, Debug, PartialEq, Eq)]
+pub struct MptcpInfoBytes<'a> {
+    bytes: &'a [u8],
+}
+
+impl<'a> MptcpInfoBytes<'a> {
+    /// Borrows the bytes of the value. Any number of bytes is accepted.
+    pub const fn new(value: &'a [u8]) -> Self {
+        MptcpInfoBytes { bytes: value }
+    }
+
+    /// Returns the length of the value in bytes.
+    pub const fn len(&self) -> usize {
+        self.bytes.len()
+    }
+
+    /// Returns whether the value has no bytes.
+    pub const fn is_empty(&self) -> bool {
+        self.bytes.is_empty()
+    }
+
+    /// Returns the value of the field. Returns `None` if the bytes end before the end of the field.
+    pub fn get(&self, field: MptcpField) -> Option<u64> {
+        number_at(self.bytes, field.span())
+    }
+
+    /// Returns the bytes from offset 96 on, after the fields that [`MptcpField`] lists. There are
+    /// none if the value has at most 96 bytes.
+    pub fn rest(&self) -> &'a [u8] {
+        self.bytes.get(ALL_MPTCP_FIELDS..).unwrap_or_default()
+    }
+}
+
+/// Returns the little-endian number at an offset, of a width of at most 8 bytes. Returns `None` if
+/// the bytes end before its end.
+fn number_at(bytes: &[u8], (offset, width): (usize, usize)) -> Option<u64> {
+    let bytes = bytes.get(offset..)?.get(..width)?;
+    let number = |number, byte: &u8| number << 8 | u64::from(*byte);
+    Some(bytes.iter().rev().fold(0, number))
 }
 
 /// Returns the id of the control group (cgroup v2) in the value of `INET_DIAG_CGROUP_ID`, or `None`
