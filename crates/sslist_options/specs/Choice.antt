@@ -3,21 +3,28 @@ use Rattle.std.specs.Prelude.{◌≡◌, ◌≢◌, ℕ, ◌-◌, ◌||◌, ◌=
 use Rattle.std.specs.Prelude.{List, [], ◌∷◌, Option, Some, None, bytes_eq, codes, drop, find, fold}
 use Rattle.std.specs.Prelude.{is_some, length, nat_eq, nat_lt, option_map, slice_index, take}
 use Rattle.std.specs.Prelude.{bit_or}
-use Rattle.std.specs.List.{ends_with, list_any, position_from, starts_with}
+use Rattle.std.specs.List.{ends_with, list_any, starts_with}
 use Rattle.std.specs.Option.{option_map_or}
+use Rattle.sslist_options.specs.declared.addresses.AddressCondition.{AddressCondition}
 use Rattle.sslist_options.specs.declared.arguments.Argument.{Argument}
 use Rattle.sslist_options.specs.declared.arguments.Argument.TheVariants as argument
+use Rattle.sslist_options.specs.declared.arguments.End.{End}
+use Rattle.sslist_options.specs.declared.arguments.End.TheVariants.{Local, Remote}
 use Rattle.sslist_options.specs.declared.arguments.Place.{Place}
 use Rattle.sslist_options.specs.declared.arguments.Place.TheVariants as place
 use Rattle.sslist_options.specs.declared.choice.Choice.{Choice}
 use Rattle.sslist_options.specs.declared.choice.Choice.TheVariants as choice
 use Rattle.sslist_options.specs.declared.choice.Rejection.{Rejection}
 use Rattle.sslist_options.specs.declared.choice.Rejection.TheVariants as rejections
+use Rattle.sslist_options.specs.declared.filter.PortCondition.{PortCondition}
+use Rattle.sslist_options.specs.declared.filter.SocketFilter.{SocketFilter}
 use Rattle.sslist_options.specs.declared.options.AnyFamily.{AnyFamily}
 use Rattle.sslist_options.specs.declared.options.AnyFamily.TheVariants.{Inet, Inet6, Unix, Other}
 use Rattle.sslist_options.specs.declared.options.Family.TheVariants.{Netlink, Packet, Vsock, Xdp}
 use Rattle.sslist_options.specs.declared.options.Options.{Options}
+use Rattle.sslist_options.specs.Addresses.{address_condition}
 use Rattle.sslist_options.specs.Filter.{port_condition, states_named}
+use Rattle.sslist_options.specs.Text.{index_of}
 
 -- ---- letters
 
@@ -155,16 +162,17 @@ state_argument name =
     option_map_or argument.States (states_named name) (argument.Rejected
     rejections.UnknownStateValue)
 
--- what a condition on the local port is parsed as
-abbrev pub source_argument : List ℕ → Argument
-source_argument text =
-    option_map_or argument.SourcePort (port_condition text) (argument.Rejected
+-- what a condition on the port of an end is parsed as
+abbrev pub port_argument : End → List ℕ → Argument
+port_argument end text =
+    option_map_or (argument.Port end) (port_condition text) (argument.Rejected
     rejections.InvalidPortValue)
 
--- what a condition on the remote port is parsed as
-abbrev pub destination_argument : List ℕ → Argument
-destination_argument text = option_map_or argument.DestinationPort (port_condition text)
-    (argument.Rejected rejections.InvalidPortValue)
+-- what a condition on the address of an end is parsed as
+abbrev pub address_argument : End → List ℕ → Argument
+address_argument end text =
+    option_map_or (argument.Address end) (address_condition text) (argument.Rejected
+    rejections.InvalidAddressValue)
 
 -- The reason why letters are rejected of which `letter` is the first one that is not an option at
 -- its place: f, h and V are options too, but f only as the last letter, and h and V only alone.
@@ -178,15 +186,12 @@ abbrev pub misses_value : List ℕ → Bool
 misses_value word =
     bytes_eq word (codes "--family") || bytes_eq word (codes "--state")
     || bytes_eq word (codes "--sport") || bytes_eq word (codes "--dport")
+    || bytes_eq word (codes "--src") || bytes_eq word (codes "--dst")
 
--- the index of the first equals sign (61); None if there is none
-abbrev pub first_equals : List ℕ → Option ℕ
-first_equals word = position_from (λ c. c == 61) 0 word
-
--- the word is the long name of a letter, with an equals sign and a value
+-- the word is the long name of a letter, with an equals sign (61) and a value
 abbrev pub has_letter_value : List ℕ → Bool
 has_letter_value word =
-    option_map_or (λ index. is_some (letter_named (take index word))) (first_equals word) false
+    option_map_or (λ index. is_some (letter_named (take index word))) (index_of 61 word) false
 
 -- the word is an option that takes no value, with an equals sign and a value
 abbrev pub has_unexpected_value : List ℕ → Bool
@@ -216,13 +221,21 @@ letters_argument word =
     else option_map_or (λ letter. argument.Rejected (letter_rejection letter))
     (first_other_letter (drop 1 word)) (argument.Letters (ends_in_f word))
 
--- what an option is parsed as that contains a condition on a port, consists of letters, or is the
--- long name of a letter
-abbrev pub port_argument : List ℕ → Argument
-port_argument word =
-    if starts_with nat_eq word (codes "--sport=") then source_argument (drop 8 word)
-    else if starts_with nat_eq word (codes "--dport=") then destination_argument (drop 8 word)
+-- what an option is parsed as that contains a condition on an address, consists of letters, or is
+-- the long name of a letter
+abbrev pub address_option : List ℕ → Argument
+address_option word =
+    if starts_with nat_eq word (codes "--src=") then address_argument Local (drop 6 word)
+    else if starts_with nat_eq word (codes "--dst=") then address_argument Remote (drop 6 word)
     else letters_argument word
+
+-- what an option is parsed as that contains a condition on a port or an address, consists of
+-- letters, or is the long name of a letter
+abbrev pub port_option : List ℕ → Argument
+port_option word =
+    if starts_with nat_eq word (codes "--sport=") then port_argument Local (drop 8 word)
+    else if starts_with nat_eq word (codes "--dport=") then port_argument Remote (drop 8 word)
+    else address_option word
 
 -- what an option is parsed as that contains its value, consists of letters, or is the long name of
 -- a letter
@@ -231,7 +244,7 @@ valued_argument word =
     if starts_with nat_eq word (codes "--family=")
     then family_argument rejections.UnknownFamilyValue (drop 9 word)
     else if starts_with nat_eq word (codes "--state=") then state_argument (drop 8 word)
-    else port_argument word
+    else port_option word
 
 -- what an option is parsed as
 abbrev pub option_argument : List ℕ → Argument
@@ -287,9 +300,19 @@ names_file a = false
 
 -- ---- the command line
 
+-- the conditions `f`, with this one on the port of an end instead of any other one
+abbrev pub with_end_port : End → PortCondition → SocketFilter → SocketFilter
+with_end_port Local condition f = record f { source_port = Some condition }
+with_end_port Remote condition f = record f { destination_port = Some condition }
+
+-- the conditions `f`, with this one on the address of an end instead of any other one
+abbrev pub with_end_address : End → AddressCondition → SocketFilter → SocketFilter
+with_end_address Local condition f = record f { source_address = Some condition }
+with_end_address Remote condition f = record f { destination_address = Some condition }
+
 -- `with_argument o a word`: the options `o`, and those of an argument with the bytes `word` that is
 -- parsed as `a`. Letters follow a hyphen. A long name means what its letter means. States add up.
--- Of several conditions on the same port the last one counts.
+-- Of several conditions on the same port or address the last one counts.
 abbrev pub with_argument : Options → Argument → List ℕ → Options
 with_argument o argument.Utf8 word = record o { utf8 = true }
 with_argument o argument.Requests word = record o { requests = true }
@@ -297,10 +320,10 @@ with_argument o argument.Json word = record o { json = true }
 with_argument o (argument.Sockets family) word = with_family family o
 with_argument o (argument.States states) word =
     record o { filter = record o.filter { states = bit_or o.filter.states states } }
-with_argument o (argument.SourcePort condition) word =
-    record o { filter = record o.filter { source_port = Some condition } }
-with_argument o (argument.DestinationPort condition) word =
-    record o { filter = record o.filter { destination_port = Some condition } }
+with_argument o (argument.Port end condition) word =
+    record o { filter = with_end_port end condition o.filter }
+with_argument o (argument.Address end condition) word =
+    record o { filter = with_end_address end condition o.filter }
 with_argument o (argument.Letters needs) word =
     if length word == 0 then o else with_letters (drop 1 word) o
 with_argument o (argument.Letter letter) word = with_letters (letter ∷ []) o
@@ -329,7 +352,13 @@ no_options = record {
   utf8 = false;
   requests = false;
   json = false;
-  filter = record { states = 0; source_port = None; destination_port = None };
+  filter = record {
+    states = 0;
+    source_port = None;
+    destination_port = None;
+    source_address = None;
+    destination_address = None;
+  };
 }
 
 -- the options of all these arguments, the first of which is at the place `p`, added to `o`

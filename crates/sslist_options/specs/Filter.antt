@@ -1,10 +1,13 @@
--- Conditions on the states and the ports of the sockets that are listed.
-use Rattle.std.specs.Prelude.{ℕ, ◌+◌, ◌-◌, ◌*◌, ◌^◌, ◌==◌, ◌&&◌, ◌||◌, not, nat_le, nat_lt, Bool}
-use Rattle.std.specs.Prelude.{true, if◌then◌else◌, List, [], ◌∷◌, bit_and, bytes_eq, codes, drop}
-use Rattle.std.specs.Prelude.{is_some, length, map, nat_eq, option_and_then, take, Option, None}
-use Rattle.std.specs.Prelude.{Some}
+-- Conditions on the sockets that are listed: on their states, ports and addresses.
+use Rattle.std.specs.Prelude.{ℕ, ◌+◌, ◌-◌, ◌^◌, ◌==◌, ◌&&◌, ◌||◌, not, nat_le, nat_lt, Bool, true}
+use Rattle.std.specs.Prelude.{if◌then◌else◌, List, bit_and, bytes_eq, codes, drop, is_some, length}
+use Rattle.std.specs.Prelude.{map, nat_eq, take, Option, None, Some}
 use Rattle.std.specs.Char.{to_ascii_lowercase}
 use Rattle.std.specs.List.{ends_with, starts_with}
+use Rattle.std.specs.Option.{option_map_or}
+use Rattle.std.specs.declared.net.ip_addr.IpAddr.{IpAddr}
+use Rattle.sslist_options.specs.Addresses.{meets_address}
+use Rattle.sslist_options.specs.Text.{index_of, decimal_u16}
 use Rattle.sslist_options.specs.declared.filter.PortCondition.{PortCondition}
 use Rattle.sslist_options.specs.declared.filter.SocketFilter.{SocketFilter}
 
@@ -68,38 +71,28 @@ states_named name = state_or_group (state_named name) name
 
 -- ---- ports
 
--- a number with one more decimal digit, whose byte is `c` (48 to 57); None if it is not a digit or
--- the number exceeds 65535
-abbrev pub with_digit : ℕ → ℕ → Option ℕ
-with_digit n c =
-    if not (nat_le 48 c && nat_le c 57) || nat_lt 65535 (n * 10 + (c - 48)) then None
-    else Some (n * 10 + (c - 48))
-
--- the number `n` with these further decimal digits
-abbrev pub with_digits : ℕ → List ℕ → Option ℕ
-with_digits n [] = Some n
-with_digits n (c ∷ digits) = option_and_then (λ longer. with_digits longer digits) (with_digit n c)
-
--- a port in decimal, with at least one digit
-abbrev pub port_numbered : List ℕ → Option ℕ
-port_numbered digits = if length digits == 0 then None else with_digits 0 digits
-
 -- the condition that a port is in the range from the lowest to the highest port; None if one of
--- both is missing
+-- both is missing, or if the highest port is less than the lowest one
 abbrev pub port_range : Option ℕ → Option ℕ → Option PortCondition
-port_range (Some lowest) (Some highest) = Some (record { lowest = lowest; highest = highest })
+port_range (Some lowest) (Some highest) =
+    if nat_le lowest highest then Some (record { lowest = lowest; highest = highest }) else None
 port_range None highest = None
 port_range (Some lowest) None = None
 
--- A condition on a port: `-N` is at most N, `N-` at least N, and `N` equal to N. The highest port
--- is 65535.
+-- a range of ports by both of its ends: `N-M` is from N to M, and `N` from N to N; a hyphen is 45
+abbrev pub closed_range : List ℕ → Option PortCondition
+closed_range text =
+    option_map_or (λ i. port_range (decimal_u16 (take i text)) (decimal_u16 (drop (i + 1) text)))
+    (index_of 45 text) (port_range (decimal_u16 text) (decimal_u16 text))
+
+-- A condition on a port: `-M` is at most M, `N-` at least N, `N-M` from N to M, and `N` equal to N.
+-- The highest port is 65535.
 abbrev pub port_condition : List ℕ → Option PortCondition
 port_condition text =
-    if starts_with nat_eq text (codes "-")
-    then port_range (Some 0) (port_numbered (drop 1 text))
+    if starts_with nat_eq text (codes "-") then port_range (Some 0) (decimal_u16 (drop 1 text))
     else if ends_with nat_eq text (codes "-")
-    then port_range (port_numbered (take (length text - 1) text)) (Some 65535)
-    else port_range (port_numbered text) (port_numbered text)
+    then port_range (decimal_u16 (take (length text - 1) text)) (Some 65535)
+    else closed_range text
 
 -- the port meets the condition; each port does if there is none
 abbrev pub meets_port : Option PortCondition → ℕ → Bool
@@ -111,6 +104,16 @@ abbrev pub meets_ports : SocketFilter → ℕ → ℕ → Bool
 meets_ports f source destination =
     meets_port f.source_port source && meets_port f.destination_port destination
 
--- there is a condition on a port
-abbrev pub has_port_condition : SocketFilter → Bool
-has_port_condition f = is_some f.source_port || is_some f.destination_port
+-- ---- addresses
+
+-- `meets_addresses f source destination`: the local and the remote address meet the conditions on
+-- them
+abbrev pub meets_addresses : SocketFilter → IpAddr → IpAddr → Bool
+meets_addresses f source destination =
+    meets_address f.source_address source && meets_address f.destination_address destination
+
+-- there is a condition on a port or an address
+abbrev pub has_endpoint_condition : SocketFilter → Bool
+has_endpoint_condition f =
+    is_some f.source_port || is_some f.destination_port
+    || is_some f.source_address || is_some f.destination_address

@@ -7,7 +7,7 @@ use Rattle.sslist_options.specs.declared.options.Detail.TheVariants.{Connection}
 use Rattle.sslist_options.specs.declared.options.Family.{Family}
 use Rattle.sslist_options.specs.declared.options.Family.TheVariants.{Netlink, Packet, Vsock, Xdp}
 use Rattle.sslist_options.specs.declared.options.Options.{Options}
-use Rattle.sslist_options.specs.Filter.{has_port_condition, has_state}
+use Rattle.sslist_options.specs.Filter.{has_endpoint_condition, has_state}
 
 -- the option of this group of details is set
 abbrev pub is_detail_selected : Options → Detail → Bool
@@ -41,10 +41,11 @@ lists_state o state =
     else not o.listening || state == 10 || state == 7
 
 -- A UNIX socket in this state is listed if `-x` is set or no option that selects sockets is, if
--- sockets in this state are listed, and if there is no condition on a port.
+-- sockets in this state are listed, and if there is no condition on a port or an address.
 abbrev pub lists_unix : Options → ℕ → Bool
 lists_unix o state =
-    (o.unix || not (selects_sockets o)) && lists_state o state && not (has_port_condition o.filter)
+    (o.unix || not (selects_sockets o)) && lists_state o state
+    && not (has_endpoint_condition o.filter)
 
 -- The option of this protocol is set: 6 is IPPROTO_TCP, 17 is IPPROTO_UDP, 262 is IPPROTO_MPTCP.
 -- None is a protocol that is not known, which can be any of the three.
@@ -74,8 +75,8 @@ selects_family o Xdp = o.xdp
 
 -- A socket of this family in this state is listed if the option of the family is set or no option
 -- that selects sockets is, if sockets in this state are listed, and if there is no condition on a
--- port.
+-- port or an address.
 abbrev pub lists_family : Options → Family → ℕ → Bool
 lists_family o family state =
     (selects_family o family || not (selects_sockets o)) && lists_state o state
-    && not (has_port_condition o.filter)
+    && not (has_endpoint_condition o.filter)

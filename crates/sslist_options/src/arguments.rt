@@ -1,23 +1,24 @@
 //! Arguments of the command line of a program that lists captures.
 
-ghost use Rattle.std.specs.Prelude.{◌≡◌, ◌≤◌, IfSome, bytes_eq, find, length, option_map};
-ghost use Rattle.sslist_options.specs.Choice.{argument_at, destination_argument};
-ghost use Rattle.sslist_options.specs.Choice.{ends_in_f, source_argument, state_argument};
-ghost use Rattle.sslist_options.specs.Choice.{family_argument, family_named, is_file};
+ghost use Rattle.std.specs.Prelude.{◌≡◌, bytes_eq, find, option_map};
+ghost use Rattle.sslist_options.specs.Choice.{address_argument, address_option, argument_at};
+ghost use Rattle.sslist_options.specs.Choice.{ends_in_f, family_argument, family_named};
 ghost use Rattle.sslist_options.specs.Choice.{first_other_letter, first_unknown_letter};
-ghost use Rattle.sslist_options.specs.Choice.{has_unexpected_value, letter_rejection};
-ghost use Rattle.sslist_options.specs.Choice.{first_equals, has_letter_value, letter_named};
-ghost use Rattle.sslist_options.specs.Choice.{letters_argument, listening_after, names_file};
-ghost use Rattle.sslist_options.specs.Choice.{long_argument, long_rejection, misses_value};
+ghost use Rattle.sslist_options.specs.Choice.{has_letter_value, has_unexpected_value, is_file};
+ghost use Rattle.sslist_options.specs.Choice.{letter_named, letter_rejection, letters_argument};
+ghost use Rattle.sslist_options.specs.Choice.{listening_after, long_argument, long_rejection};
+ghost use Rattle.sslist_options.specs.Choice.{misses_value, names_file, next_place};
+ghost use Rattle.sslist_options.specs.Choice.{option_argument, port_argument, port_option};
+ghost use Rattle.sslist_options.specs.Choice.{state_argument, valued_argument, with_argument};
+ghost use Rattle.sslist_options.specs.Choice.{with_details, with_end_address, with_end_port};
+ghost use Rattle.sslist_options.specs.Choice.{with_family, with_letters, with_sockets};
 ghost use Rattle.sslist_options.specs.Choice.{without_last_f};
-ghost use Rattle.sslist_options.specs.Choice.{next_place, port_argument};
-ghost use Rattle.sslist_options.specs.Choice.{option_argument, valued_argument, with_argument};
-ghost use Rattle.sslist_options.specs.Choice.{with_details, with_family, with_letters};
-ghost use Rattle.sslist_options.specs.Choice.{with_sockets};
 
+use crate::addresses::{AddressCondition, address_condition};
 use crate::choice::Rejection;
-use crate::filter::{PortCondition, port_condition, states_named};
+use crate::filter::{PortCondition, SocketFilter, port_condition, states_named};
 use crate::options::{AnyFamily, Family, Options};
+use crate::text::index_of;
 
 /// Letters that are options. The letter `f`, which needs the name of a family, is not among them.
 const LETTERS: &[u8] = b"tuxM046oemiOHlna";
@@ -53,6 +54,15 @@ pub(crate) enum Place {
     File,
 }
 
+/// An end of a socket.
+#[derive(Clone, Copy)]
+pub(crate) enum End {
+    /// The local end.
+    Local,
+    /// The remote end.
+    Remote,
+}
+
 /// An argument of the command line.
 #[derive(Clone, Copy)]
 pub(crate) enum Argument {
@@ -70,10 +80,10 @@ pub(crate) enum Argument {
     Sockets(AnyFamily),
     /// `--state=`, with these states, a bit for each.
     States(u32),
-    /// `--sport=`, with this condition on the local port.
-    SourcePort(PortCondition),
-    /// `--dport=`, with this condition on the remote port.
-    DestinationPort(PortCondition),
+    /// `--sport=` or `--dport=`, with this condition on the port of an end.
+    Port(End, PortCondition),
+    /// `--src=` or `--dst=`, with this condition on the address of an end.
+    Address(End, AddressCondition),
     /// A hyphen and letters, each of which is an option.
     Letters {
         /// The last letter is `f`, so that the next argument is the name of a family.
@@ -150,19 +160,33 @@ fn valued_argument(word: &[u8]) -> Argument
     } else if word.starts_with(b"--state=") {
         state_argument(&word[8..])
     } else {
-        port_argument(word)
+        port_option(word)
     }
 }
 
-/// Parses an option that contains a condition on a port, consists of letters, or is the long name
-/// of a letter.
-fn port_argument(word: &[u8]) -> Argument
-    ensures { result ≡ port_argument word.now }
+/// Parses an option that contains a condition on a port or an address, consists of letters, or is
+/// the long name of a letter.
+fn port_option(word: &[u8]) -> Argument
+    ensures { result ≡ port_option word.now }
 {
     if word.starts_with(b"--sport=") {
-        source_argument(&word[8..])
+        port_argument(End::Local, &word[8..])
     } else if word.starts_with(b"--dport=") {
-        destination_argument(&word[8..])
+        port_argument(End::Remote, &word[8..])
+    } else {
+        address_option(word)
+    }
+}
+
+/// Parses an option that contains a condition on an address, consists of letters, or is the long
+/// name of a letter.
+fn address_option(word: &[u8]) -> Argument
+    ensures { result ≡ address_option word.now }
+{
+    if word.starts_with(b"--src=") {
+        address_argument(End::Local, &word[6..])
+    } else if word.starts_with(b"--dst=") {
+        address_argument(End::Remote, &word[6..])
     } else {
         letters_argument(word)
     }
@@ -178,23 +202,23 @@ fn state_argument(name: &[u8]) -> Argument
     }
 }
 
-/// Parses a condition on the local port.
-fn source_argument(text: &[u8]) -> Argument
-    ensures { result ≡ source_argument text.now }
+/// Parses a condition on the port of an end.
+fn port_argument(end: End, text: &[u8]) -> Argument
+    ensures { result ≡ port_argument end text.now }
 {
     match port_condition(text) {
-        Some(condition) => Argument::SourcePort(condition),
+        Some(condition) => Argument::Port(end, condition),
         None => Argument::Rejected(Rejection::InvalidPortValue),
     }
 }
 
-/// Parses a condition on the remote port.
-fn destination_argument(text: &[u8]) -> Argument
-    ensures { result ≡ destination_argument text.now }
+/// Parses a condition on the address of an end.
+fn address_argument(end: End, text: &[u8]) -> Argument
+    ensures { result ≡ address_argument end text.now }
 {
-    match port_condition(text) {
-        Some(condition) => Argument::DestinationPort(condition),
-        None => Argument::Rejected(Rejection::InvalidPortValue),
+    match address_condition(text) {
+        Some(condition) => Argument::Address(end, condition),
+        None => Argument::Rejected(Rejection::InvalidAddressValue),
     }
 }
 
@@ -265,6 +289,8 @@ fn misses_value(word: &[u8]) -> bool
         || equal(word, "--state")
         || equal(word, "--sport")
         || equal(word, "--dport")
+        || equal(word, "--src")
+        || equal(word, "--dst")
 }
 
 /// Returns whether a word is an option that takes no value, with one.
@@ -285,23 +311,10 @@ fn has_unexpected_value(word: &[u8]) -> bool
 fn has_letter_value(word: &[u8]) -> bool
     ensures { result ≡ has_letter_value word.now }
 {
-    match first_equals(word) {
+    match index_of(b'=', word) {
         Some(index) => letter_named(&word[..index]).is_some(),
         None => false,
     }
-}
-
-/// Returns the index of the first equals sign.
-fn first_equals(word: &[u8]) -> Option<usize>
-    ensures value { result ≡ first_equals word.now }
-    ensures bound { IfSome result (λ index. index ≤ length word.now) }
-{
-    for (index, &byte) in word.iter().enumerate() {
-        if byte == b'=' {
-            return Some(index);
-        }
-    }
-    None
 }
 
 /// Returns the reason why letters are rejected. `letter` is the first of them that is not an option
@@ -418,8 +431,8 @@ impl Options {
             Argument::Json => self.json = true,
             Argument::Sockets(family) => self.add_family(family),
             Argument::States(states) => self.filter.states |= states,
-            Argument::SourcePort(condition) => self.filter.source_port = Some(condition),
-            Argument::DestinationPort(condition) => self.filter.destination_port = Some(condition),
+            Argument::Port(end, condition) => self.filter.set_port(end, condition),
+            Argument::Address(end, condition) => self.filter.set_address(end, condition),
             Argument::Letters { .. } if !word.is_empty() => self.add_letters(&word[1..]),
             Argument::Letter(letter) => self.add_letters(&[letter]),
             _ => {}
@@ -473,6 +486,28 @@ impl Options {
         self.inet |= letters.contains(&b'4');
         self.inet6 |= letters.contains(&b'6');
         self.listening = listening_after(self.listening, letters);
+    }
+}
+
+impl SocketFilter {
+    /// Sets the condition on the port of an end.
+    fn set_port(&mut self, end: End, condition: PortCondition)
+        ensures { self.new ≡ with_end_port end condition self.old }
+    {
+        match end {
+            End::Local => self.source_port = Some(condition),
+            End::Remote => self.destination_port = Some(condition),
+        }
+    }
+
+    /// Sets the condition on the address of an end.
+    fn set_address(&mut self, end: End, condition: AddressCondition)
+        ensures { self.new ≡ with_end_address end condition self.old }
+    {
+        match end {
+            End::Local => self.source_address = Some(condition),
+            End::Remote => self.destination_address = Some(condition),
+        }
     }
 }
 

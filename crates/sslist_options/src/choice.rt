@@ -16,7 +16,8 @@ pub enum Rejection {
     /// It is a hyphen and letters. The first of them that is not an option at its place is here: an
     /// `f` that is not the last letter, or an `h` or `V` that is not the only one.
     MisplacedLetter(u8),
-    /// It is `--family`, `--state`, `--sport` or `--dport` without an equals sign and a value.
+    /// It is `--family`, `--state`, `--sport`, `--dport`, `--src` or `--dst` without an equals sign
+    /// and a value.
     MissingValue,
     /// It is a long option that takes no value, with an equals sign and a value.
     UnexpectedValue,
@@ -28,6 +29,9 @@ pub enum Rejection {
     UnknownStateValue,
     /// It is `--sport=` or `--dport=` with a value that is not a port or a range of ports.
     InvalidPortValue,
+    /// It is `--src=` or `--dst=` with a value that is not an IPv4 or IPv6 address, without or with
+    /// a slash and a number of its bits.
+    InvalidAddressValue,
 }
 
 /// The request of a command line.

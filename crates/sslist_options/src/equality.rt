@@ -1,16 +1,21 @@
 //! Proof only: `==` and `clone` of options and what they select compare and copy the whole value.
 
 ghost use Rattle.std.proofs.Common.{rules};
-ghost use Rattle.sslist_options.specs.laws.EqualFilter.{condition_equal, filter_equal};
+ghost use Rattle.sslist_options.specs.laws.EqualFilter.{address_equal, filter_equal, port_equal};
 ghost use Rattle.sslist_options.specs.laws.EqualOptions.{options_equal};
 
+use crate::addresses::AddressCondition;
 use crate::choice::Rejection;
 use crate::filter::{PortCondition, SocketFilter};
 use crate::options::{Detail, Family, Options};
 use exact_values::Exact;
 
 impl Exact for PortCondition {
-    ghost exact = { (condition_equal, Prim.search rules, Prim.search rules) };
+    ghost exact = { (port_equal, Prim.search rules, Prim.search rules) };
+}
+
+impl Exact for AddressCondition {
+    ghost exact = { (address_equal, Prim.search rules, Prim.search rules) };
 }
 
 impl Exact for SocketFilter {

@@ -1,11 +1,15 @@
-//! Conditions on the states and the ports of the sockets that are listed.
+//! Conditions on the sockets that are listed: on their states, ports and addresses.
 
 ghost use Rattle.std.specs.Prelude.{◌≡◌};
-ghost use Rattle.sslist_options.specs.Filter.{group_named, has_port_condition, port_range};
-ghost use Rattle.sslist_options.specs.Filter.{has_state, is_closed_name, is_name};
-ghost use Rattle.sslist_options.specs.Filter.{meets_port, meets_ports};
-ghost use Rattle.sslist_options.specs.Filter.{port_condition, port_numbered, state_bit};
-ghost use Rattle.sslist_options.specs.Filter.{state_named, states_named, with_digit};
+ghost use Rattle.sslist_options.specs.Filter.{closed_range, group_named, port_range};
+ghost use Rattle.sslist_options.specs.Filter.{has_endpoint_condition, has_state, is_closed_name};
+ghost use Rattle.sslist_options.specs.Filter.{is_name, meets_addresses, meets_port, meets_ports};
+ghost use Rattle.sslist_options.specs.Filter.{port_condition, state_bit};
+ghost use Rattle.sslist_options.specs.Filter.{state_named, states_named};
+
+use crate::addresses::{AddressCondition, meets_address};
+use crate::text::{decimal_u16, index_of};
+use std::net::IpAddr;
 
 /// Conditions on a socket, which is listed only if it meets all of them.
 #[derive(Clone, Copy, Debug, Default, PartialEq, Eq)]
@@ -16,6 +20,10 @@ pub struct SocketFilter {
     pub source_port: Option<PortCondition>,
     /// `--dport`: the condition on the remote port of an IPv4 or IPv6 socket.
     pub destination_port: Option<PortCondition>,
+    /// `--src`: the condition on the local address of an IPv4 or IPv6 socket.
+    pub source_address: Option<AddressCondition>,
+    /// `--dst`: the condition on the remote address of an IPv4 or IPv6 socket.
+    pub destination_address: Option<AddressCondition>,
 }
 
 /// A condition on a port: it is in a range.
@@ -23,7 +31,7 @@ pub struct SocketFilter {
 pub struct PortCondition {
     /// Lowest port of the range.
     pub lowest: u16,
-    /// Highest port of the range.
+    /// Highest port of the range. No port meets the condition if it is less than the lowest one.
     pub highest: u16,
 }
 
@@ -35,11 +43,14 @@ impl SocketFilter {
         self.states & state_bit(state) != 0
     }
 
-    /// Returns whether there is a condition on a port.
-    pub(crate) fn has_port_condition(self) -> bool
-        ensures { result ≡ has_port_condition self }
+    /// Returns whether there is a condition on a port or an address.
+    pub(crate) fn has_endpoint_condition(self) -> bool
+        ensures { result ≡ has_endpoint_condition self }
     {
-        self.source_port.is_some() || self.destination_port.is_some()
+        self.source_port.is_some()
+            || self.destination_port.is_some()
+            || self.source_address.is_some()
+            || self.destination_address.is_some()
     }
 
     /// Returns whether the ports of a socket meet the conditions on them.
@@ -47,6 +58,14 @@ impl SocketFilter {
         ensures { result ≡ meets_ports self source destination }
     {
         meets_port(self.source_port, source) && meets_port(self.destination_port, destination)
+    }
+
+    /// Returns whether the addresses of a socket meet the conditions on them.
+    pub fn meets_addresses(self, source: IpAddr, destination: IpAddr) -> bool
+        ensures { result ≡ meets_addresses self source destination }
+    {
+        meets_address(self.source_address, source)
+            && meets_address(self.destination_address, destination)
     }
 }
 
@@ -145,57 +164,42 @@ fn group_named(name: &[u8]) -> Option<u32>
     }
 }
 
-/// Parses a condition on a port: `N` for a port that is equal to N, `N-` for one that is at least
-/// N, and `-N` for one that is at most N.
+/// Parses a condition on a port: `N` for the port N, `N-M` for a port from N to M, `N-` for one
+/// that is at least N, and `-M` for one that is at most M.
 pub(crate) fn port_condition(text: &[u8]) -> Option<PortCondition>
     ensures { result ≡ port_condition text.now }
 {
     if text.starts_with(b"-") {
-        port_range(Some(0), port_numbered(&text[1..]))
+        port_range(Some(0), decimal_u16(&text[1..]))
     } else if text.ends_with(b"-") {
-        port_range(port_numbered(&text[..text.len() - 1]), Some(u16::MAX))
+        port_range(decimal_u16(&text[..text.len() - 1]), Some(u16::MAX))
     } else {
-        let port = port_numbered(text);
-        port_range(port, port)
+        closed_range(text)
     }
 }
 
-/// Returns the condition with a lowest and a highest port, if there are both.
+/// Parses a range of ports `N-M`, or the range `N` of one port.
+fn closed_range(text: &[u8]) -> Option<PortCondition>
+    ensures { result ≡ closed_range text.now }
+{
+    match index_of(b'-', text) {
+        Some(index) => port_range(decimal_u16(&text[..index]), decimal_u16(&text[index + 1..])),
+        None => {
+            let port = decimal_u16(text);
+            port_range(port, port)
+        }
+    }
+}
+
+/// Returns the range from a lowest to a highest port, if there are both, and the highest one is not
+/// lower.
 fn port_range(lowest: Option<u16>, highest: Option<u16>) -> Option<PortCondition>
     ensures { result ≡ port_range lowest highest }
 {
-    Some(PortCondition {
-        lowest: lowest?,
-        highest: highest?,
-    })
-}
-
-/// Parses a port in decimal.
-fn port_numbered(digits: &[u8]) -> Option<u16>
-    ensures { result ≡ port_numbered digits.now }
-{
-    if digits.is_empty() {
-        return None;
-    }
-    let mut number = 0u16;
-    for &digit in digits {
-        number = with_digit(number, digit)?;
-    }
-    Some(number)
-}
-
-/// Appends a digit to a number. Returns `None` if it is not a digit, or if the number exceeds
-/// 65535.
-fn with_digit(number: u16, digit: u8) -> Option<u16>
-    ensures { result ≡ with_digit number digit }
-{
-    if !digit.is_ascii_digit() {
-        return None;
-    }
-    let longer = u32::from(number) * 10 + u32::from(digit - b'0');
-    if longer > 65535 {
-        None
+    let (lowest, highest) = (lowest?, highest?);
+    if lowest <= highest {
+        Some(PortCondition { lowest, highest })
     } else {
-        Some(longer as u16)
+        None
     }
 }

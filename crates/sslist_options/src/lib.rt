@@ -2,6 +2,7 @@
 //! names of the captures.
 #![tactic(auto)]
 
+mod addresses;
 mod arguments;
 mod choice;
 mod equality;
@@ -9,7 +10,9 @@ mod files;
 mod filter;
 pub mod laws;
 mod options;
+mod text;
 
+pub use addresses::AddressCondition;
 pub use choice::{Choice, Rejection, choose};
 pub use files::{ListCapture, list_captures, names_several};
 pub use filter::{PortCondition, SocketFilter};

@@ -73,7 +73,7 @@ pub struct Options {
     pub requests: bool,
     /// `--json`: write a JSON object for each socket, and neither a heading nor a caption.
     pub json: bool,
-    /// `--state`, `--sport`, `--dport`: conditions that a listed socket meets.
+    /// `--state`, `--sport`, `--dport`, `--src`, `--dst`: conditions that a listed socket meets.
     pub filter: SocketFilter,
 }
 
@@ -140,13 +140,13 @@ impl Options {
 
     /// Returns whether a UNIX socket in this state is listed: if `-x` is set, or if no option that
     /// selects sockets is set, of any family; and if sockets in this state are listed, and there is
-    /// no condition on a port.
+    /// no condition on a port or an address.
     pub fn lists_unix(self, state: u8) -> bool
         ensures { result ≡ lists_unix self state }
     {
         (self.unix || !self.selects())
             && self.lists_state(state)
-            && !self.filter.has_port_condition()
+            && !self.filter.has_endpoint_condition()
     }
 
     /// Returns whether IPv4 and IPv6 sockets of a protocol (6 TCP, 17 UDP, 262 MPTCP) are listed:
@@ -199,13 +199,13 @@ impl Options {
 
     /// Returns whether a socket of a family in this state is listed: if the option of this family
     /// is set, or if no option that selects sockets is set, of any family; and if sockets in this
-    /// state are listed, and there is no condition on a port.
+    /// state are listed, and there is no condition on a port or an address.
     pub fn lists_family(self, family: Family, state: u8) -> bool
         ensures { result ≡ lists_family self family state }
     {
         (self.has_family(family) || !self.selects())
             && self.lists_state(state)
-            && !self.filter.has_port_condition()
+            && !self.filter.has_endpoint_condition()
     }
 
     /// Returns whether the option of a family is set.

@@ -1,6 +1,6 @@
 use Rattle.std.proofs.Common.{◌≡◌, drop}
-use Rattle.sslist_options.specs.Filter.{with_digits}
-use Rattle.sslist_options.proofs.filter.port_numbered.Given as goal
+use Rattle.sslist_options.specs.Text.{with_digits}
+use Rattle.sslist_options.proofs.text.decimal_u16.Given as goal
 
 -- the number so far with the remaining digits is the number of all digits
 abbrev pub invariant-loop-digit : goal.invariant-loop-digit
