@@ -156,6 +156,15 @@ def printed_members(sslist):
     return members, inner, info
 
 
+def mptcp_members(sslist):
+    """Returns the members of `info` of an MPTCP socket in order."""
+    request = programs.packet([2, 6, *bytes(54), 8, 0, 3, 0, 6, 1, 0, 0], 0x301)
+    reply = programs.packet(bytes([2, *bytes(71)]) + programs.attribute(2, bytes(96)))
+    given = programs.CAPTURE.read_bytes()[:24] + request + reply
+    done = subprocess.run([sslist, "--json"], input=given, stdout=subprocess.PIPE, check=True)
+    return list(json.loads(done.stdout)["info"])
+
+
 def json_errors(sslist):
     page = "man/sslist-json.5"
     members, inner, info = printed_members(sslist)
@@ -164,12 +173,15 @@ def json_errors(sslist):
     ):
         found, _ = members_of(manual_section(page, heading))
         yield from differences(page, found, names)
-    found, _ = members_of(manual_section(page, "Members of info"))
-    yield from differences(page, found, info)
-    if found != info:
-        yield page, "the members of info are in another order"
-    if f"These {len(info)} numbers" not in manual_section(page, "Members of info"):
-        yield page, f"info has {len(info)} numbers"
+    for heading, names in (
+        ("Members of info", info), ("Members of info of MPTCP sockets", mptcp_members(sslist)),
+    ):
+        found, _ = members_of(manual_section(page, heading))
+        yield from differences(page, found, names)
+        if found != names:
+            yield page, f"{heading}: another order"
+        if f"These {len(names)} numbers" not in manual_section(page, heading):
+            yield page, f"{heading}: there are {len(names)} numbers"
     text = (TOP / page).read_text(encoding="utf-8")
     named = [it for found in members_of(text) for it in found]
     for names in inner.values():

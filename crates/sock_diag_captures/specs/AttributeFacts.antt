@@ -51,8 +51,10 @@ use Rattle.sock_diag_captures.specs.Facts.{group, hidden_number, list_facts, nam
 use Rattle.sock_diag_captures.specs.Facts.{length_error, number_facts, number_outcome}
 use Rattle.sock_diag_captures.specs.Facts.{record_outcome, shown_number, text_facts}
 use Rattle.sock_diag_captures.specs.Md5Keys.{md5_outcome}
-use Rattle.sock_diag_captures.specs.Tcp.{tcp_info}
+use Rattle.sock_diag_captures.specs.Tcp.{mptcp_info, tcp_info}
 use Rattle.sock_diag_captures.specs.UlpInfo.{ulp_outcome}
+use Rattle.sock_diag_captures.specs.declared.attributes.Info.{Info}
+use Rattle.sock_diag_captures.specs.declared.attributes.Info.TheVariants.{Mptcp, Tcp, Unknown}
 use Rattle.sock_diag_captures.specs.declared.attributes.Sockets.{Sockets}
 use Rattle.sock_diag_captures.specs.declared.attributes.Sockets.TheVariants.{Inet, Other, Unix}
 use Rattle.sock_diag_captures.specs.declared.facts.Shown.TheVariants.{Always, Closed, Directions}
@@ -229,12 +231,15 @@ abbrev pub port_inet_facts : Bool → Attribute → Outcome
 port_inet_facts utf8 a = decoded_outcome (λ v. inet_outcome utf8 a (inet_variant v))
     (decode_attribute inet_attribute_set a)
 
--- What an attribute of an IPv4 or IPv6 socket says. INET_DIAG_INFO of a TCP socket can have any
--- length.
-abbrev pub inet_facts : Bool → Bool → Attribute → Outcome
-inet_facts utf8 is_tcp a =
-    if is_tcp && (attribute_kind a == INET_DIAG_INFO) then Ok (Some (tcp_info a.value))
+-- what an attribute of an IPv4 or IPv6 socket says, by the meaning of INET_DIAG_INFO
+abbrev pub inet_facts : Bool → Info → Attribute → Outcome
+inet_facts utf8 Tcp a =
+    if attribute_kind a == INET_DIAG_INFO then Ok (Some (tcp_info a.value))
     else port_inet_facts utf8 a
+inet_facts utf8 Mptcp a =
+    if attribute_kind a == INET_DIAG_INFO then Ok (Some (mptcp_info a.value))
+    else port_inet_facts utf8 a
+inet_facts utf8 Unknown a = port_inet_facts utf8 a
 
 -- ---- netlink, packet, vsock and XDP sockets
 
@@ -306,5 +311,5 @@ family_facts family a =
 -- what an attribute says, by the kind of sockets that the reply is about; `utf8` as in `text_facts`
 abbrev pub attribute_facts : Bool → Sockets → Attribute → Outcome
 attribute_facts utf8 Unix a = unix_facts a
-attribute_facts utf8 (Inet is_tcp) a = inet_facts utf8 is_tcp a
+attribute_facts utf8 (Inet info) a = inet_facts utf8 info a
 attribute_facts utf8 (Other family) a = family_facts family a

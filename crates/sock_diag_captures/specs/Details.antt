@@ -69,7 +69,7 @@ status_text a (Err e) = invalid_attribute_text a e
 -- of the attribute.
 abbrev pub detail_group : Sockets → ℕ → Detail
 detail_group Unix kind = if kind == UNIX_DIAG_MEMINFO then Memory else Extended
-detail_group (Inet is_tcp) kind =
+detail_group (Inet info) kind =
     if (kind == INET_DIAG_MEMINFO) || (kind == INET_DIAG_SKMEMINFO) then Memory
     else if (kind == INET_DIAG_INFO) || (kind == INET_DIAG_VEGASINFO) || (kind == INET_DIAG_CONG)
     || (kind == INET_DIAG_DCTCPINFO) || (kind == INET_DIAG_BBRINFO) || (kind == INET_DIAG_MD5SIG)

@@ -23,6 +23,7 @@ use Rattle.sock_diag_captures.specs.declared.facts.Shown.{Shown}
 use Rattle.sock_diag_captures.specs.declared.facts.Shown.TheVariants.{Always, Bits, Cipher, Closed}
 use Rattle.sock_diag_captures.specs.declared.facts.Shown.TheVariants.{Directions, Halves, Hex}
 use Rattle.sock_diag_captures.specs.declared.facts.Shown.TheVariants.{Letters, Mode, Never, Nonzero}
+use Rattle.sock_diag_captures.specs.declared.facts.Shown.TheVariants.{NonzeroHex}
 use Rattle.sock_diag_captures.specs.declared.facts.Shown.TheVariants.{Threshold, Version}
 
 -- Facts: their text in the table, and their members in JSON. A definition says once which facts a
@@ -65,6 +66,7 @@ number_text Nonzero text n =
     if n == 0 || n == 0xffffffffffffffff then [] else text ++ decimal n
 number_text Threshold text n = if n == 0 || n == 0x7fffffff then [] else text ++ decimal n
 number_text Hex text n = text ++ digits 16 false n
+number_text NonzeroHex text n = if n == 0 then [] else text ++ digits 16 false n
 number_text (Bits bits) text n = if bit_and n bits == 0 then [] else text
 number_text Halves text n = text ++ decimal (n % 16) ++ 44 ∷ decimal (n / 16) ++ 41 ∷ []
 number_text Directions text n = text ++ directions n

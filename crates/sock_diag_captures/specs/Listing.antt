@@ -30,7 +30,7 @@ use Rattle.sock_diag_families.specs.VsockResponseHeader.{vsock_header}
 use Rattle.sock_diag_families.specs.XdpResponseHeader.{xdp_header}
 use Rattle.sock_diag_captures.specs.Collected.{Summary, summary_of}
 use Rattle.sock_diag_captures.specs.Pieces.{AttributeOrError, framing_error_of, attributes_or_error}
-use Rattle.sock_diag_captures.specs.Table.{is_tcp}
+use Rattle.sock_diag_captures.specs.Table.{info_of_protocol}
 use Rattle.sock_diag_captures.specs.declared.attributes.Sockets.{Sockets}
 use Rattle.sock_diag_captures.specs.declared.attributes.Sockets.TheVariants.{Inet, Other, Unix}
 use Rattle.sock_diag_captures.specs.RequestLine.{request_line_if_selected}
@@ -113,7 +113,7 @@ payload_lines o protocol (Ok unix_response) b =
     lines_after_header (unix_output o) Unix (parse_record unix_response_header tt b)
     (attributes_or_error 0 (drop 16 b))
 payload_lines o protocol (Ok inet_response) b =
-    lines_after_header (inet_output o protocol (timer_in b)) (Inet (is_tcp protocol))
+    lines_after_header (inet_output o protocol (timer_in b)) (Inet (info_of_protocol protocol))
     (parse_record inet_response_header tt b) (attributes_or_error 0 (drop 72 b))
 payload_lines o protocol (Err (UnknownFamily n)) b = family_lines o (family_numbered n) b
 payload_lines o protocol _ b = []

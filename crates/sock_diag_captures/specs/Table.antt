@@ -21,6 +21,8 @@ use Rattle.sock_diag_attributes.specs.declared.unix.name.SocketName.{SocketName}
 use Rattle.sock_diag_attributes.specs.declared.unix.name.SocketName.TheVariants.{Abstract, Pathname}
 use Rattle.sock_diag_attributes.specs.UnixAttributes.{unix_attribute_set}
 use Rattle.sock_diag_captures.specs.Details.{details}
+use Rattle.sock_diag_captures.specs.declared.attributes.Info.{Info}
+use Rattle.sock_diag_captures.specs.declared.attributes.Info.TheVariants.{Mptcp, Tcp, Unknown}
 use Rattle.sock_diag_captures.specs.Collected.{Summary, first_in}
 use Rattle.sock_diag_extras.specs.declared.constants.TheConstants.{UNIX_DIAG_UID}
 
@@ -133,10 +135,12 @@ abbrev pub unix_lines : Options → UnixResponseHeader → Summary → List ℕ
 unix_lines o h s =
     unix_line o h s ++ details_after_separator o (details o no_timer h.cookie s) ++ 10 ∷ []
 
--- the protocol of the request is 6 (IPPROTO_TCP)
-abbrev pub is_tcp : Option ℕ → Bool
-is_tcp None = false
-is_tcp (Some protocol) = protocol == 6
+-- the meaning of INET_DIAG_INFO, by the protocol of the request: 6 is IPPROTO_TCP, and 262
+-- IPPROTO_MPTCP
+abbrev pub info_of_protocol : Option ℕ → Info
+info_of_protocol None = Unknown
+info_of_protocol (Some protocol) =
+    if protocol == 6 then Tcp else if protocol == 262 then Mptcp else Unknown
 
 -- `inet_lines o protocol timer h s`: the lines of an IPv4 or IPv6 socket: the columns, the details
 -- and a line feed (10). `timer` are the timer fields of the reply's header (`timer_in`).

@@ -1,55 +1,64 @@
--- The facts of a TCP connection: the members of `struct tcp_info` of linux/tcp.h, as Linux 6.18
--- defines it. JSON has them under the kernel's names without the prefix `tcpi_`.
+-- The facts of a TCP or MPTCP connection: the members of `struct tcp_info` of linux/tcp.h or of
+-- `struct mptcp_info` of linux/mptcp.h, as Linux 6.18 defines them. JSON has them under the kernel's
+-- names without the prefix `tcpi_` or `mptcpi_`.
 use Rattle.std.specs.Prelude.{ℕ, ◌+◌, ◌==◌, ◌/◌, ◌%◌, nat_le, if◌then◌else◌, Bool, false, not, List}
 use Rattle.std.specs.Prelude.{[], ◌∷◌, bit_and, codes, drop, length, Option, None, Some, option_map}
 use Rattle.std.specs.Option.{option_map_or}
 use Rattle.byteorder.specs.Endian.{little_number}
+use Rattle.sock_diag_extras.specs.MptcpFields.{mptcp_span_of}
 use Rattle.sock_diag_extras.specs.TcpFields.{span_of}
+use Rattle.sock_diag_extras.specs.declared.constants.TheConstants as c
+use Rattle.sock_diag_extras.specs.declared.mptcp_info.MptcpField.{MptcpField}
+use Rattle.sock_diag_extras.specs.declared.mptcp_info.MptcpField.TheVariants as mptcp
 use Rattle.sock_diag_extras.specs.declared.tcp_info.TcpField.{TcpField}
 use Rattle.sock_diag_extras.specs.declared.tcp_info.TcpField.TheVariants as field
 use Rattle.sock_diag_captures.specs.Facts.{Facts, facts_of_each, group, no_facts, number_facts}
 use Rattle.sock_diag_captures.specs.declared.facts.Shown.{Shown}
 use Rattle.sock_diag_captures.specs.declared.facts.Shown.TheVariants.{Bits, Halves, Never, Nonzero}
-use Rattle.sock_diag_captures.specs.declared.facts.Shown.TheVariants.{Threshold}
-use Rattle.sock_diag_captures.specs.declared.tcp.TcpPart.{TcpPart}
-use Rattle.sock_diag_captures.specs.declared.tcp.TcpPart.TheVariants.{Byte, Eight, FirstBit, Four}
-use Rattle.sock_diag_captures.specs.declared.tcp.TcpPart.TheVariants.{HighFour, LowFour}
-use Rattle.sock_diag_captures.specs.declared.tcp.TcpPart.TheVariants.{Negotiated, NextTwo, Two}
+use Rattle.sock_diag_captures.specs.declared.facts.Shown.TheVariants.{NonzeroHex, Threshold}
+use Rattle.sock_diag_captures.specs.declared.tcp.FieldPart.{FieldPart}
+use Rattle.sock_diag_captures.specs.declared.tcp.FieldPart.TheVariants.{Byte, Eight, FirstBit, Four}
+use Rattle.sock_diag_captures.specs.declared.tcp.FieldPart.TheVariants.{HighFour, LowFour}
+use Rattle.sock_diag_captures.specs.declared.tcp.FieldPart.TheVariants.{Negotiated, NextTwo, Two}
 
 -- a row: the offset of a field (`.0`), the number there (`.1`), how the table shows it (`.2`), its
 -- text there (`.3`), and its name in JSON (`.4`)
-abbrev pub TcpRow : Type 0
-TcpRow = ℕ × TcpPart × Shown × List ℕ × Option (List ℕ)
+abbrev pub FieldRow : Type 0
+FieldRow = ℕ × FieldPart × Shown × List ℕ × Option (List ℕ)
 
 -- the offset of a field in bytes
 abbrev pub offset_of : TcpField → ℕ
 offset_of f = (span_of f).0
 
 -- the number of a field, by its width in bytes
-abbrev pub part_of_width : ℕ → TcpPart
+abbrev pub part_of_width : ℕ → FieldPart
 part_of_width width =
     if width == 1 then Byte else if width == 2 then Two else if width == 4 then Four else Eight
 
+-- `row_of span format text member`: the row of a field with this offset (`.0`) and this width (`.1`)
+abbrev pub row_of : ℕ × ℕ → Shown → List ℕ → Option (List ℕ) → FieldRow
+row_of span format text member = (span.0, part_of_width span.1, format, text, member)
+
 -- a field that the table shows if it is neither 0 nor unlimited
-abbrev pub shown : TcpField → List ℕ → List ℕ → TcpRow
-shown f text member = (offset_of f, part_of_width (span_of f).1, Nonzero, text, Some member)
+abbrev pub shown : TcpField → List ℕ → List ℕ → FieldRow
+shown f text member = row_of (span_of f) Nonzero text (Some member)
 
 -- `hidden_part f part member`: bits of a field, which the table does not show
-abbrev pub hidden_part : TcpField → TcpPart → List ℕ → TcpRow
+abbrev pub hidden_part : TcpField → FieldPart → List ℕ → FieldRow
 hidden_part f part member = (offset_of f, part, Never, [], Some member)
 
 -- a field that the table does not show
-abbrev pub hidden : TcpField → List ℕ → TcpRow
-hidden f member = hidden_part f (part_of_width (span_of f).1) member
+abbrev pub hidden : TcpField → List ℕ → FieldRow
+hidden f member = row_of (span_of f) Never [] (Some member)
 
 -- a bit of `tcpi_options`, which the table shows if it is set
-abbrev pub option_row : ℕ → List ℕ → TcpRow
+abbrev pub option_row : ℕ → List ℕ → FieldRow
 option_row bit text = (offset_of field.Options, Byte, Bits bit, text, None)
 
 -- The rows, in the order of the members. The bits of `tcpi_options` are TCPI_OPT_TIMESTAMPS (1),
 -- TCPI_OPT_SACK (2), TCPI_OPT_ECN (8), TCPI_OPT_ECN_SEEN (16) and TCPI_OPT_SYN_DATA (32). With
 -- TCPI_OPT_WSCALE (4) the table shows both window scales.
-unfoldable pub tcp_rows : List TcpRow
+unfoldable pub tcp_rows : List FieldRow
 tcp_rows =
     hidden field.State (codes "state") ∷
     hidden field.CaState (codes "ca_state") ∷
@@ -139,8 +148,52 @@ tcp_rows =
     shown field.AccecnOptSeen (codes " accecn_opt_seen:") (codes "accecn_opt_seen") ∷
     []
 
+-- a field of `struct mptcp_info` that the table shows if it is neither 0 nor unlimited
+abbrev pub mptcp_shown : MptcpField → List ℕ → List ℕ → FieldRow
+mptcp_shown f text member = row_of (mptcp_span_of f) Nonzero text (Some member)
+
+-- one that the table shows in hexadecimal digits, if it is not 0
+abbrev pub mptcp_hex : MptcpField → List ℕ → List ℕ → FieldRow
+mptcp_hex f text member = row_of (mptcp_span_of f) NonzeroHex text (Some member)
+
+-- a bit of `mptcpi_flags`, all of which are in its first byte; the table shows it if it is set
+abbrev pub mptcp_flag : ℕ → List ℕ → FieldRow
+mptcp_flag bit text = ((mptcp_span_of mptcp.Flags).0, Byte, Bits bit, text, None)
+
+-- the rows of `struct mptcp_info`, in the order of the members
+unfoldable pub mptcp_rows : List FieldRow
+mptcp_rows =
+    mptcp_shown mptcp.Subflows (codes " subflows:") (codes "subflows") ∷
+    mptcp_shown mptcp.AddAddrSignal (codes " add_addr_signal:") (codes "add_addr_signal") ∷
+    mptcp_shown mptcp.AddAddrAccepted (codes " add_addr_accepted:") (codes "add_addr_accepted") ∷
+    mptcp_shown mptcp.SubflowsMax (codes " subflows_max:") (codes "subflows_max") ∷
+    mptcp_shown mptcp.AddAddrSignalMax (codes " add_addr_signal_max:")
+    (codes "add_addr_signal_max") ∷
+    mptcp_shown mptcp.AddAddrAcceptedMax (codes " add_addr_accepted_max:")
+    (codes "add_addr_accepted_max") ∷
+    row_of (mptcp_span_of mptcp.Flags) Never [] (Some (codes "flags")) ∷
+    mptcp_flag c.MPTCP_INFO_FLAG_FALLBACK (codes " fallback") ∷
+    mptcp_flag c.MPTCP_INFO_FLAG_REMOTE_KEY_RECEIVED (codes " remote_key") ∷
+    mptcp_hex mptcp.Token (codes " token:") (codes "token") ∷
+    mptcp_hex mptcp.WriteSeq (codes " write_seq:") (codes "write_seq") ∷
+    mptcp_hex mptcp.SndUna (codes " snd_una:") (codes "snd_una") ∷
+    mptcp_hex mptcp.RcvNxt (codes " rcv_nxt:") (codes "rcv_nxt") ∷
+    mptcp_shown mptcp.LocalAddrUsed (codes " local_addr_used:") (codes "local_addr_used") ∷
+    mptcp_shown mptcp.LocalAddrMax (codes " local_addr_max:") (codes "local_addr_max") ∷
+    mptcp_shown mptcp.CsumEnabled (codes " csum_enabled:") (codes "csum_enabled") ∷
+    mptcp_shown mptcp.Retransmits (codes " retransmits:") (codes "retransmits") ∷
+    mptcp_shown mptcp.BytesRetrans (codes " bytes_retrans:") (codes "bytes_retrans") ∷
+    mptcp_shown mptcp.BytesSent (codes " bytes_sent:") (codes "bytes_sent") ∷
+    mptcp_shown mptcp.BytesReceived (codes " bytes_received:") (codes "bytes_received") ∷
+    mptcp_shown mptcp.BytesAcked (codes " bytes_acked:") (codes "bytes_acked") ∷
+    mptcp_shown mptcp.SubflowsTotal (codes " subflows_total:") (codes "subflows_total") ∷
+    mptcp_shown mptcp.EndpLaminarMax (codes " endp_laminar_max:") (codes "endp_laminar_max") ∷
+    mptcp_shown mptcp.LastDataSent (codes " last_data_sent:") (codes "last_data_sent") ∷
+    mptcp_shown mptcp.LastDataRecv (codes " last_data_recv:") (codes "last_data_recv") ∷
+    mptcp_shown mptcp.LastAckRecv (codes " last_ack_recv:") (codes "last_ack_recv") ∷ []
+
 -- bits of a byte of bit fields: bits 0 to 3, bits 4 to 7, bit 0, or bits 1 and 2; or the whole byte
-abbrev pub bits_of : TcpPart → ℕ → ℕ
+abbrev pub bits_of : FieldPart → ℕ → ℕ
 bits_of LowFour n = n % 16
 bits_of HighFour n = n / 16
 bits_of FirstBit n = n % 2
@@ -164,7 +217,7 @@ has_scales None = false
 has_scales (Some options) = not (bit_and options 4 == 0)
 
 -- the number of a row, if the bytes contain all of its field and it applies to the connection
-abbrev pub number_in : TcpPart → ℕ → List ℕ → Option ℕ
+abbrev pub number_in : FieldPart → ℕ → List ℕ → Option ℕ
 number_in Two offset bytes = field_in 2 offset bytes
 number_in Four offset bytes = field_in 4 offset bytes
 number_in Eight offset bytes = field_in 8 offset bytes
@@ -174,14 +227,22 @@ number_in Negotiated offset bytes =
 number_in part offset bytes = option_map (bits_of part) (field_in 1 offset bytes)
 
 -- the facts of a row
-unfoldable pub row_facts : List ℕ → TcpRow → Facts
+unfoldable pub row_facts : List ℕ → FieldRow → Facts
 row_facts bytes row =
     option_map_or (number_facts row.2 row.3 row.4) (number_in row.1 row.0 bytes) no_facts
 
--- the facts of the fields that the bytes contain
-unfoldable pub tcp_facts : List ℕ → Facts
-tcp_facts bytes = facts_of_each (row_facts bytes) tcp_rows
+-- `field_facts bytes rows`: the facts of those rows whose fields the bytes contain
+unfoldable pub field_facts : List ℕ → List FieldRow → Facts
+field_facts bytes rows = facts_of_each (row_facts bytes) rows
 
--- the same, as a group
+-- the same, as the group `info`
+unfoldable pub info_of : List ℕ → List FieldRow → Facts
+info_of bytes rows = group [] [] (codes "info") (field_facts bytes rows)
+
+-- the fields of `struct tcp_info` that the bytes contain
 unfoldable pub tcp_info : List ℕ → Facts
-tcp_info bytes = group [] [] (codes "info") (tcp_facts bytes)
+tcp_info bytes = info_of bytes tcp_rows
+
+-- the fields of `struct mptcp_info` that the bytes contain
+unfoldable pub mptcp_info : List ℕ → Facts
+mptcp_info bytes = info_of bytes mptcp_rows

@@ -33,7 +33,7 @@ ghost use Rattle.sock_diag_captures.specs.declared.facts.Shown.TheVariants.{Hex}
 
 use crate::facts::{FactSink, NumberRow, Shown, Status, show_group, show_numbers};
 use crate::md5_keys::{KEY_LENGTH, has_md5_keys};
-use crate::tcp::show_tcp_info;
+use crate::tcp::{show_mptcp_info, show_tcp_info};
 use crate::ulp_info::show_ulp;
 use byteorder::{ByteOrder, LittleEndian};
 use netlink_core::{DecodeError, NlaBuffer};
@@ -60,13 +60,21 @@ use std::alloc::{AllocError, Global};
 pub(crate) enum Sockets {
     /// UNIX sockets.
     Unix,
-    /// IPv4 and IPv6 sockets.
-    Inet {
-        /// The protocol of the request is TCP.
-        is_tcp: bool,
-    },
+    /// IPv4 and IPv6 sockets, whose `INET_DIAG_INFO` has this meaning.
+    Inet(Info),
     /// Sockets of another family.
     Other(Family),
+}
+
+/// The meaning of `INET_DIAG_INFO`, by the protocol of the request.
+#[derive(Clone, Copy)]
+pub(crate) enum Info {
+    /// TCP: `struct tcp_info`, of any length.
+    Tcp,
+    /// MPTCP: `struct mptcp_info`, of any length.
+    Mptcp,
+    /// Another protocol, or one that is not known: `struct tcp_info` as the port decodes it.
+    Unknown,
 }
 
 /// A number that the table shows after this text, and JSON has.
@@ -109,7 +117,7 @@ pub(crate) fn show_attribute<S: FactSink>(
 {
     match sockets {
         Sockets::Unix => show_unix(sink, alloc, nla),
-        Sockets::Inet { is_tcp } => show_inet(sink, alloc, utf8, is_tcp, nla),
+        Sockets::Inet(info) => show_inet(sink, alloc, utf8, info, nla),
         Sockets::Other(family) => show_family(sink, family, nla),
     }
 }
@@ -230,22 +238,23 @@ pub(crate) fn length_error(nla: &NlaBuffer<'_>, need: usize) -> Status
     })
 }
 
-/// Shows the facts of an attribute of an IPv4 or IPv6 socket, if it has any. `INET_DIAG_INFO` of a
-/// TCP socket can have any length.
+/// Shows the facts of an attribute of an IPv4 or IPv6 socket, if it has any.
 fn show_inet<S: FactSink>(
     sink: &mut S,
     alloc: Global,
     utf8: bool,
-    is_tcp: bool,
+    info: Info,
     nla: &NlaBuffer<'_>,
 ) -> Result<Status, AllocError>
     ensures { Decodes S.kept S.content S.items result sink.old sink.new
-        (inet_facts utf8 is_tcp (buffered_attribute nla.now)) }
+        (inet_facts utf8 info (buffered_attribute nla.now)) }
 {
-    if is_tcp && nla.kind() == INET_DIAG_INFO {
-        return known(show_tcp_info(sink, nla.value()));
+    let is_info = nla.kind() == INET_DIAG_INFO;
+    match info {
+        Info::Tcp if is_info => known(show_tcp_info(sink, nla.value())),
+        Info::Mptcp if is_info => known(show_mptcp_info(sink, nla.value())),
+        _ => show_port_inet(sink, alloc, utf8, nla),
     }
-    show_port_inet(sink, alloc, utf8, nla)
 }
 
 /// Shows the facts of an attribute of an IPv4 or IPv6 socket, by its value as the port decodes it,

@@ -141,10 +141,10 @@ fn detail_group(sockets: Sockets, kind: u16) -> Detail
 {
     match (sockets, kind) {
         (Sockets::Unix, UNIX_DIAG_MEMINFO)
-        | (Sockets::Inet { .. }, INET_DIAG_MEMINFO | INET_DIAG_SKMEMINFO) => Detail::Memory,
+        | (Sockets::Inet(_), INET_DIAG_MEMINFO | INET_DIAG_SKMEMINFO) => Detail::Memory,
         (Sockets::Other(family), _) if memory_kind(family) == Some(kind) => Detail::Memory,
         (
-            Sockets::Inet { .. },
+            Sockets::Inet(_),
             INET_DIAG_INFO
             | INET_DIAG_VEGASINFO
             | INET_DIAG_CONG

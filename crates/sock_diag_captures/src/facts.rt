@@ -47,6 +47,8 @@ pub(crate) enum Shown {
     Threshold,
     /// A text, and the number in hexadecimal digits.
     Hex,
+    /// As `Hex`, but nothing if the number is 0.
+    NonzeroHex,
     /// A text, if the number has at least one of these bits.
     Bits(u64),
     /// A text, bits 0 to 3 in decimal, a comma, the bits above, and a closing parenthesis.
@@ -502,7 +504,7 @@ fn push_number_as(
         Shown::Nonzero if number == 0 || number == u64::MAX => Ok(()),
         Shown::Threshold if number == 0 || number == INFINITE_THRESHOLD => Ok(()),
         Shown::Bits(bits) if number & bits == 0 => Ok(()),
-        Shown::Letters if number == 0 => Ok(()),
+        Shown::NonzeroHex | Shown::Letters if number == 0 => Ok(()),
         Shown::Never => Ok(()),
         Shown::Always | Shown::Nonzero | Shown::Threshold => push_after(text, before, number),
         Shown::Bits(_) => text.extend_from_slice(before),
@@ -510,7 +512,7 @@ fn push_number_as(
             push_after(text, before, number)?;
             Ok(text.push(b')')?)
         }
-        Shown::Hex => {
+        Shown::Hex | Shown::NonzeroHex => {
             text.extend_from_slice(before)?;
             push_hex(text, number)
         }

@@ -18,11 +18,11 @@ ghost use Rattle.sock_diag_captures.specs.Listing.{payload_lines, lines_after_he
 ghost use Rattle.sock_diag_captures.specs.Pieces.{attributes_or_error, framing_error_of};
 ghost use Rattle.sock_diag_captures.specs.Selection.{lists_inet};
 ghost use Rattle.sock_diag_captures.specs.Table.{inet_kind, inet_line, inet_lines};
-ghost use Rattle.sock_diag_captures.specs.Table.{is_tcp, unix_value, user_id};
+ghost use Rattle.sock_diag_captures.specs.Table.{info_of_protocol, unix_value, user_id};
 ghost use Rattle.sock_diag_captures.specs.Table.{unix_kind, unix_line, unix_lines};
 ghost use Rattle.sock_diag_captures.specs.declared.attributes.Sockets.TheVariants.{Inet, Unix};
 
-use crate::attributes::Sockets;
+use crate::attributes::{Info, Sockets};
 use crate::collected::{Attributes, collect};
 use crate::details::{push_details, timer_of};
 use crate::json_attributes::push_json;
@@ -252,7 +252,7 @@ fn push_inet(
 ) -> Result<Option<DecodeError>, AllocError>
     ensures lines { OnOk result (text.new.items ≡ text.old.items
         ++ lines_after_header (inet_output options protocol (timer_in payload.now))
-        (Inet (is_tcp protocol)) (parse_record inet_response_header tt payload.now)
+        (Inet (info_of_protocol protocol)) (parse_record inet_response_header tt payload.now)
         (attributes_or_error 0 (drop 72 payload.now))) }
     ensures error { IfOk result (λ error. error
         ≡ error_after_reply_header (parse_record inet_response_header tt payload.now)
@@ -283,16 +283,14 @@ fn push_inet_socket(
 ) -> Result<Option<DecodeError>, AllocError>
     ensures lines { OnOk result (text.new.items ≡ text.old.items ++ inet_output options
         socket.now.protocol socket.now.timer socket.now.header
-        (summary_of (Inet (is_tcp socket.now.protocol)) (attributes_or_error 0 bytes.now))) }
+        (summary_of (Inet (info_of_protocol socket.now.protocol)) (attributes_or_error 0 bytes.now))) }
     ensures error { IfOk result
         (λ error. error ≡ framing_error_of (attributes_or_error 0 bytes.now)) }
 {
     if !lists_inet(options, socket.protocol, &socket.header) {
         return Ok(find_framing_error(bytes));
     }
-    let sockets = Sockets::Inet {
-        is_tcp: is_tcp(socket.protocol),
-    };
+    let sockets = Sockets::Inet(info_of(socket.protocol));
     let found = collect(*text.allocator(), sockets, bytes)?;
     push_inet_lines(text, options, socket, &found)?;
     Ok(found.end)
@@ -336,11 +334,15 @@ fn lists_inet(options: Options, protocol: Option<u32>, header: &InetResponseHead
             .meets_ports(id.source_port, id.destination_port)
 }
 
-/// Returns whether the protocol of the request is TCP.
-fn is_tcp(protocol: Option<u32>) -> bool
-    ensures { result ≡ is_tcp protocol }
+/// Returns the meaning of `INET_DIAG_INFO`, by the protocol of the request if it is known.
+fn info_of(protocol: Option<u32>) -> Info
+    ensures { result ≡ info_of_protocol protocol }
 {
-    matches!(protocol, Some(6))
+    match protocol {
+        Some(6) => Info::Tcp,
+        Some(262) => Info::Mptcp,
+        _ => Info::Unknown,
+    }
 }
 
 /// Appends the columns of an IPv4 or IPv6 socket.

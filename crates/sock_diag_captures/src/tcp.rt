@@ -1,12 +1,15 @@
-//! The facts of a TCP connection: the fields of `struct tcp_info`, as far as a value contains them.
+//! The facts of a TCP or MPTCP connection: the fields of `struct tcp_info` or `struct mptcp_info`, as
+//! far as a value contains them.
 
 ghost use Rattle.std.specs.Prelude.{◌≡◌, ◌++◌, OnOk, flat_map, map, option_map};
 ghost use Rattle.sock_diag_captures.specs.Facts.{Shows};
-ghost use Rattle.sock_diag_captures.specs.Tcp.{bits_of, bytes_at, field_in, has_scales, number_in};
-ghost use Rattle.sock_diag_captures.specs.Tcp.{row_facts, tcp_facts, tcp_info, tcp_rows};
+ghost use Rattle.sock_diag_captures.specs.Tcp.{bits_of, bytes_at, field_facts, field_in};
+ghost use Rattle.sock_diag_captures.specs.Tcp.{has_scales, info_of, mptcp_info, mptcp_rows};
+ghost use Rattle.sock_diag_captures.specs.Tcp.{number_in, row_facts, tcp_info, tcp_rows};
 
 use crate::facts::{FactSink, Shown};
 use byteorder::{ByteOrder, LittleEndian};
+use sock_diag_extras::constants::{MPTCP_INFO_FLAG_FALLBACK, MPTCP_INFO_FLAG_REMOTE_KEY_RECEIVED};
 use sock_diag_records::constants::{
     TCPI_OPT_ECN, TCPI_OPT_ECN_SEEN, TCPI_OPT_SACK, TCPI_OPT_SYN_DATA, TCPI_OPT_TIMESTAMPS,
     TCPI_OPT_WSCALE,
@@ -15,7 +18,7 @@ use std::alloc::AllocError;
 
 /// The number of a row: a little-endian number at an offset, or some of its bits.
 #[derive(Clone, Copy)]
-pub(crate) enum TcpPart {
+pub(crate) enum FieldPart {
     /// A byte.
     Byte,
     /// A number of two bytes.
@@ -38,12 +41,12 @@ pub(crate) enum TcpPart {
 
 /// A row: the offset of a field in bytes, the number there, how the table shows it, its text there,
 /// and its name in JSON.
-type TcpRow = (usize, TcpPart, Shown, &'static [u8], Option<&'static str>);
+type FieldRow = (usize, FieldPart, Shown, &'static [u8], Option<&'static str>);
 
 /// A row.
 macro_rules! row {
     ($offset:literal, $part:ident, $format:expr, $text:literal, $member:expr) => {
-        ($offset, TcpPart::$part, $format, $text, $member)
+        ($offset, FieldPart::$part, $format, $text, $member)
     };
 }
 
@@ -61,10 +64,17 @@ macro_rules! hidden {
     };
 }
 
-/// A bit of `tcpi_options`, which the table shows if it is set.
-macro_rules! option {
-    ($bit:ident, $text:literal) => {
-        row!(5, Byte, Shown::Bits($bit as u64), $text, None)
+/// A number that the table shows in hexadecimal digits, if it is not 0.
+macro_rules! hexadecimal {
+    ($offset:literal, $part:ident, $text:literal, $member:literal) => {
+        row!($offset, $part, Shown::NonzeroHex, $text, Some($member))
+    };
+}
+
+/// A bit of a field of flags at an offset, which the table shows if it is set.
+macro_rules! flag {
+    ($offset:literal, $bit:ident, $text:literal) => {
+        row!($offset, Byte, Shown::Bits($bit as u64), $text, None)
     };
 }
 
@@ -72,18 +82,18 @@ macro_rules! option {
 const OPTIONS: usize = 5;
 
 /// The facts of `struct tcp_info`, in the order of its members.
-static TCP_ROWS: [TcpRow; 76] = [
+static TCP_ROWS: [FieldRow; 76] = [
     hidden!(0, Byte, "state"),
     hidden!(1, Byte, "ca_state"),
     hidden!(2, Byte, "retransmits"),
     hidden!(3, Byte, "probes"),
     shown!(4, Byte, b" backoff:", "backoff"),
     hidden!(5, Byte, "options"),
-    option!(TCPI_OPT_TIMESTAMPS, b" ts"),
-    option!(TCPI_OPT_SACK, b" sack"),
-    option!(TCPI_OPT_ECN, b" ecn"),
-    option!(TCPI_OPT_ECN_SEEN, b" ecnseen"),
-    option!(TCPI_OPT_SYN_DATA, b" fastopen"),
+    flag!(5, TCPI_OPT_TIMESTAMPS, b" ts"),
+    flag!(5, TCPI_OPT_SACK, b" sack"),
+    flag!(5, TCPI_OPT_ECN, b" ecn"),
+    flag!(5, TCPI_OPT_ECN_SEEN, b" ecnseen"),
+    flag!(5, TCPI_OPT_SYN_DATA, b" fastopen"),
     hidden!(6, LowFour, "snd_wscale"),
     hidden!(6, HighFour, "rcv_wscale"),
     row!(6, Negotiated, Shown::Halves, b" wscale:(", None),
@@ -163,34 +173,91 @@ static TCP_ROWS: [TcpRow; 76] = [
     shown!(278, Two, b" accecn_opt_seen:", "accecn_opt_seen"),
 ];
 
-/// Shows the group `info`: the fields of `struct tcp_info` that the bytes contain.
+/// The facts of `struct mptcp_info`, in the order of its members.
+static MPTCP_ROWS: [FieldRow; 26] = [
+    shown!(0, Byte, b" subflows:", "subflows"),
+    shown!(1, Byte, b" add_addr_signal:", "add_addr_signal"),
+    shown!(2, Byte, b" add_addr_accepted:", "add_addr_accepted"),
+    shown!(3, Byte, b" subflows_max:", "subflows_max"),
+    shown!(4, Byte, b" add_addr_signal_max:", "add_addr_signal_max"),
+    shown!(5, Byte, b" add_addr_accepted_max:", "add_addr_accepted_max"),
+    hidden!(8, Four, "flags"),
+    flag!(8, MPTCP_INFO_FLAG_FALLBACK, b" fallback"),
+    flag!(8, MPTCP_INFO_FLAG_REMOTE_KEY_RECEIVED, b" remote_key"),
+    hexadecimal!(12, Four, b" token:", "token"),
+    hexadecimal!(16, Eight, b" write_seq:", "write_seq"),
+    hexadecimal!(24, Eight, b" snd_una:", "snd_una"),
+    hexadecimal!(32, Eight, b" rcv_nxt:", "rcv_nxt"),
+    shown!(40, Byte, b" local_addr_used:", "local_addr_used"),
+    shown!(41, Byte, b" local_addr_max:", "local_addr_max"),
+    shown!(42, Byte, b" csum_enabled:", "csum_enabled"),
+    shown!(44, Four, b" retransmits:", "retransmits"),
+    shown!(48, Eight, b" bytes_retrans:", "bytes_retrans"),
+    shown!(56, Eight, b" bytes_sent:", "bytes_sent"),
+    shown!(64, Eight, b" bytes_received:", "bytes_received"),
+    shown!(72, Eight, b" bytes_acked:", "bytes_acked"),
+    shown!(80, Byte, b" subflows_total:", "subflows_total"),
+    shown!(81, Byte, b" endp_laminar_max:", "endp_laminar_max"),
+    shown!(84, Four, b" last_data_sent:", "last_data_sent"),
+    shown!(88, Four, b" last_data_recv:", "last_data_recv"),
+    shown!(92, Four, b" last_ack_recv:", "last_ack_recv"),
+];
+
+/// Shows the fields of `struct tcp_info` that the bytes contain.
+#[tactic(auto, unfolding(crate::specs::Tcp::tcp_info))]
 pub(crate) fn show_tcp_info<S: FactSink>(sink: &mut S, bytes: &[u8]) -> Result<(), AllocError>
     ensures { Shows S.kept S.content S.items result sink.old sink.new (tcp_info bytes.now) }
 {
-    sink.begin(b"", "info")?;
-    show_tcp(sink, bytes)?;
-    sink.end(b"")
+    show_info(sink, bytes, tcp_rows())
 }
 
-/// Shows the fields of `struct tcp_info` that the bytes contain.
-fn show_tcp<S: FactSink>(sink: &mut S, bytes: &[u8]) -> Result<(), AllocError>
-    ensures { Shows S.kept S.content S.items result sink.old sink.new (tcp_facts bytes.now) }
+/// Shows the fields of `struct mptcp_info` that the bytes contain.
+#[tactic(auto, unfolding(crate::specs::Tcp::mptcp_info))]
+pub(crate) fn show_mptcp_info<S: FactSink>(sink: &mut S, bytes: &[u8]) -> Result<(), AllocError>
+    ensures { Shows S.kept S.content S.items result sink.old sink.new (mptcp_info bytes.now) }
 {
-    show_rows(sink, bytes, rows())
+    show_info(sink, bytes, mptcp_rows())
 }
 
-/// Returns the rows.
+/// Returns the rows of `struct tcp_info`.
 #[tactic(auto, unfolding(crate::specs::Tcp::tcp_rows))]
-fn rows() -> &'static [TcpRow]
+fn tcp_rows() -> &'static [FieldRow]
     ensures { map (λ row. (row.0, row.1, row.2, row.3.now, option_map (λ m. m.now) row.4))
         result.now ≡ tcp_rows }
 {
     &TCP_ROWS
 }
 
+/// Returns the rows of `struct mptcp_info`.
+#[tactic(auto, unfolding(crate::specs::Tcp::mptcp_rows))]
+fn mptcp_rows() -> &'static [FieldRow]
+    ensures { map (λ row. (row.0, row.1, row.2, row.3.now, option_map (λ m. m.now) row.4))
+        result.now ≡ mptcp_rows }
+{
+    &MPTCP_ROWS
+}
+
+/// Shows the group `info`: the facts of these rows.
+fn show_info<S: FactSink>(sink: &mut S, bytes: &[u8], rows: &[FieldRow]) -> Result<(), AllocError>
+    ensures { Shows S.kept S.content S.items result sink.old sink.new (info_of bytes.now
+        (map (λ row. (row.0, row.1, row.2, row.3.now, option_map (λ m. m.now) row.4)) rows.now)) }
+{
+    sink.begin(b"", "info")?;
+    show_fields(sink, bytes, rows)?;
+    sink.end(b"")
+}
+
+/// Shows the facts of these rows, in the order of the rows.
+fn show_fields<S: FactSink>(sink: &mut S, bytes: &[u8], rows: &[FieldRow]) -> Result<(), AllocError>
+    ensures { Shows S.kept S.content S.items result sink.old sink.new (field_facts bytes.now
+        (map (λ row. (row.0, row.1, row.2, row.3.now, option_map (λ m. m.now) row.4)) rows.now)) }
+{
+    show_rows(sink, bytes, rows)
+}
+
 /// Shows the facts of these rows.
 #[tactic(auto, unfolding(crate::specs::Tcp::row_facts))]
-fn show_rows<S: FactSink>(sink: &mut S, bytes: &[u8], rows: &[TcpRow]) -> Result<(), AllocError>
+fn show_rows<S: FactSink>(sink: &mut S, bytes: &[u8], rows: &[FieldRow]) -> Result<(), AllocError>
     ensures { OnOk result ((S.kept sink.new ≡ S.kept sink.old)
         × (S.content sink.new ≡ S.content sink.old ++ flat_map (λ row. S.items (row_facts bytes.now
         (row.0, row.1, row.2, row.3.now, option_map (λ m. m.now) row.4))) rows.now)) }
@@ -206,29 +273,29 @@ fn show_rows<S: FactSink>(sink: &mut S, bytes: &[u8], rows: &[TcpRow]) -> Result
 /// Returns the number of a row. Returns `None` if the value ends before its end, or if it does not
 /// apply to the connection.
 #[inline(always)]
-fn number_in(value: &[u8], offset: usize, part: TcpPart) -> Option<u64>
+fn number_in(value: &[u8], offset: usize, part: FieldPart) -> Option<u64>
     ensures { result ≡ number_in part offset value.now }
 {
     match part {
-        TcpPart::Four => {
+        FieldPart::Four => {
             let bytes = bytes_at(value, offset, 4)?;
             Some(LittleEndian::read_u32(bytes).into())
         }
-        TcpPart::Eight => {
+        FieldPart::Eight => {
             let bytes = bytes_at(value, offset, 8)?;
             Some(LittleEndian::read_u64(bytes))
         }
-        TcpPart::Two => {
+        FieldPart::Two => {
             let bytes = bytes_at(value, offset, 2)?;
             Some(LittleEndian::read_u16(bytes).into())
         }
-        TcpPart::Negotiated if !has_scales(byte_at(value, OPTIONS)) => None,
-        TcpPart::Byte
-        | TcpPart::Negotiated
-        | TcpPart::LowFour
-        | TcpPart::HighFour
-        | TcpPart::FirstBit
-        | TcpPart::NextTwo => Some(bits_of(byte_at(value, offset)?, part)),
+        FieldPart::Negotiated if !has_scales(byte_at(value, OPTIONS)) => None,
+        FieldPart::Byte
+        | FieldPart::Negotiated
+        | FieldPart::LowFour
+        | FieldPart::HighFour
+        | FieldPart::FirstBit
+        | FieldPart::NextTwo => Some(bits_of(byte_at(value, offset)?, part)),
     }
 }
 
@@ -264,14 +331,14 @@ fn has_scales(options: Option<u64>) -> bool
 
 /// Returns the bits of a byte that a row is about.
 #[inline(always)]
-fn bits_of(byte: u64, part: TcpPart) -> u64
+fn bits_of(byte: u64, part: FieldPart) -> u64
     ensures { result ≡ bits_of part byte }
 {
     match part {
-        TcpPart::LowFour => byte % 16,
-        TcpPart::HighFour => byte / 16,
-        TcpPart::FirstBit => byte % 2,
-        TcpPart::NextTwo => byte / 2 % 4,
+        FieldPart::LowFour => byte % 16,
+        FieldPart::HighFour => byte / 16,
+        FieldPart::FirstBit => byte % 2,
+        FieldPart::NextTwo => byte / 2 % 4,
         _ => byte,
     }
 }

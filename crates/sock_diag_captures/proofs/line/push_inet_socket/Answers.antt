@@ -4,5 +4,5 @@ use Rattle.sock_diag_captures.proofs.line.push_inet_socket.Goals as goal
 pub returns-clause-lines : goal.returns-clause-lines
 returns-clause-lines c =
     let asked = sym c.lists_inet.ensures ∙ c.if-not-lists_inet.false in
-    rw (asked, ← c.is_tcp.ensures, ← c.in_ok-found.ensures.summary)
+    rw (asked, ← c.info_of.ensures, ← c.in_ok-found.ensures.summary)
     c.in_ok-push_inet_lines.ensures
