@@ -27,6 +27,13 @@ INET6_LINE = (
     "\t timer:(timewait,0ms,0) sk:0\n"
 )
 
+# The line of the IPv4 socket below, and the line of its details.
+INET4_LINE = (
+    "inet  ESTAB      0      0      5          1000  192.0.2.1:22                   192.0.2.2:4"
+    "0000\n"
+    "\t sk:0\n"
+)
+
 # A reply about a listening UNIX stream socket with the abstract name `a b\`.
 UNIX = (
     "3800000014000200070000000000000001010a000e4f0000a00200000000000009000000006120625c0000000c"
@@ -484,6 +491,36 @@ def lists_objects(sslist):
         sslist.run(pcap(HEADERS[0], (SOCK_DIAG, reply)), ["--json"], [shown, "\n"])
 
 
+def selects_by_address(sslist):
+    """Options select the sockets whose addresses begin with these bits, of the same IP version. An
+    IPv4-mapped address is an IPv6 address. fe80 is 1111 1110 1000 0000."""
+    mapped = INET6.replace("fe800000000000000000000000000001", "00000000000000000000ffffc0000201")
+    mapped_line = INET6_LINE.replace("[fe80::1]%3:22         ", "[::ffff:192.0.2.1]%3:22")
+    for reply, line, meeting, others in [
+        (INET6, INET6_LINE,
+            "--src=fe80::1 --src=FE80:0::0:1/128 --src=fe80::/10 --src=fec0::/9 --src=ff00::/7 "
+            "--src=::/0 --dst=2001:db8::fe/127 --dst=2001:db8:0::255.255.255.255/96 --sport=22-22",
+            "--src=fe80:: --src=fec0::/10 --src=ff00::/8 --src=0.0.0.0/0 --dst=2001:db8::fe "
+            "--dst=fe80::1 --dst=2001:db8::7f/121 --sport=23-39999 --dport=22-39999"),
+        (mapped, mapped_line,
+            "--src=::ffff:192.0.2.1 --src=::ffff:c000:201 --src=::ffff:0:0/96 --src=::/80",
+            "--src=192.0.2.1 --src=0.0.0.0/0 --src=::192.0.2.1 --src=::/81"),
+        (OBJECTS[4][0], INET4_LINE,
+            "--src=192.0.2.1 --src=192.0.2.1/32 --src=192.0.2.0/31 --src=192.0.2.255/24 "
+            "--src=255.0.0.0/2 --dst=192.0.2.3/31 --dst=10.0.0.0/0",
+            "--src=192.0.2.0 --src=192.0.2.2/31 --src=255.0.0.0/3 --dst=192.0.2.1 --src=::/0 "
+            "--src=::ffff:192.0.2.1 --dst=192.0.2.3"),
+        (UNIX, UNIX_LINE, "-x", "--src=0.0.0.0/0 --dst=::/0 --sport=0-65535"),
+    ]:
+        capture = pcap(HEADERS[0], (SOCK_DIAG, reply))
+        for option in meeting.split():
+            sslist.run(capture, [option], [line])
+        for option in others.split():
+            sslist.run(capture, [option], [])
+    both = pcap(HEADERS[0], (SOCK_DIAG, INET6), (SOCK_DIAG, mapped), (SOCK_DIAG, UNIX))
+    sslist.run(both, ["--src=::/0", "--dst=2001::/16", "--src=::/64"], [mapped_line])
+
+
 def lists_requests(sslist):
     """Lines of requests, with times in microseconds and nanoseconds."""
     packets = [(SOCK_DIAG, it) for it in (REQUEST, UNIX, MPTCP_REQUEST, OTHER_REQUEST)]
@@ -593,8 +630,8 @@ def main():
     sslist, failed = Lister(sys.argv[1]), 0
     for check in (
         lists_captures_of_both_orders, lists_other_families, lists_attributes_of_newer_kernels,
-        lists_short_tcp_info, shows_names_in_utf8, lists_objects, lists_requests,
-        lists_a_long_datagram, reports_where_a_capture_is_truncated, reports_why,
+        lists_short_tcp_info, shows_names_in_utf8, lists_objects, selects_by_address,
+        lists_requests, lists_a_long_datagram, reports_where_a_capture_is_truncated, reports_why,
         lists_sections_of_both_orders, lists_times_of_requests, reports_where_a_file_is_truncated,
         reports_invalid_blocks,
     ):

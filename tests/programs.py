@@ -3,6 +3,7 @@
 arguments, and compares standard output, standard error and exit status. Prints the differences. The
 exit status is 1 if there is one.
 """
+import ipaddress
 import json
 import os
 import re
@@ -161,7 +162,7 @@ def test_sslist(program):
         (["-ts"], 2, b"", unknown % b"-s in -ts; to count sockets, count the lines of -HO"),
         (["-r"], 2, b"", unknown % b"-r; names are never resolved"),
         (["-A"], 2, b"", unknown % b"-A; select sockets by -t, -u, -M, -x, -0 or -f FAMILY"),
-        (["dst"], 1, b"", rb"sslist: dst: .*; addresses cannot be filtered: .*\n"),
+        (["dst"], 1, b"", rb"sslist: dst: .*; a filter is written .* or --src=ADDRESS\n"),
         (["-tqf", "x"], 2, b"", unknown % b"-q in -tqf"),
         (["-\u00e9"], 2, b"", unknown % rb"-\\xc3 in -\\xc3\\xa9"),
         (["-t", "--no", "--help"], 2, b"", unknown % b"--no"),
@@ -200,6 +201,8 @@ def test_rejections(program):
         (["-Vt", "--help"], "-V has to be alone, not in -Vt"),
         (["--sport", "22"], "--sport needs a value: write --sport=PORT"),
         (["-t", "--dport"], "--dport needs a value: write --dport=PORT"),
+        *[([f"--{it}", "::1"], f"--{it} needs a value: write --{it}=ADDRESS")
+            for it in ("src", "dst")],
         (["--state", "listening"], "--state needs a value: write --state=STATE"),
         (["--family", "inet"], "--family needs a value: write --family=FAMILY"),
         *[([f"--{it}=1", "-h"], f"--{it} takes no value")
@@ -550,7 +553,8 @@ def test_options(program):
         expected = run(program, [letters], capture)[:2]
         check(program, names, capture, *expected, errors)
     check_selections(program, capture, heading, rows, errors)
-    check_ports(program, capture, heading, rows, errors)
+    check_endpoints(program, capture, heading, rows, errors)
+    check_values(program)
     for arguments in (["-n"], ["-a"], ["-na"], ["-la"], ["-oemi"], ["-o", "-e", "-mi"]):
         check(program, arguments, capture, status, table, errors)
     for option in DETAILS:
@@ -606,29 +610,60 @@ def check_selections(program, capture, heading, rows, errors):
             check(program, arguments, capture, status, table, errors)
 
 
-def check_ports(program, capture, heading, rows, errors):
-    """Checks which rows are listed with conditions on ports."""
-    for arguments, at, least, most in [
-        (["--sport=37265"], 6, 37265, 37265), (["--dport=42067"], 7, 42067, 42067),
-        (["--sport=53634-"], 6, 53634, 65535), (["--sport=-7003"], 6, 0, 7003),
-        (["--dport=1-"], 7, 1, 65535), (["--dport=1", "--dport=-0"], 7, 0, 0),
+def check_endpoints(program, capture, heading, rows, errors):
+    """Checks which rows are listed with conditions on ports and addresses. Each row of the table
+    has the options, the index of the column with this end, and which port and address meet them."""
+    ipv4, ipv6 = ipaddress.IPv4Address, ipaddress.IPv6Address
+    for arguments, at, is_met in [
+        (["--sport=37265"], 6, lambda port, ip: port == 37265),
+        (["--dport=42067"], 7, lambda port, ip: port == 42067),
+        (["--sport=53634-"], 6, lambda port, ip: port >= 53634),
+        (["--sport=-7003"], 6, lambda port, ip: port <= 7003),
+        (["--dport=1-"], 7, lambda port, ip: port >= 1),
+        (["--dport=1", "--dport=-0"], 7, lambda port, ip: port == 0),
+        (["--sport=7003-7013"], 6, lambda port, ip: 7003 <= port <= 7013),
+        (["--sport=7004-7012"], 6, lambda port, ip: 7004 <= port <= 7012),
+        (["--dport=42067-042067"], 7, lambda port, ip: port == 42067),
+        (["--src=198.51.100.1"], 6, lambda port, ip: ip == ipv4("198.51.100.1")),
+        (["--dst=198.51.100.7/29"], 7, lambda port, ip: ip == ipv4("198.51.100.2")),
+        (["--src=127.1.2.3/8"], 6, lambda port, ip: ip == ipv4("127.0.0.1")),
+        (["--dst=0.0.0.0/0"], 7, lambda port, ip: ip.version == 4),
+        (["--dst=128.0.0.0/1"], 7, lambda port, ip: ip == ipv4("198.51.100.2")),
+        (["--dst=0.0.0.0/1", "--dst=0.0.0.0/32"], 7, lambda port, ip: ip == ipv4("0.0.0.0")),
+        (["--src=::1"], 6, lambda port, ip: ip == ipv6("::1")),
+        (["--dst=0:0::/127"], 7, lambda port, ip: ip.version == 6),
+        (["--dst=::/128"], 7, lambda port, ip: ip == ipv6("::")),
+        (["--src=ffff::/0"], 6, lambda port, ip: ip.version == 6),
     ]:
         chosen = []
         for row in rows:
-            kind, port = row.split()[0], row.split()[at].rpartition(b":")[2].replace(b"*", b"0")
+            kind, (ip, _, port) = row.split()[0], row.split()[at].decode().rpartition(":")
             is_ip = kind in (b"inet", b"inet6", b"tcp", b"udp", b"mptcp")
-            if is_ip and least <= int(port) <= most:
+            if is_ip and is_met(int(port.replace("*", "0")), ipaddress.ip_address(ip.strip("[]"))):
                 chosen.append(row)
         assert 0 < len(chosen) < len(rows), arguments
         check(program, ["-O", *arguments], capture, 0, heading + b"".join(chosen), errors)
-    for word in ("--sport=", "--sport=65536", "--dport=ssh", "--dport=1-2", "--state=UNKNOWN"):
-        form = "a port is N, N- or -N, where N is 0 to 65535, not a range or a name"
-        wrong = f"invalid port in {word}: {form}"
-        if word.startswith("--state"):
-            form = "states are named as in the column State, such as LISTEN, one in each option"
-            wrong = f"unknown state in {word}: {form}"
-        text = f"sslist: {wrong}; try sslist --help\n".encode()
-        check(program, [word, "-h"], capture, 2, b"", text)
+    nothing = ["--src=::ffff:127.0.0.1", "--sport=7005-7012", "--dst=2001:db8::/32"]
+    for argument in nothing:
+        check(program, ["-O", argument], capture, 0, heading, errors)
+
+
+def check_values(program):
+    """Compares the lines about invalid values of filters."""
+    for words, what, form in [
+        ("--sport= --sport=65536 --dport=ssh --dport=2-1 --sport=- --sport=1-2-3 --sport=1-65536",
+            "invalid port", "a port is N, N-M, N- or -M, where N and M are 0 to 65535, and N is at "
+            "most M"),
+        ("--src= --src=1.2.3 --dst=01.2.3.4 --dst=[::1] --src=::1%1 --src=1.2.3.4/33 --dst=::/129 "
+            "--src=1.2.3.4/ --src=/8 --dst=::1/-1 --dst=1.2.3.4/8/8 --src=localhost --src=::1/65664",
+            "invalid address",
+            "an address is IPv4 or IPv6, without a port; /LENGTH may follow it"),
+        ("--state=UNKNOWN", "unknown state",
+            "states are named as in the column State, such as LISTEN, one in each option"),
+    ]:
+        for word in words.split():
+            line = f"sslist: {what} in {word}: {form}; try sslist --help\n"
+            check(program, [word, "-h"], b"", 2, b"", re.escape(line.encode()))
 
 
 def columns_of(line):

@@ -52,8 +52,8 @@ pub use requests::{Query, Requests};
 use sock_diag_listing::reports::report_failure;
 pub use sock_diag_listing::{ListError, PacketOutput, escaped};
 pub use sslist_options::{
-    Choice, Detail, Family, ListCapture, Options, PortCondition, Rejection, SocketFilter, choose,
-    list_captures, names_several,
+    AddressCondition, Choice, Detail, Family, ListCapture, Options, PortCondition, Rejection,
+    SocketFilter, choose, list_captures, names_several,
 };
 use std::alloc::Global;
 use std::io::{Read, Write};
@@ -92,15 +92,19 @@ Filter sockets (a socket is listed if it meets all of these):
       --state=STATE      in this state; several options add up
       --sport=PORT       IPv4 and IPv6 sockets with this local port
       --dport=PORT       IPv4 and IPv6 sockets with this remote port
+      --src=ADDRESS      IPv4 or IPv6 sockets with this local address
+      --dst=ADDRESS      IPv4 or IPv6 sockets with this remote address
   STATE is established (or estab), syn-sent, syn-recv (or syn-rcv), fin-wait-1,
   fin-wait-2, time-wait, closed (or close, unconnected, unconn), close-wait,
   last-ack, listening (or listen) or closing; or a group: all, connected (all
   but closed and listening), synchronized (connected but not syn-sent), bucket
   (syn-recv and time-wait), big (all but bucket). Case does not matter. Such an
   option replaces -l and -a.
-  PORT is a number, not a name: N is port N, N- is N or more, -N is N or less.
-  Of several for the same port the last one counts. Filters written as in ss(8),
-  such as state listening, are taken as names of files.
+  PORT is a number, not a name: N is port N, N-M is N to M, N- is N or more, -M
+  is M or less. ADDRESS is IPv4, for IPv4 sockets, or IPv6, for IPv6 sockets.
+  ADDRESS/LENGTH is all addresses with the same first LENGTH bits: 10.0.0.0/8.
+  Of several for the same port or address the last one counts. Filters written
+  as in ss(8), such as state listening, are taken as names of files.
 
 Select details (all by default; several options add up):
   -o, --options          the timer

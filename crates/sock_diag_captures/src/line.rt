@@ -320,8 +320,8 @@ fn push_inet_lines(
 }
 
 /// Returns whether the IPv4 or IPv6 socket with this header is listed: if sockets of its protocol,
-/// of its family and in its state are, and its ports meet the conditions on them. `protocol` is
-/// that of the request, if it is known.
+/// of its family and in its state are, and its ports and addresses meet the conditions on them.
+/// `protocol` is that of the request, if it is known.
 fn lists_inet(options: Options, protocol: Option<u32>, header: &InetResponseHeader) -> bool
     ensures { result ≡ lists_inet options protocol header.now }
 {
@@ -332,6 +332,9 @@ fn lists_inet(options: Options, protocol: Option<u32>, header: &InetResponseHead
         && options
             .filter
             .meets_ports(id.source_port, id.destination_port)
+        && options
+            .filter
+            .meets_addresses(id.source_address, id.destination_address)
 }
 
 /// Returns the meaning of `INET_DIAG_INFO`, by the protocol of the request if it is known.

@@ -18,10 +18,7 @@ use std::{env, str};
 const LONGEST_ARGUMENT: usize = 131_072;
 
 /// What follows the error about a word of a filter of ss(8) that is not the name of a file.
-const FILTER_HINT: &str = "; a filter is written --state=STATE, --sport=PORT or --dport=PORT";
-
-/// What follows the error about a word of a filter of ss(8) that is about addresses.
-const ADDRESS_HINT: &str = "; addresses cannot be filtered: select lines of --json";
+const FILTER_HINT: &str = "; a filter is written --state=STATE, --sport=PORT or --src=ADDRESS";
 
 fn main(rt: HostRuntime) -> ExitCode {
     let mut arguments = match env::args(&rt) {
@@ -100,9 +97,7 @@ fn list_file(rt: &HostRuntime, options: Options, name: &str, heading: &[u8]) -> 
     match File::open(rt, name) {
         Ok(file) => list(rt, options, front.as_str(), heading, file),
         Err(error) => {
-            let hint = if matches!(name, "src" | "dst") {
-                ADDRESS_HINT
-            } else if is_filter_word(name) {
+            let hint = if is_filter_word(name) {
                 FILTER_HINT
             } else {
                 ""
@@ -120,7 +115,11 @@ fn is_filter_word(name: &str) -> bool {
         Some((word, _)) => word,
         None => name,
     };
-    name.contains('=') || matches!(word, "state" | "exclude" | "sport" | "dport")
+    name.contains('=')
+        || matches!(
+            word,
+            "state" | "exclude" | "sport" | "dport" | "src" | "dst"
+        )
 }
 
 /// Lists the capture on standard input. A terminal is rejected, since nobody types a capture.
@@ -215,8 +214,13 @@ fn rejection_text(alloc: Global, reason: Rejection, argument: &str) -> Result<St
             format!(in alloc; "unknown state in {shown}: {form}")
         }
         Rejection::InvalidPortValue => {
-            let form = "a port is N, N- or -N, where N is 0 to 65535, not a range or a name";
+            let form =
+                "a port is N, N-M, N- or -M, where N and M are 0 to 65535, and N is at most M";
             format!(in alloc; "invalid port in {shown}: {form}")
+        }
+        Rejection::InvalidAddressValue => {
+            let form = "an address is IPv4 or IPv6, without a port; /LENGTH may follow it";
+            format!(in alloc; "invalid address in {shown}: {form}")
         }
     }
 }
@@ -253,6 +257,7 @@ fn name_of_value(option: &str) -> &'static str {
     match option {
         "--family" => "FAMILY",
         "--state" => "STATE",
+        "--src" | "--dst" => "ADDRESS",
         _ => "PORT",
     }
 }
