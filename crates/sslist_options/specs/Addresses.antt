@@ -41,8 +41,8 @@ meets_address (Some c) address = begins_alike c.length c.address address
 -- ---- conditions of a command line
 
 -- The address that a text is, as std::net parses it: four decimal numbers, or a form of RFC 4291,
--- section 2.2. `ip_in_is_ip_text` of specs/laws/AddressText states that it is the one address for
--- which the grammar of std, `IsIpText`, has this text. None if there is none.
+-- section 2.2. It is the one for which the grammar of std, `IsIpText`, has this text (`ip_in` of
+-- src/addresses.rt, clause `spelled`). None if there is none.
 unfoldable pub ip_in : List ℕ → Option IpAddr
 ip_in text =
     option_or (option_map (λ octets. V4 record { octets = octets }) (whole_value (read_ipv4 text)))
