@@ -47,7 +47,8 @@ use Rattle.sock_diag_captures.specs.JsonOthers.{netlink_header_members, packet_h
 use Rattle.sock_diag_captures.specs.JsonOthers.{vsock_header_members, xdp_header_members}
 use Rattle.sock_diag_captures.specs.declared.list.Diagnostic.{Diagnostic}
 use Rattle.sock_diag_captures.specs.declared.list.Diagnostic.TheVariants.{Refused, Answered, Lost}
-use Rattle.sock_diag_captures.specs.declared.list.Diagnostic.TheVariants.{Invalid, NoEntry, NoNumber}
+use Rattle.sock_diag_captures.specs.declared.list.Diagnostic.TheVariants.{Invalid, NoEntry}
+use Rattle.sock_diag_captures.specs.declared.list.Diagnostic.TheVariants.{NoNumber}
 
 -- ---- replies
 

@@ -1,6 +1,6 @@
 -- The facts of a TCP or MPTCP connection: the members of `struct tcp_info` of linux/tcp.h or of
--- `struct mptcp_info` of linux/mptcp.h, as Linux 6.18 defines them. JSON has them under the kernel's
--- names without the prefix `tcpi_` or `mptcpi_`.
+-- `struct mptcp_info` of linux/mptcp.h, as Linux 6.18 defines them. JSON has them under the
+-- kernel's names without the prefix `tcpi_` or `mptcpi_`.
 use Rattle.std.specs.Prelude.{ℕ, ◌+◌, ◌==◌, ◌/◌, ◌%◌, nat_le, if◌then◌else◌, Bool, false, not, List}
 use Rattle.std.specs.Prelude.{[], ◌∷◌, bit_and, codes, drop, length, Option, None, Some, option_map}
 use Rattle.std.specs.Option.{option_map_or}
@@ -35,7 +35,7 @@ abbrev pub part_of_width : ℕ → FieldPart
 part_of_width width =
     if width == 1 then Byte else if width == 2 then Two else if width == 4 then Four else Eight
 
--- `row_of span format text member`: the row of a field with this offset (`.0`) and this width (`.1`)
+-- `row_of span format text member`: the row of a field with this offset (`.0`) and width (`.1`)
 abbrev pub row_of : ℕ × ℕ → Shown → List ℕ → Option (List ℕ) → FieldRow
 row_of span format text member = (span.0, part_of_width span.1, format, text, member)
 

@@ -283,7 +283,8 @@ fn push_inet_socket(
 ) -> Result<Option<DecodeError>, AllocError>
     ensures lines { OnOk result (text.new.items ≡ text.old.items ++ inet_output options
         socket.now.protocol socket.now.timer socket.now.header
-        (summary_of (Inet (info_of_protocol socket.now.protocol)) (attributes_or_error 0 bytes.now))) }
+        (summary_of (Inet (info_of_protocol socket.now.protocol))
+        (attributes_or_error 0 bytes.now))) }
     ensures error { IfOk result
         (λ error. error ≡ framing_error_of (attributes_or_error 0 bytes.now)) }
 {

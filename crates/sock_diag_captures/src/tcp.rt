@@ -1,5 +1,5 @@
-//! The facts of a TCP or MPTCP connection: the fields of `struct tcp_info` or `struct mptcp_info`, as
-//! far as a value contains them.
+//! The facts of a TCP or MPTCP connection: the fields of `struct tcp_info` or `struct mptcp_info`,
+//! as far as a value contains them.
 
 ghost use Rattle.std.specs.Prelude.{◌≡◌, ◌++◌, OnOk, flat_map, map, option_map};
 ghost use Rattle.sock_diag_captures.specs.Facts.{Shows};

@@ -20,5 +20,5 @@ returns-clause-diagnostics c =
     let position = c.args.position in
     line_with_more c.args.written.now.diagnostics.items _ _ _ c.args.written.now.front.now
     (decimal position.packet) (decimal position.message) (diagnostic_text c.args.diagnostic.now)
-    (explanation (message_parts c.args.explained.now)) c.in-Ok.ensures.bytes c.in_ok-push_explanation.ensures
-    c.in_ok-push.ensures.items
+    (explanation (message_parts c.args.explained.now)) c.in-Ok.ensures.bytes
+    c.in_ok-push_explanation.ensures c.in_ok-push.ensures.items
