@@ -13,9 +13,9 @@ use Rattle.sslist_options.specs.declared.filter.SocketFilter.{SocketFilter}
 
 -- ---- states
 
--- the bit of a state in a set of states; states from 32 on have none
+-- the bit of a state in a set of states; states from 31 on share one
 abbrev pub state_bit : ℕ → ℕ
-state_bit state = if nat_lt state 32 then 2 ^ state else 0
+state_bit state = if nat_lt state 31 then 2 ^ state else 2 ^ 31
 
 -- the state is one of these states
 abbrev pub has_state : ℕ → ℕ → Bool

@@ -79,11 +79,11 @@ fn meets_port(condition: Option<PortCondition>, port: u16) -> bool
     }
 }
 
-/// Returns the bit of a state. States from 32 on have none.
+/// Returns the bit of a state. States from 31 on share one.
 fn state_bit(state: u8) -> u32
     ensures { result ≡ state_bit state }
 {
-    if state < 32 { 1 << state } else { 0 }
+    if state < 31 { 1 << state } else { 1 << 31 }
 }
 
 /// Returns the states with this name, a bit for each: a name that the filter `state` of ss(8) has,
