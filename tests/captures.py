@@ -521,6 +521,16 @@ def selects_by_address(sslist):
     sslist.run(both, ["--src=::/0", "--dst=2001::/16", "--src=::/64"], [mapped_line])
 
 
+def selects_states_without_a_name(sslist):
+    """States above 11 are in each group except bucket."""
+    line = UNIX_LINE.replace("LISTEN ", "UNKNOWN")
+    for state in ("0c", "1f", "20", "ff"):
+        capture = pcap(HEADERS[0], (SOCK_DIAG, UNIX[:36] + state + UNIX[38:]))
+        for group in ("all", "connected", "synchronized", "big"):
+            sslist.run(capture, [f"--state={group}"], [line])
+        sslist.run(capture, ["--state=bucket"], [])
+
+
 def lists_requests(sslist):
     """Lines of requests, with times in microseconds and nanoseconds."""
     packets = [(SOCK_DIAG, it) for it in (REQUEST, UNIX, MPTCP_REQUEST, OTHER_REQUEST)]
@@ -631,7 +641,7 @@ def main():
     for check in (
         lists_captures_of_both_orders, lists_other_families, lists_attributes_of_newer_kernels,
         lists_short_tcp_info, shows_names_in_utf8, lists_objects, selects_by_address,
-        lists_requests, lists_a_long_datagram, reports_where_a_capture_is_truncated, reports_why,
+        selects_states_without_a_name, lists_requests, lists_a_long_datagram, reports_where_a_capture_is_truncated, reports_why,
         lists_sections_of_both_orders, lists_times_of_requests, reports_where_a_file_is_truncated,
         reports_invalid_blocks,
     ):
