@@ -100,10 +100,11 @@ struct Position {
 /// Returns whether the packet was listed completely. It was not if it was truncated (it has
 /// fewer bytes than `header.whole_length`), or if it has fewer than the 16 bytes of the cooked
 /// header. Nor was it if its datagram is one of sock_diag(7), but not a request, and one of its
-/// messages is invalid, has an error of the kernel other than `ENOENT` and `EINVAL`, or reports
-/// lost data or a changed dump, or bytes after the last message are not a message. An invalid value
-/// of an attribute, and a reply about a socket of an unknown family, are not errors. Packets of
-/// other protocols and the content of requests are not checked.
+/// messages is invalid, has an error of the kernel other than `ENOENT` and `EINVAL`, is too short
+/// for the number of an error, or reports lost data or a changed dump, or bytes after the last
+/// message are not a message. An invalid value of an attribute, and a reply about a socket of an
+/// unknown family, are not errors. Packets of other protocols and the content of requests are not
+/// checked.
 ///
 /// Stores a request for IPv4 or IPv6 sockets in `requests`, so that the protocol of its replies is
 /// known. Appends a line for a request if `--requests` is set. If it fails, an allocation failed,
