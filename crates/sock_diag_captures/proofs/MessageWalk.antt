@@ -1,7 +1,7 @@
 -- Lemmas about the messages of a datagram, which are listed one by one.
 use Rattle.std.proofs.Common.{◌≡◌, ◌≢◌, List, [], ◌∷◌, ◌++◌, ℕ, ◌+◌, ◌≤◌, ◌<◌, Bool, true, false}
 use Rattle.std.proofs.Common.{length, refl, sym, ap, subst, ◌∙◌, append_assoc, arith}
-use Rattle.std.specs.Prelude.{Option, None, Some, ◌&&◌}
+use Rattle.std.specs.Prelude.{Option, ◌&&◌}
 use Rattle.std.specs.List.{flat_map, list_all}
 use Rattle.std.proofs.lemmas.Bool.Decides.{leb_tells}
 use Rattle.std.proofs.lemmas.List.{append-nil, length-append}
@@ -12,7 +12,6 @@ use Rattle.netlink_core.specs.Datagram.{SplitsIntoMessages, StartsWithMessage}
 use Rattle.netlink_core.specs.Header.{HasHeader, IsMessageError}
 use Rattle.netlink_core.specs.declared.error.DecodeError.{DecodeError}
 use Rattle.netlink_core.specs.declared.header.NetlinkHeader.{NetlinkHeader}
-use Rattle.netlink_core.specs.declared.header.TheConstants.{NETLINK_HEADER_LEN}
 use Rattle.sock_diag_captures.specs.Diagnostics.{lines_about, lines_about_message}
 use Rattle.sock_diag_captures.specs.Messages.{begins_with_message, header_in, header_with}
 use Rattle.sock_diag_captures.specs.Messages.{MessageParts, message_in}

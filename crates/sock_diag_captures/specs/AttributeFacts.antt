@@ -1,6 +1,6 @@
 -- Facts of the attributes of a reply. Names in JSON are the kernel's names in lowercase, without
 -- the prefix that all names of a struct or an enum have.
-use Rattle.std.specs.Prelude.{ℕ, ◌==◌, ◌&&◌, nat_le, if◌then◌else◌, List, [], ◌∷◌, codes, length}
+use Rattle.std.specs.Prelude.{ℕ, ◌==◌, nat_le, if◌then◌else◌, List, [], ◌∷◌, codes, length}
 use Rattle.std.specs.Prelude.{Bool, false, None, Some, Ok, Option}
 use Rattle.std.specs.Option.{option_map_or}
 use Rattle.byteorder.specs.Endian.{little_number}

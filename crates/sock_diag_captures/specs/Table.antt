@@ -2,7 +2,7 @@
 -- in its attributes.
 use Rattle.std.specs.Prelude.{ℕ, ◌==◌, nat_lt, if◌then◌else◌, ◌&&◌, Bool, List, [], ◌∷◌, ◌++◌}
 use Rattle.std.specs.Prelude.{length, codes, Option, None, Some, slice_index, option_map, drop}
-use Rattle.std.specs.Prelude.{◌||◌, false, option_and_then, Result, Ok, Err}
+use Rattle.std.specs.Prelude.{◌||◌, option_and_then, Result, Ok, Err}
 use Rattle.byteorder.specs.Endian.{little_number}
 use Rattle.netlink_core.specs.Attribute.{Attribute}
 use Rattle.netlink_core.specs.AttributeSet.{AttributeValue, ValueOfKind, decode_attribute}

@@ -14,7 +14,7 @@ ghost use Rattle.sock_diag_captures.specs.laws.FactTokens.{group_tokens, no_toke
 ghost use Rattle.sock_diag_captures.specs.Md5Keys.{md5_facts};
 ghost use Rattle.sock_diag_captures.specs.UlpNames.{name_or_number};
 ghost use Rattle.sock_diag_listing.proofs.JsonWriting.{tokens_append};
-ghost use Rattle.sock_diag_listing.specs.JsonWriting.{AddsMembers, AddsTokens, KeepsText};
+ghost use Rattle.sock_diag_listing.specs.JsonWriting.{AddsMembers, KeepsText};
 ghost use Rattle.sock_diag_listing.specs.JsonWriting.{members_tokens};
 
 use crate::json_names::{write_list, write_name};
