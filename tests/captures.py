@@ -641,9 +641,9 @@ def main():
     for check in (
         lists_captures_of_both_orders, lists_other_families, lists_attributes_of_newer_kernels,
         lists_short_tcp_info, shows_names_in_utf8, lists_objects, selects_by_address,
-        selects_states_without_a_name, lists_requests, lists_a_long_datagram, reports_where_a_capture_is_truncated, reports_why,
-        lists_sections_of_both_orders, lists_times_of_requests, reports_where_a_file_is_truncated,
-        reports_invalid_blocks,
+        selects_states_without_a_name, lists_requests, lists_a_long_datagram,
+        reports_where_a_capture_is_truncated, reports_why, lists_sections_of_both_orders,
+        lists_times_of_requests, reports_where_a_file_is_truncated, reports_invalid_blocks,
     ):
         try:
             check(sslist)
