@@ -71,9 +71,11 @@ abbrev pub with_newest : Requested → List Query → List Query
 with_newest (requests.Inet newest) asked = newest ∷ take 15 asked
 with_newest what asked = asked
 
--- the requests after one more
+-- the requests after one more; one that closes sockets has no replies, and is not kept
 abbrev pub with_request : MessageParts → List Query → List Query
-with_request request asked = with_newest (requested request) asked
+with_request request asked =
+    if request.header.message_type == c.SOCK_DIAG_BY_FAMILY
+    then with_newest (requested request) asked else asked
 
 -- the requests after a datagram that begins with this request, or with none
 abbrev pub with_optional_request : Option MessageParts → List Query → List Query

@@ -58,12 +58,15 @@ impl Requests {
         }
     }
 
-    /// Adds a request if it is for IPv4 or IPv6 sockets. Then at most 15 older requests are kept.
-    /// If it fails, an allocation failed, and the requests are not specified.
+    /// Adds a request if it is to list IPv4 or IPv6 sockets. Then at most 15 older requests are
+    /// kept. If it fails, an allocation failed, and the requests are not specified.
     pub(crate) fn add(&mut self, request: &Message<'_>) -> Result<(), AllocError>
         ensures { OnOk result (self.new.asked.items
             ≡ with_request (message_parts request.now) self.old.asked.items) }
     {
+        if request.header.message_type != SOCK_DIAG_BY_FAMILY {
+            return Ok(());
+        }
         let Requested::Inet(newest) = requested_by(request) else {
             return Ok(());
         };
