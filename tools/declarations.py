@@ -74,7 +74,7 @@ VARIANT = re.compile(DOC + r'^    #\[error\("(.*)"\)\]\s+(\w+)(?: \{((?s:.*?))\}
 PLAIN_VARIANT = re.compile(DOC + r"^    (\w+)(?: \{(.*?)\})?,$", re.M)
 SPAN = re.compile(r"\w+Field::(\w+) => \((\d+), (\d+)\),")
 BIT = re.compile(r"SocketOption::(\w+) => (\d+),")
-SIZE = re.compile(r"prove!\(size_of::<(\w+)(?:<'static>)?>\(\) == (\d+)\)")
+SIZE = re.compile(r"prove!\(std::mem::size_of::<(\w+)(?:<'static>)?>\(\) == (\d+)\)")
 CODE = re.compile(r"DecodeError::(\w+)(?: \{ \.\. \})? => (\d+),")
 RECORD = re.compile(r"RecordName::(\w+)(?: \{.*\})? => \((\d+),")
 

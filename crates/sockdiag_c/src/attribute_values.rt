@@ -19,6 +19,18 @@ use sock_diag_extras::{
     parse_cgroup_id, parse_uid, read_attribute_record,
 };
 
+const _: () = prove!(std::mem::size_of::<SocketOptions>() == 2);
+
+const _: () = prove!(std::mem::size_of::<VegasInfo>() == 16);
+
+const _: () = prove!(std::mem::size_of::<DctcpInfo>() == 16);
+
+const _: () = prove!(std::mem::size_of::<BbrInfo>() == 24);
+
+const _: () = prove!(std::mem::size_of::<Md5Signature>() == 100);
+
+const _: () = prove!(std::mem::size_of::<StoredAddress>() == 128);
+
 /// Stores the user id of a UNIX socket's owner: the value of `UNIX_DIAG_UID`, 4 bytes. Returns 1;
 /// or 0 if the value has another length, and then the user id is unchanged.
 #[unsafe(no_mangle)]

@@ -26,6 +26,8 @@ pub struct Number {
     pub value: u32,
 }
 
+const _: () = prove!(std::mem::size_of::<Number>() == 8);
+
 /// A text that a reply may contain, as a pointer into the bytes of the reply.
 #[repr(C)]
 #[derive(Clone, Copy)]
@@ -41,6 +43,8 @@ pub struct Text<'a> {
     /// its NUL in the reply.
     pub bytes: &'a [u8],
 }
+
+const _: () = prove!(std::mem::size_of::<Text<'static>>() == 24);
 
 /// Kind of a pathname, and of the name of a congestion control algorithm.
 pub(crate) const TEXT: u32 = 1;

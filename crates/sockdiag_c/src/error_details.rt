@@ -61,6 +61,8 @@ pub struct ErrorDetails {
     pub index: usize,
 }
 
+const _: () = prove!(std::mem::size_of::<ErrorDetails>() == 56);
+
 // Returns the number of the record, `SOCKDIAG_RECORD_..`, the family that it belongs to, and the
 // kind of the attribute. `tools/bindings` writes the numbers into the header.
 fn record_fields(which: RecordName) -> (u32, u8, Option<u16>)

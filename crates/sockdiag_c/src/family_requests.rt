@@ -33,6 +33,8 @@ pub struct ShowRequest {
     pub cookie: u64,
 }
 
+const _: () = prove!(std::mem::size_of::<ShowRequest>() == 32);
+
 /// A request for vsock sockets: `struct vsock_diag_req` of `linux/vm_sockets_diag.h`.
 #[repr(C)]
 #[derive(Clone, Copy)]
@@ -45,6 +47,8 @@ pub struct VsockRequest {
     /// Cookie that distinguishes sockets (`vdiag_cookie`, at 16). Linux ignores it.
     pub cookie: u64,
 }
+
+const _: () = prove!(std::mem::size_of::<VsockRequest>() == 24);
 
 /// Writes a request for netlink, packet or XDP sockets, a netlink message of 36 bytes, at the start
 /// of the buffer; bytes after it are unchanged. Returns 36. Returns 0 if the buffer is shorter, or

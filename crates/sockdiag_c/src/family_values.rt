@@ -40,6 +40,8 @@ pub struct Memory {
     pub drops: Number,
 }
 
+const _: () = prove!(std::mem::size_of::<Memory>() == 72);
+
 impl From<Option<u32>> for Number {
     ghost from_gives = { λ value number. number ≡ optional_number value };
 

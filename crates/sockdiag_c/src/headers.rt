@@ -25,6 +25,8 @@ pub struct UnixHeader {
     pub cookie: [u8; 8],
 }
 
+const _: () = prove!(std::mem::size_of::<UnixHeader>() == 16);
+
 /// Header of a reply about an IPv4 or IPv6 socket: `struct inet_diag_msg` of sock_diag(7).
 #[repr(C)]
 #[derive(Clone, Copy, Default)]
@@ -68,6 +70,8 @@ pub struct InetHeader {
     pub inode: u32,
 }
 
+const _: () = prove!(std::mem::size_of::<InetHeader>() == 72);
+
 /// A reply about a UNIX, IPv4 or IPv6 socket.
 #[repr(C)]
 #[derive(Clone, Copy)]
@@ -79,6 +83,8 @@ pub struct Reply {
     /// Header of a reply about an IPv4 or IPv6 socket.
     pub inet_header: InetHeader,
 }
+
+const _: () = prove!(std::mem::size_of::<Reply>() == 92);
 
 /// Kind of a reply about a UNIX socket.
 pub(crate) const UNIX: u32 = 1;

@@ -42,6 +42,8 @@ pub struct InetDetails<'a> {
     pub class_id: Number,
 }
 
+const _: () = prove!(std::mem::size_of::<InetDetails<'static>>() == 152);
+
 /// Checks a whole reply about an IPv4 or IPv6 socket, as `sockdiag_check_inet_reply` does, and
 /// returns its header and the attributes that are a text or a number, in one pass over the
 /// attributes. Memory and `struct tcp_info` are checked, and not returned. The bytes are the

@@ -61,6 +61,8 @@ pub struct Rejections {
     pub errors: [u8; REJECTION_KINDS],
 }
 
+const _: () = prove!(std::mem::size_of::<Rejections>() == 40);
+
 /// The errors of a reply after its header.
 #[derive(Clone, Copy, Default)]
 pub(crate) struct Errors {

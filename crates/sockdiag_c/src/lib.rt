@@ -1,7 +1,8 @@
 //! The functions of `include/sockdiag.h`: messages of sock_diag(7) for C, in memory that C owns.
 //!
 //! Each calls functions of other crates, and its contract states its promise in terms of the C
-//! structs. None of them allocates.
+//! structs. None of them allocates. `prove!` states the size of each struct, which `tools/bindings`
+//! compares with the C ABI.
 #![tactic(auto)]
 
 mod attribute_values;
@@ -15,7 +16,6 @@ mod filters;
 mod headers;
 mod inet_details;
 pub mod laws;
-mod layout;
 mod lenient;
 mod messages;
 mod netlink_details;

@@ -12,6 +12,8 @@ use sock_diag_families::netlink::{
 };
 use sock_diag_values::inet::MemInfo;
 
+const _: () = prove!(std::mem::size_of::<NetlinkResponseHeader>() == 32);
+
 /// What a reply contains about a netlink socket, by the attributes of `linux/netlink_diag.h`,
 /// except the rings `NETLINK_DIAG_RX_RING` and `NETLINK_DIAG_TX_RING`, which Linux 4.6 removed.
 /// Attributes without a field are not an error: `sockdiag_next_attribute` returns them.
@@ -28,6 +30,8 @@ pub struct NetlinkDetails<'a> {
     /// The bits `NDIAG_FLAG_..` (`NETLINK_DIAG_FLAGS`, type 4).
     pub flags: Number,
 }
+
+const _: () = prove!(std::mem::size_of::<NetlinkDetails<'static>>() == 136);
 
 /// Checks a whole reply about a netlink socket, and returns its contents, in one pass over the
 /// attributes. The bytes are the payload of the netlink message. Returns 0, and sets all fields: a

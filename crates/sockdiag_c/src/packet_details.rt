@@ -14,6 +14,12 @@ use sock_diag_families::packet::{
 };
 use sock_diag_values::inet::MemInfo;
 
+const _: () = prove!(std::mem::size_of::<PacketResponseHeader>() == 16);
+
+const _: () = prove!(std::mem::size_of::<PacketInfo>() == 24);
+
+const _: () = prove!(std::mem::size_of::<PacketRing>() == 28);
+
 /// Everything that a reply contains about a packet socket, by the attributes of
 /// `linux/packet_diag.h`.
 #[repr(C)]
@@ -49,6 +55,8 @@ pub struct PacketDetails<'a> {
     /// type 7). The kind of the text is `SOCKDIAG_BYTES`.
     pub filter: Text<'a>,
 }
+
+const _: () = prove!(std::mem::size_of::<PacketDetails<'static>>() == 248);
 
 /// Checks a whole reply about a packet socket, and returns its contents, in one pass over the
 /// attributes. The bytes are the payload of the netlink message. Returns 0, and sets all fields: a

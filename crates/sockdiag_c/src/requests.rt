@@ -36,6 +36,8 @@ pub struct RequestHeader {
     pub port_number: u32,
 }
 
+const _: () = prove!(std::mem::size_of::<RequestHeader>() == 12);
+
 /// A request for UNIX sockets: `struct unix_diag_req` of sock_diag(7).
 #[repr(C)]
 #[derive(Clone, Copy)]
@@ -56,6 +58,8 @@ pub struct UnixRequest {
     /// socket.
     pub cookie: [u8; 8],
 }
+
+const _: () = prove!(std::mem::size_of::<UnixRequest>() == 32);
 
 /// A request for IPv4 or IPv6 sockets: `struct inet_diag_req_v2` of sock_diag(7).
 #[repr(C)]
@@ -95,6 +99,8 @@ pub struct InetRequest {
     /// (`INET_DIAG_NOCOOKIE`) match any socket.
     pub cookie: [u8; 8],
 }
+
+const _: () = prove!(std::mem::size_of::<InetRequest>() == 72);
 
 /// Writes a request for UNIX sockets, a netlink message of 40 bytes, at the start of the buffer;
 /// bytes after it are unchanged. Returns 40, or 0 if the buffer is shorter; then nothing is

@@ -24,6 +24,8 @@ pub struct Outcome {
     pub needed: usize,
 }
 
+const _: () = prove!(std::mem::size_of::<Outcome>() == 16);
+
 /// Writes the canonical form of a reply about a UNIX socket at the start of the buffer; bytes after
 /// it are unchanged. The reply is the payload of a netlink message.
 ///

@@ -53,6 +53,8 @@ pub struct UnixDetails<'a> {
     pub shutdown: Number,
 }
 
+const _: () = prove!(std::mem::size_of::<UnixDetails<'static>>() == 112);
+
 /// Checks a whole reply about a UNIX socket, as `sockdiag_check_unix_reply` does, and returns its
 /// contents, in one pass over the attributes. The bytes are the payload of the netlink message.
 /// Returns 0, and sets all fields: a number that the reply does not contain is all 0. Or returns

@@ -9,6 +9,8 @@ use crate::family_values::split_header;
 use netlink_core::{DecodeError, NlaBuffer};
 use sock_diag_families::vsock::VsockResponseHeader;
 
+const _: () = prove!(std::mem::size_of::<VsockResponseHeader>() == 32);
+
 /// Checks a whole reply about a vsock socket, and returns its header. The bytes are the payload of
 /// the netlink message. Returns 0, or the code of the first error; then the header is unchanged.
 ///

@@ -27,6 +27,8 @@ pub struct Cursor {
     pub offset: usize,
 }
 
+const _: () = prove!(std::mem::size_of::<Cursor>() == 8);
+
 /// An attribute, `struct nlattr`, with the offset of its value in the bytes of the iteration.
 #[repr(C)]
 #[derive(Clone, Copy)]
@@ -39,6 +41,8 @@ pub struct AttributeRange {
     /// flags `NLA_F_NESTED` and `NLA_F_NET_BYTEORDER`.
     pub type_word: u16,
 }
+
+const _: () = prove!(std::mem::size_of::<AttributeRange>() == 24);
 
 /// A message of a datagram, with the offset of its payload in the datagram, and the fields of its
 /// header.
@@ -63,6 +67,8 @@ pub struct MessageRange {
     /// request.
     pub port_number: u32,
 }
+
+const _: () = prove!(std::mem::size_of::<MessageRange>() == 32);
 
 /// Stores the attribute at the cursor, and advances the cursor past it and its padding. In a
 /// checked reply, starting at the end of its header, the return value is 1 for each attribute, in

@@ -14,6 +14,14 @@ use sock_diag_families::xdp::{
 };
 use sock_diag_values::inet::MemInfo;
 
+const _: () = prove!(std::mem::size_of::<XdpResponseHeader>() == 16);
+
+const _: () = prove!(std::mem::size_of::<XdpInfo>() == 8);
+
+const _: () = prove!(std::mem::size_of::<XdpUmem>() == 40);
+
+const _: () = prove!(std::mem::size_of::<XdpStatistics>() == 48);
+
 /// Everything that a reply contains about an XDP socket, by the attributes of `linux/xdp_diag.h`.
 #[repr(C)]
 #[derive(Clone, Copy, Default)]
@@ -47,6 +55,8 @@ pub struct XdpDetails {
     /// Counters of the socket (`XDP_DIAG_STATS`, type 9).
     pub statistics: XdpStatistics,
 }
+
+const _: () = prove!(std::mem::size_of::<XdpDetails>() == 240);
 
 /// Checks a whole reply about an XDP socket, and returns its contents, in one pass over the
 /// attributes. The bytes are the payload of the netlink message. Returns 0, and sets all fields: a

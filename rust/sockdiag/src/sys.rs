@@ -875,7 +875,7 @@ pub(crate) struct MptcpInfo {
     pub(crate) last_ack_recv: u32,
 }
 
-// The sizes that `crates/sockdiag_c/src/layout.rt` proves.
+// The sizes that `crates/sockdiag_c` proves.
 const _: () = assert!(size_of::<Number>() == 8);
 const _: () = assert!(size_of::<Text>() == 24);
 const _: () = assert!(size_of::<ErrorDetails>() == 56);
