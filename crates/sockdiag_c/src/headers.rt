@@ -112,8 +112,6 @@ impl From<InetResponseHeader> for InetHeader {
     fn from(header: InetResponseHeader) -> InetHeader {
         let (timer, retransmits, expires) = timer_fields(&header.timer);
         let id = header.socket_id;
-        let source_address = address_octets(id.source_address);
-        let destination_address = address_octets(id.destination_address);
         let cookie = id.cookie;
         InetHeader {
             family: header.family,
@@ -123,8 +121,8 @@ impl From<InetResponseHeader> for InetHeader {
             expires,
             source_port: id.source_port,
             destination_port: id.destination_port,
-            source_address,
-            destination_address,
+            source_address: address_octets(id.source_address),
+            destination_address: address_octets(id.destination_address),
             interface_id: id.interface_id,
             cookie,
             recv_queue: header.recv_queue,
