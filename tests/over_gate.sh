@@ -1,8 +1,8 @@
 #!/bin/sh
 # over_gate.sh CRATE COMMAND ARGUMENT..: runs a command of the kit's prover (`rattle check` or
 # `rattle build`) in the current folder, which has the sources of this crate, over the built
-# libraries in crates/*/out. tests/gate_edits.py, and library.sh and must_not_compile.sh of
-# tests/api run this script.
+# libraries in crates/*/out. tests/edits.py, and library.sh and must_not_compile.sh of tests/api run
+# this script.
 #
 # `rt ci` leaves the statements of each library there, and not its checked proofs. `rt check` and
 # `rt lib` do not use such libraries, and would prove all of them once more.

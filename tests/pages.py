@@ -76,7 +76,7 @@ NOT_RUN = {
     r"cc .*tests/api/fuzz_c\.c|out/fuzz_c": "it needs the library; tests/api/c_api.sh runs both",
     r"tests/api/\w+\.sh": "it needs the library; the gate runs it later",
     r"tests/(captures|pages|programs|tables)\.py": "the gate runs them",
-    r"tests/edits\.sh": "it proves each crate again",
+    r"tests/edits\.py": "it needs what the gate builds, which runs it later",
     r"bench/": "it needs valgrind, and takes minutes",
     r"ldconfig": "it needs root",
     r"apt install": "it needs root; tests/release.sh installs the packages in another root",

@@ -12,7 +12,9 @@
 # - lintian reports no error and no warning for the packages.
 # - The packages can be installed into another root and removed from it (skipped without root).
 # - tools/pack fails if a file or the date of the version is missing.
-# - tools/release packs what an rt built that is made here, and refuses an rt of another logic.
+# - tools/release packs what a gate left that is made here, with --proofs also the results of an rt
+#   that is made here. It refuses an rt of another logic, an edit that is not rejected, and a gate
+#   that left too little, or whose sources changed.
 #
 # What needs a C compiler, cargo or dpkg is skipped without it.
 set -eu
@@ -213,43 +215,73 @@ if has dpkg-deb && has lintian; then
     lintian --allow-root --fail-on error,warning dated/*.deb >said || fail "lintian: $(cat said)"
 fi
 
-# Libraries and programs that rt builds, one of which has no proof results after rt lib.
-mkdir -p one/tests/api one/crates/sockdiag_c/out
+# What the gate leaves, and an rt, by which one library has no proof results after rt lib.
 cat >bin/rt <<'END'
 #!/bin/sh
-crate=$(basename "$PWD")
 case $1 in
     version) echo "rattle-kit-1 logic $KIT_LOGIC" ;;
-    run) mkdir -p out && make_program "out/$crate" "$crate $(cat)" ;;
-    lib) mkdir -p out/rlib && { [ "$crate" = checked ] || mkdir -p out/incremental; } ;;
+    lib) [ "$(basename "$PWD")" = checked ] || mkdir -p out/incremental ;;
     check) mkdir -p out/incremental ;;
 esac
 END
-printf 'low:\nchecked:\nother:\nsockdiag: low\nsslist: checked\n' >one/crates.txt
-for crate in low checked other sockdiag sslist; do
-    mkdir -p "one/crates/$crate"
-    echo input >"one/crates/$crate/stdin"
+printf 'low:\nchecked:\nother:\nsockdiag: low\nsslist: checked\nsockdiag_c: other\n' >one/crates.txt
+for crate in low checked other; do mkdir -p "one/crates/$crate/out/rlib/$crate.rlib"; done
+mkdir -p one/tests one/crates/sockdiag/out one/crates/sslist/out one/crates/sockdiag_c/out
+for program in sockdiag sslist; do
+    bin/make_program "one/crates/$program/out/$program" "built $program"
 done
+echo library >one/crates/sockdiag_c/out/libsockdiag_c.a
 echo 12 >one/LOGIC
-touch one/tests/tidy.py
-printf '#!/bin/sh\necho library >crates/sockdiag_c/out/libsockdiag_c.a\n' >one/tests/api/c_api.sh
-echo '#!/bin/sh' >one/tests/api/rust_api.sh
-printf '#!/bin/sh\nexit $EDITS\n' >one/tests/edits.sh
-chmod +x bin/rt one/tests/api/*.sh one/tests/edits.sh
+echo out/ >one/.gitignore
+printf 'import os\nraise SystemExit(int(os.environ["EDITS"]))\n' >one/tests/edits.py
+chmod +x bin/rt
+git -C one init -q
+mkdir one/out
+touch one/out/gate-passed
+
+# release LOGIC EDITS ARGUMENT..: runs tools/release, with a kit of this logic, and with an edits.py
+# that has the exit status EDITS.
 release() {
-    KIT_LOGIC=$1 EDITS=$2 PATH="$work/bin:$PATH" one/tools/release "$3" >/dev/null
+    logic=$1 edits=$2
+    shift 2
+    KIT_LOGIC=$logic EDITS=$edits PATH="$work/bin:$PATH" one/tools/release "$@" >/dev/null
 }
-if release 123 0 refused 2>said; then fail "it releases with a kit of another logic"; fi
-grep -q '^tools/release: rt version does not print logic 12$' said || fail "logic: $(cat said)"
+# refuses WHAT LOGIC: fails if tools/release packs with a kit of this logic, or if what it says does
+# not contain WHAT.
+refuses() {
+    if release "$2" 0 refused 2>said; then fail "it releases: $1"; fi
+    grep -qF "tools/release: $1" said || fail "$1: $(cat said)"
+}
+refuses 'rt version does not print logic 12' 123
+for file in out/gate-passed crates/sslist/out/sslist crates/sockdiag_c/out/libsockdiag_c.a \
+    crates/other/out/rlib/other.rlib; do
+    mv "one/$file" missing
+    case $file in
+        out/*) refuses '.ci/run has not passed in this clone' 12 ;;
+        *) refuses ".ci/run left no $file" 12 ;;
+    esac
+    mv missing "one/$file"
+done
+touch -d '1 hour' one/crates.txt
+refuses 'run .ci/run again, since it began before this changed: crates.txt' 12
+touch -d @86400 one/crates.txt
+git -C one add crates.txt
+mv one/crates.txt missing
+refuses 'a source is missing' 12
+mv missing one/crates.txt
 if release 12 1 refused; then fail "it releases with an edit that is not rejected"; fi
+[ ! -e refused ] || fail "it packs a release that it refuses"
 release 12 0 released
+[ ! -e "released/$proofs" ] || fail "proof results without --proofs"
+release 12 0 --proofs with_proofs
+diff "released/$users.tar.gz" "with_proofs/$users.tar.gz" || fail "--proofs changes the archive"
 printf '%s\n' crates/low/out/incremental/ crates/checked/out/incremental/ >expected
-tar -tzf "released/$proofs" | sed -n 's,^[^/]*/\(.*/\)$,\1,p' | diff expected - ||
+tar -tzf "with_proofs/$proofs" | sed -n 's,^[^/]*/\(.*/\)$,\1,p' | diff expected - ||
     fail "proof results of a release"
 for file in bin/sockdiag bin/sslist lib/libsockdiag.a; do
-    tar -xzOf "released/$users.tar.gz" "$users/$file" | grep -ao '[a-z]* input\|library'
+    tar -xzOf "released/$users.tar.gz" "$users/$file" | grep -ao 'built [a-z]*\|library'
 done >built.txt
-printf 'sockdiag input\nsslist input\nlibrary\n' | diff - built.txt ||
+printf 'built sockdiag\nbuilt sslist\nlibrary\n' | diff - built.txt ||
     fail "built files of a release"
 
 mv one/docs/LINES.md one/docs/OTHER.md

@@ -5,8 +5,7 @@
 # tests/api/fuzz_c.c calls them with changed replies, and tests/api/compare_replies.sh compares the
 # lenient calls with an independent reader. Then installs the library, builds the examples, runs
 # them with the replies of other kernels, and lists the sockets of this machine by list_sockets, if
-# the kernel permits it. Needs the kit's rt, a C compiler and Python. The gate and tools/release run
-# this script.
+# the kernel permits it. Needs the kit's rt, a C compiler and Python. The gate runs this script.
 set -eu
 top=$(CDPATH='' cd -- "$(dirname -- "$0")/../.." && pwd)
 work=$(mktemp -d)

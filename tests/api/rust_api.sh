@@ -2,7 +2,7 @@
 # Tests rust/sockdiag with the C library, offline, and calls with changed bytes also under valgrind,
 # if it is installed. Builds the C library first if it is older than a source. Compares the crate
 # with the program sockdiag if it is built. Then runs kernels.py with its example, and lists the
-# sockets of this machine. Needs cargo. The gate and tools/release run this script.
+# sockets of this machine. Needs cargo. The gate runs this script.
 set -eu
 top=$(CDPATH='' cd -- "$(dirname -- "$0")/../.." && pwd)
 work=$(mktemp -d)

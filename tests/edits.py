@@ -1,0 +1,184 @@
+#!/usr/bin/env python3
+"""Tries the edits in tests/edits, over the libraries that `.ci/run` left in crates/*/out.
+
+    tests/edits.py               tries all edits
+    tests/edits.py FILE|CRATE..  tries these files of edits, and the edits of these crates
+    tests/edits.py -             reads the lines of `rt ci`, and tries the edits with a line
+                                 `# gate`: those of a crate as soon as the libraries that it depends
+                                 on are proved
+    tests/edits.py --list        prints what the prover checks for each edit
+
+An edit makes code wrong. The prover checks the functions that it changes, and what they call, and
+has to reject one of the changed functions: a function that is not proved only because it calls such
+a function does not count. If an edit changes other text than functions, the functions of its module
+are checked. A line `# only:` in the edit names other functions or modules. The status is 0 if the
+prover rejects each edit. The edits of a crate in crates/*/must-fail are tried by `rt ci`.
+"""
+
+import os
+import re
+import shutil
+import subprocess
+import sys
+import tempfile
+import threading
+import time
+from concurrent.futures import ThreadPoolExecutor
+from itertools import chain
+from pathlib import Path
+
+from functions import changed_names
+from tidy import TOP, edited_files, text_files
+
+PARTS = ("src", "specs", "proofs")
+
+
+def crate_of(name):
+    """Returns the crate of an edit."""
+    return Path(name).parent.name
+
+
+def what_is_checked(name, files):
+    """Returns the changed files of an edit, the functions and modules that the prover checks, and
+    why the edit cannot be tried, or ""."""
+    changed, wrong = edited_files(crate_of(name), files[name], files)
+    only = re.findall(r"(?m)^# only: (.*)$", files[name])
+    names = only[0].split() if only else changed_names(changed, files)
+    if not wrong and (not names or "" in names):
+        wrong = "changes the root of the crate: name a function in a line `# only:`"
+    return changed, names, wrong
+
+
+def all_edits(files):
+    """Returns the names of all edits."""
+    return [name for name in files if re.match(r"tests/edits/\w+/[^/]+\.edit$", name)]
+
+
+def libraries_below(crate):
+    """Returns the libraries of this repository that a crate depends on."""
+    run = subprocess.run([TOP / "tools/libraries", crate], stdout=subprocess.PIPE, text=True,
+                         check=True)
+    return run.stdout.split()
+
+
+def is_rejected(crate, names, output):
+    """Returns whether the prover rejected one of these functions, or one of these modules."""
+    reason = "not proved|no proof: expected answers|no proof: it passes the block"
+    # The name of a closure has the word `fn` before those of its function.
+    either = "|".join("::".join("(?:fn::)?" + word for word in name.split("::")) for name in names)
+    return bool(re.search(rf"(?m)^\w+ {crate}::(?:{either})\b.*: (?:{reason})", output))
+
+
+def try_edit(name, files):
+    """Returns whether the prover rejects an edit, and prints what it said if not."""
+    crate = crate_of(name)
+    changed, names, wrong = what_is_checked(name, files)
+    if wrong:
+        print(f"{name}: {wrong}")
+        return False
+    with tempfile.TemporaryDirectory() as copy:
+        for part in PARTS:
+            if (TOP / "crates" / crate / part).is_dir():
+                shutil.copytree(TOP / "crates" / crate / part, Path(copy) / part)
+        for path, text in changed.items():
+            (Path(copy) / Path(path).relative_to(f"crates/{crate}")).write_text(text, "utf-8")
+        words = [TOP / "tests/over_gate.sh", crate, "check", "--jobs", "1"]
+        words += chain.from_iterable(("--only", only) for only in names)
+        begin = time.monotonic()
+        run = subprocess.run(words, cwd=copy, stdout=subprocess.PIPE, stderr=subprocess.STDOUT,
+                             text=True, errors="replace")
+    seconds = time.monotonic() - begin
+    if run.returncode == 1 and is_rejected(crate, names, run.stdout):
+        print(f"{name}: rejected, {seconds:.0f} seconds", flush=True)
+        return True
+    said = re.sub(r"(?m)^(?:statements|logic) .*\n", "", run.stdout)[-2000:]
+    print(f"{name}: not rejected: {', '.join(names)}, status {run.returncode}:\n{said}", flush=True)
+    return False
+
+
+def are_rejected(groups, files):
+    """Tries the edits of these groups as they come, and prints how many were rejected. Returns
+    whether all were. Until the last group has come, at most two are tried at a time: with more, the
+    proofs of `rt ci` take longer. Each needs more than 1 GB."""
+    turns = threading.Semaphore(2)
+
+    def try_in_turn(name):
+        with turns:
+            return try_edit(name, files)
+
+    with ThreadPoolExecutor(min(4, len(os.sched_getaffinity(0)))) as pool:
+        tries = [pool.submit(try_in_turn, name) for names in groups for name in names]
+        turns.release(2)
+        rejected = [it.result() for it in tries]
+    print(f"tests/edits.py: {len(rejected)} edits tried, {sum(rejected)} rejected")
+    return bool(rejected) and all(rejected)
+
+
+def groups_as_proved(lines, edits):
+    """Yields the edits of each crate after the lines of `rt ci` about the libraries below it."""
+    needed = {crate_of(name): set() for name in edits}
+    for crate in needed:
+        needed[crate] = set(libraries_below(crate))
+    for line in chain([""], lines):
+        proved = re.match(r"rt: (\w+) (?:proved$|is kept: )", line)
+        for libraries in needed.values():
+            libraries.discard(proved and proved[1])
+        for crate in sorted(crate for crate, libraries in needed.items() if not libraries):
+            del needed[crate]
+            yield [name for name in edits if crate_of(name) == crate]
+
+
+def try_those_of_gate(files):
+    """Tries the edits with a line `# gate`. Returns whether each was tried and rejected."""
+    edits = [name for name in all_edits(files) if re.search(r"(?m)^# gate$", files[name])]
+    tried = []
+    groups = (tried.extend(group) or group for group in groups_as_proved(sys.stdin, edits))
+    succeeded = are_rejected(groups, files)
+    for name in edits:
+        if name not in tried:
+            print(f"{name}: not tried, since a library was not proved")
+    return succeeded and len(tried) == len(edits)
+
+
+def libraries_are_current(names):
+    """Proves the libraries below the crates of these edits, unless `rt ci` left them: then they have
+    no stamp."""
+    for library in sorted({below for name in names for below in libraries_below(crate_of(name))}):
+        folder = TOP / "crates" / library
+        built = folder / "out/rlib"
+        if not (built / f"{library}.rlib").exists() or (built / "stamp").exists():
+            subprocess.run(["rt", "lib"], cwd=folder, check=True, stdout=subprocess.DEVNULL)
+
+
+def edits_of(words, edits):
+    """Returns the edits that the words name, files or crates, or None if a word names none."""
+    found = []
+    for word in words:
+        path = os.path.relpath(Path(word).resolve(), TOP)
+        named = [name for name in edits if path == name or word == crate_of(name)]
+        if not named:
+            return None
+        found += named
+    return found
+
+
+def main():
+    files = text_files()
+    words = sys.argv[1:]
+    if words == ["-"]:
+        return 0 if try_those_of_gate(files) else 1
+    if words == ["--list"]:
+        for name in all_edits(files):
+            _, names, wrong = what_is_checked(name, files)
+            print(f"{name}: {wrong or ' '.join(names)}")
+        return 0
+    names = edits_of(words, all_edits(files)) if words else all_edits(files)
+    if names is None:
+        print("usage: tests/edits.py [-|--list|FILE..|CRATE..]", file=sys.stderr)
+        return 2
+    libraries_are_current(names)
+    return 0 if are_rejected([names], files) else 1
+
+
+if __name__ == "__main__":
+    sys.exit(main())
