@@ -156,9 +156,9 @@ mptcp_shown f text member = row_of (mptcp_span_of f) Nonzero text (Some member)
 abbrev pub mptcp_hex : MptcpField → List ℕ → List ℕ → FieldRow
 mptcp_hex f text member = row_of (mptcp_span_of f) NonzeroHex text (Some member)
 
--- a bit of `mptcpi_flags`, all of which are in its first byte; the table shows it if it is set
+-- a bit of `mptcpi_flags`, which the table shows if it is set
 abbrev pub mptcp_flag : ℕ → List ℕ → FieldRow
-mptcp_flag bit text = ((mptcp_span_of mptcp.Flags).0, Byte, Bits bit, text, None)
+mptcp_flag bit text = row_of (mptcp_span_of mptcp.Flags) (Bits bit) text None
 
 -- the rows of `struct mptcp_info`, in the order of the members
 unfoldable pub mptcp_rows : List FieldRow

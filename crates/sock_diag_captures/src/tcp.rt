@@ -73,8 +73,8 @@ macro_rules! hexadecimal {
 
 /// A bit of a field of flags at an offset, which the table shows if it is set.
 macro_rules! flag {
-    ($offset:literal, $bit:ident, $text:literal) => {
-        row!($offset, Byte, Shown::Bits($bit as u64), $text, None)
+    ($offset:literal, $part:ident, $bit:ident, $text:literal) => {
+        row!($offset, $part, Shown::Bits($bit as u64), $text, None)
     };
 }
 
@@ -89,11 +89,11 @@ static TCP_ROWS: [FieldRow; 76] = [
     hidden!(3, Byte, "probes"),
     shown!(4, Byte, b" backoff:", "backoff"),
     hidden!(5, Byte, "options"),
-    flag!(5, TCPI_OPT_TIMESTAMPS, b" ts"),
-    flag!(5, TCPI_OPT_SACK, b" sack"),
-    flag!(5, TCPI_OPT_ECN, b" ecn"),
-    flag!(5, TCPI_OPT_ECN_SEEN, b" ecnseen"),
-    flag!(5, TCPI_OPT_SYN_DATA, b" fastopen"),
+    flag!(5, Byte, TCPI_OPT_TIMESTAMPS, b" ts"),
+    flag!(5, Byte, TCPI_OPT_SACK, b" sack"),
+    flag!(5, Byte, TCPI_OPT_ECN, b" ecn"),
+    flag!(5, Byte, TCPI_OPT_ECN_SEEN, b" ecnseen"),
+    flag!(5, Byte, TCPI_OPT_SYN_DATA, b" fastopen"),
     hidden!(6, LowFour, "snd_wscale"),
     hidden!(6, HighFour, "rcv_wscale"),
     row!(6, Negotiated, Shown::Halves, b" wscale:(", None),
@@ -182,8 +182,8 @@ static MPTCP_ROWS: [FieldRow; 26] = [
     shown!(4, Byte, b" add_addr_signal_max:", "add_addr_signal_max"),
     shown!(5, Byte, b" add_addr_accepted_max:", "add_addr_accepted_max"),
     hidden!(8, Four, "flags"),
-    flag!(8, MPTCP_INFO_FLAG_FALLBACK, b" fallback"),
-    flag!(8, MPTCP_INFO_FLAG_REMOTE_KEY_RECEIVED, b" remote_key"),
+    flag!(8, Four, MPTCP_INFO_FLAG_FALLBACK, b" fallback"),
+    flag!(8, Four, MPTCP_INFO_FLAG_REMOTE_KEY_RECEIVED, b" remote_key"),
     hexadecimal!(12, Four, b" token:", "token"),
     hexadecimal!(16, Eight, b" write_seq:", "write_seq"),
     hexadecimal!(24, Eight, b" snd_una:", "snd_una"),
