@@ -408,6 +408,19 @@ def check_explanations(program, file_header, heading, errno):
         check(program, [], given, status, heading, re.escape(line))
 
 
+def test_mptcp_info(program):
+    """Lists MPTCP sockets whose struct mptcp_info ends before, in and after `mptcpi_flags`, at 8."""
+    number = (262).to_bytes(4, "little")
+    request = packet([2, 6, *bytes(54), *attribute(3, number)], 0x301)
+    value = bytes([*bytes(8), 2, 0, 0, 0, 0xab, 0, 0, 0])
+    for length, shown in [(8, b""), (11, b""), (12, b"\t remote_key\n"), (15, b"\t remote_key\n"),
+                          (16, b"\t remote_key token:ab\n")]:
+        reply = packet([2, *bytes(71), *attribute(2, value[:length])])
+        given = CAPTURE.read_bytes()[:24] + request + reply
+        table = run(program, ["-iH"], given)
+        assert table[0] == 0 and table[1].partition(b"\n")[2] == shown, (length, table)
+
+
 def test_pcapng(program):
     """Lists the stored capture in pcapng format: it has the output of the capture in pcap format.
     Also lists it with a long block that is skipped."""
@@ -832,8 +845,9 @@ if __name__ == "__main__":
     sockdiag, sslist = map(os.path.abspath, sys.argv[1:3])
     for test, program in [(test_sockdiag, sockdiag), *((it, sslist) for it in (
         test_sslist, test_options, test_times, test_letters, test_rejections, test_terminal,
-        test_diagnostics, test_pcapng, test_json, test_newer_details, test_long_inputs,
-        test_unreadable_file, test_early_check, *[test_sockdump] * bool(shutil.which("gcc")),
+        test_diagnostics, test_mptcp_info, test_pcapng, test_json, test_newer_details,
+        test_long_inputs, test_unreadable_file, test_early_check,
+        *[test_sockdump] * bool(shutil.which("gcc")),
     ))]:
         try:
             test(program)
