@@ -1,6 +1,6 @@
 //! The version of the library.
 
-ghost use Rattle.std.specs.Prelude.{◌≡◌, ◌/◌};
+ghost use Rattle.std.specs.Prelude.{◌≡◌, ◌≤◌, ◌/◌};
 ghost use Rattle.sockdiag_c.specs.Answers.{IsOneIf};
 
 /// The version of the library as a number.
@@ -16,23 +16,24 @@ pub extern "C" fn sockdiag_version() -> u32
     VERSION
 }
 
-/// Returns 1,000 times the first number of the version of the library, plus the second one. The
-/// name of the function has these two numbers too, so libraries of other versions do not have it. A
-/// program that refers to it, as the header does, links with a library of its version only.
+/// Returns 1,000 times the first number of the version that added the function, plus the second
+/// one, which are in its name too. Newer libraries with the same first number have it, older ones
+/// do not: a program that refers to it, as the header does, does not link with these.
 #[unsafe(no_mangle)]
 pub extern "C" fn sockdiag_abi_1_0() -> u32
-    ensures { result ≡ VERSION / 1000 }
+    ensures { result ≡ 1000 }
 {
-    VERSION / 1_000
+    1_000
 }
 
-/// Returns 1 if a header of this version is compatible with the library, else 0: if the first two
-/// numbers of both versions are equal. A newer header may declare calls that the library lacks, and
-/// before version 1 structs had other sizes. `sockdiag_is_compatible` passes the version of the
+/// Returns 1 if a header of this version is compatible with the library, else 0: if the first
+/// number of both versions is equal, and the second one of the header is not greater. A newer header
+/// may declare calls that the library lacks. `sockdiag_is_compatible` passes the version of the
 /// header that the program was compiled with.
 #[unsafe(no_mangle)]
 pub extern "C" fn sockdiag_is_compatible_with(version: u32) -> u32
-    ensures { IsOneIf (version / 1000 ≡ VERSION / 1000) result }
+    ensures { IsOneIf ((version / 1000000 ≡ VERSION / 1000000) × (version / 1000 ≤ VERSION / 1000))
+        result }
 {
-    u32::from(version / 1_000 == VERSION / 1_000)
+    u32::from(version / 1_000_000 == VERSION / 1_000_000 && version / 1_000 <= VERSION / 1_000)
 }
