@@ -80,18 +80,19 @@ extern "C" {
 uint32_t sockdiag_version(void);
 
 /*
- * Returns 1,000 times the first number of the version of the library, plus the second one. The name
- * of the function has these two numbers too, so libraries of other versions do not have it. A
- * program that refers to it, as the header does, links with a library of its version only.
+ * Returns 1,000 times the first number of the version that added the function, plus the second one,
+ * which are in its name too. Newer libraries with the same first number have it, older ones do not:
+ * a program that refers to it, as the header does, does not link with these.
  */
 uint32_t sockdiag_abi_1_0(void);
 
 /*
- * Refers to this function in each file that includes the header, so that a library of another
- * version cannot be linked. Define SOCKDIAG_NO_LINK_CHECK before the header in a file that is not
- * linked with the library: one that only uses constants and structs, or that calls the library by
- * dlopen(3) and dlsym(3). Without __GNUC__, which gcc and clang define, the linker checks nothing.
- * Nor does it with --gc-sections if the compiler lacks the attribute retain, as gcc 10 does.
+ * Refers to this function in each file that includes the header, so that an older library, or one
+ * with another first number, cannot be linked. Define SOCKDIAG_NO_LINK_CHECK before the header in a
+ * file that is not linked with the library: one that only uses constants and structs, or that calls
+ * the library by dlopen(3) and dlsym(3). Without __GNUC__, which gcc and clang define, the linker
+ * checks nothing. Nor does it with --gc-sections if the compiler lacks the attribute retain, as gcc
+ * 10 does.
  */
 #if defined __GNUC__ && !defined SOCKDIAG_NO_LINK_CHECK
 #ifdef __has_attribute
@@ -103,9 +104,9 @@ __attribute__((used)) static uint32_t (*const sockdiag_linked_abi)(void) = sockd
 #endif
 
 /*
- * Returns 1 if a header of this version is compatible with the library, else 0: if the first two
- * numbers of both versions are equal. A newer header may declare calls that the library lacks, and
- * before version 1 structs had other sizes. sockdiag_is_compatible passes the version of the header
+ * Returns 1 if a header of this version is compatible with the library, else 0: if the first number
+ * of both versions is equal, and the second one of the header is not greater. A newer header may
+ * declare calls that the library lacks. sockdiag_is_compatible passes the version of the header
  * that the program was compiled with.
  */
 uint32_t sockdiag_is_compatible_with(uint32_t version);
@@ -113,7 +114,8 @@ uint32_t sockdiag_is_compatible_with(uint32_t version);
 /*
  * Returns 1 if the program was compiled with the header of a version that is compatible with the
  * library that is linked, else 0. The linker ensures this by the pointer above, and the loader of
- * programs by the soname of the shared library. Call this first if neither does.
+ * programs by the soname of the shared library and the versions of its functions. Call this first
+ * if neither does.
  */
 #define sockdiag_is_compatible() sockdiag_is_compatible_with(SOCKDIAG_VERSION_NUMBER)
 

@@ -1197,8 +1197,9 @@ extern "C" {
         -> u32;
 }
 
-// Only a library with the same first two numbers of the version has this function, so no other one
-// can be linked: its structs might differ. Nothing calls the function.
+// Only a library with the same first number of the version, and the same or a newer second one, has
+// this function, so no other one can be linked: its structs might differ. Nothing calls the
+// function.
 #[used]
 static LINKED_ABI: unsafe extern "C" fn() -> u32 = sockdiag_abi_1_0;
 
