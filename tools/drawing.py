@@ -29,7 +29,6 @@ text{font-family:sans-serif;font-size:12px}
 .middle{text-anchor:middle}.end{text-anchor:end}
 .edge-line,.grid-line,.hatch-line,.curve{fill:none}
 .dashed{stroke-dasharray:5 4}.curve{stroke-width:2}
-.halo{paint-order:stroke;stroke-width:4px;stroke-linejoin:round}
 """
 HATCH = """<defs><pattern id="hatch" width="6" height="6" patternUnits="userSpaceOnUse">
 <path d="M-1 7L7 -1M-1 1L1 -1M5 7L7 5" class="hatch-line"/></pattern></defs>"""
@@ -39,8 +38,7 @@ def colours(scheme):
     """Returns the rules for one scheme: 0 is light, 1 is dark."""
     rules = {f".{name}": ("stroke" if name.endswith("-line") else "fill", both[scheme])
              for name, both in COLOURS.items()}
-    rules |= {".halo": ("stroke", COLOURS["page"][scheme]),
-              ".curve": ("stroke", COLOURS["own"][scheme])}
+    rules[".curve"] = ("stroke", COLOURS["own"][scheme])
     return "\n".join(f"{name}{{{what}:{colour}}}" for name, (what, colour) in rules.items())
 
 
