@@ -69,24 +69,29 @@ def is_rejected(crate, names, output):
     return bool(re.search(rf"(?m)^\w+ {crate}::(?:{either})\b.*: (?:{reason})", output))
 
 
-def try_edit(name, files):
-    """Returns whether the prover rejects an edit, and prints what it said if not."""
+def check(crate, folder, names):
+    """Runs the prover on these functions and modules of a copy of a crate. What it proved before in
+    the copy, and the edit does not change, it does not prove again."""
+    words = [TOP / "tests/over_gate.sh", crate, "check", "--jobs", "1", "--incremental", "proved"]
+    words += chain.from_iterable(("--only", only) for only in names)
+    return subprocess.run(words, cwd=folder, stdout=subprocess.PIPE, stderr=subprocess.STDOUT,
+                          text=True, errors="replace")
+
+
+def try_edit(name, files, folder):
+    """Returns whether the prover rejects an edit in a copy of its crate, and prints what it said if
+    not. The copy is afterwards as it was before."""
     crate = crate_of(name)
     changed, names, wrong = what_is_checked(name, files)
     if wrong:
         print(f"{name}: {wrong}")
         return False
-    with tempfile.TemporaryDirectory() as copy:
-        for part in PARTS:
-            if (TOP / "crates" / crate / part).is_dir():
-                shutil.copytree(TOP / "crates" / crate / part, Path(copy) / part)
-        for path, text in changed.items():
-            (Path(copy) / Path(path).relative_to(f"crates/{crate}")).write_text(text, "utf-8")
-        words = [TOP / "tests/over_gate.sh", crate, "check", "--jobs", "1"]
-        words += chain.from_iterable(("--only", only) for only in names)
-        begin = time.monotonic()
-        run = subprocess.run(words, cwd=copy, stdout=subprocess.PIPE, stderr=subprocess.STDOUT,
-                             text=True, errors="replace")
+    begin = time.monotonic()
+    for path, text in changed.items():
+        (folder / Path(path).relative_to(f"crates/{crate}")).write_text(text, "utf-8")
+    run = check(crate, folder, names)
+    for path in changed:
+        (folder / Path(path).relative_to(f"crates/{crate}")).write_text(files[path], "utf-8")
     seconds = time.monotonic() - begin
     if run.returncode == 1 and is_rejected(crate, names, run.stdout):
         print(f"{name}: rejected, {seconds:.0f} seconds", flush=True)
@@ -96,22 +101,39 @@ def try_edit(name, files):
     return False
 
 
+def try_edits_of_crate(names, files):
+    """Returns, for each of these edits of one crate, whether the prover rejects it."""
+    crate = crate_of(names[0])
+    with tempfile.TemporaryDirectory() as copy:
+        for part in PARTS:
+            if (TOP / "crates" / crate / part).is_dir():
+                shutil.copytree(TOP / "crates" / crate / part, Path(copy) / part)
+        return [try_edit(name, files, Path(copy)) for name in names]
+
+
 def are_rejected(groups, files):
-    """Tries the edits of these groups as they come, and prints how many were rejected. Returns
-    whether all were. Until the last group has come, at most two are tried at a time: with more, the
-    proofs of `rt ci` take longer. Each needs more than 1 GB."""
+    """Tries the edits of each crate, as these groups come, and prints how many were rejected.
+    Returns whether all were. Until the last group has come, at most two are tried at a time: with
+    more, the proofs of `rt ci` take longer. Each needs more than 1 GB."""
     turns = threading.Semaphore(2)
 
-    def try_in_turn(name):
+    def try_in_turn(names):
         with turns:
-            return try_edit(name, files)
+            return try_edits_of_crate(names, files)
 
     with ThreadPoolExecutor(min(4, len(os.sched_getaffinity(0)))) as pool:
-        tries = [pool.submit(try_in_turn, name) for names in groups for name in names]
+        tries = [pool.submit(try_in_turn, names) for names in groups]
         turns.release(2)
-        rejected = [it.result() for it in tries]
+        rejected = [each for it in tries for each in it.result()]
     print(f"tests/edits.py: {len(rejected)} edits tried, {sum(rejected)} rejected")
     return bool(rejected) and all(rejected)
+
+
+def groups_by_crate(names):
+    """Returns the edits of each crate, of the crate with the most edits first."""
+    crates = sorted({crate_of(name) for name in names})
+    groups = [[name for name in names if crate_of(name) == crate] for crate in crates]
+    return sorted(groups, key=len, reverse=True)
 
 
 def groups_as_proved(lines, edits):
@@ -177,7 +199,7 @@ def main():
         print("usage: tests/edits.py [-|--list|FILE..|CRATE..]", file=sys.stderr)
         return 2
     libraries_are_current(names)
-    return 0 if are_rejected([names], files) else 1
+    return 0 if are_rejected(groups_by_crate(names), files) else 1
 
 
 if __name__ == "__main__":
