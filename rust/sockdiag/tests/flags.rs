@@ -24,13 +24,22 @@ macro_rules! test_flags {
                 let set = <$kind>::from_bits_retain(left);
                 let other = <$kind>::from_bits_retain(right);
                 assert_eq!(set.contains(other), right & !left == 0, "{left} contains {right}");
-                assert_eq!((set | other).bits(), left | right);
-                let (mut assigned, mut inserted, mut removed) = (set, set, set);
-                assigned |= other;
-                inserted.insert(other);
-                removed.remove(other);
-                assert_eq!((assigned.bits(), inserted.bits()), (left | right, left | right));
-                assert_eq!(removed.bits(), left & !right);
+                assert_eq!(set.intersects(other), left & right != 0, "{left} and {right}");
+                let (union, common, rest) = (left | right, left & right, left & !right);
+                assert_eq!([(set | other).bits(), set.union(other).bits()], [union; 2]);
+                assert_eq!([(set & other).bits(), set.intersection(other).bits()], [common; 2]);
+                assert_eq!([(set - other).bits(), set.difference(other).bits()], [rest; 2]);
+                // Returns the bits of the set after a change.
+                let after = |change: fn(&mut $kind, $kind)| {
+                    let mut changed = set;
+                    change(&mut changed, other);
+                    changed.bits()
+                };
+                assert_eq!([after(|it, by| *it |= by), after(<$kind>::insert)], [union; 2]);
+                assert_eq!(after(|it, by| *it &= by), common);
+                assert_eq!([after(|it, by| *it -= by), after(<$kind>::remove)], [rest; 2]);
+                assert_eq!(after(|it, by| it.set(by, true)), union);
+                assert_eq!(after(|it, by| it.set(by, false)), rest);
             }
         }
     };
@@ -54,6 +63,12 @@ test_flags!(inet_states, inet::StateFlags, u32, {
 test_flags!(inet_attributes, ExtensionFlags, u8, {
     MEMINFO: 0, INFO: 1, VEGASINFO: 2, CONG: 3, TOS: 4, TCLASS: 5, SKMEMINFO: 6, SHUTDOWN: 7,
 });
+
+#[test]
+fn methods_make_constants() {
+    const SHOW: ShowFlags = ShowFlags::NAME.union(ShowFlags::PEER);
+    assert_eq!(SHOW, ShowFlags::NAME | ShowFlags::PEER);
+}
 
 #[test]
 fn every_state_has_all_bits() {
