@@ -124,6 +124,8 @@ if "$install" --uninstall "$work/partial" >"$work/out" 2>&1; then
     fail "the status of --uninstall with a folder"
 fi
 [ -z "$(find "$work/partial" ! -type d)" ] || fail "--uninstall leaves files beside a folder"
+fails 1 "--uninstall of a prefix without files" "$install" --uninstall "$work/none"
+grep -qF "nothing was removed: $work/none has no file" "$work/out" || fail "$(cat "$work/out")"
 
 # The loader's folders are those that ldconfig lists.
 mkdir "$work/commands"
@@ -172,8 +174,11 @@ if LD_LIBRARY_PATH="$prefix/lib" "$work/new" 2>"$work/out"; then
 fi
 grep -q "SOCKDIAG_$next' not found" "$work/out" || fail "an older library: $(cat "$work/out")"
 
-"$install" --uninstall "$prefix" >/dev/null
+count=$(find "$prefix" ! -type d | wc -l)
+"$install" --uninstall "$prefix" >"$work/out"
 [ -z "$(find "$prefix" ! -type d)" ] || fail "--uninstall"
+echo "tools/install: removed $count files of sockdiag $version from $prefix" |
+    diff - "$work/out" || fail "what --uninstall prints"
 
 # For packages: no compiler is needed, and there is no hint. tests/release.sh lists the files.
 DESTDIR="$work/staged" LIBDIR=lib64 SHARED=no CC=false "$install" /usr >"$work/out"
