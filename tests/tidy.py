@@ -9,6 +9,7 @@
 import re
 import subprocess
 import sys
+from datetime import date
 from pathlib import Path
 
 TOP = Path(__file__).resolve().parent.parent
@@ -23,6 +24,9 @@ LINK = re.compile(r"\[[^\]]*\]\(([^)\s]+)\)")
 # try_it are placeholders.
 PATH = re.compile(r"`((?:bench|crates|docs|examples|include|tests|tools)/[\w./]+)`")
 PLACEHOLDER = re.compile(r"NAME|CRATE|try_it")
+# The date of a version in CHANGELOG.md, and that of a manual page, as it is written there.
+RELEASED = r"(?m)^## \[{}\] - (\d{{4}}-\d\d-\d\d)$"
+MANUAL_DATE = ".Dd %B %-d, %Y"
 # The line with the version in each file; the first match counts. CHANGELOG.md may begin with a
 # heading [Unreleased], for the changes since that version.
 VERSIONS = {
@@ -119,6 +123,20 @@ def wrong_versions(files):
         yield "rust/sockdiag/LICENSE-MIT: not the text of LICENSE-MIT"
 
 
+def wrong_dates(files):
+    """Yields the manual pages that have another date than the version has in CHANGELOG.md."""
+    version = (TOP / "VERSION").read_text(encoding="utf-8").strip()
+    found = re.search(RELEASED.format(re.escape(version)), files["CHANGELOG.md"])
+    if not found:
+        yield f"CHANGELOG.md: no date of {version}"
+        return
+    expected = date.fromisoformat(found[1]).strftime(MANUAL_DATE)
+    for page in sorted((TOP / "man").iterdir()):
+        line = page.read_text("utf-8").partition("\n")[0]
+        if line != expected:
+            yield f"man/{page.name}: {line}, expected {expected}"
+
+
 def edited_files(crate, edit, files):
     """Returns the texts of the files of a crate that an edit changes, by name, and why the edit
     cannot be applied, or "": each `old:` text has to occur once in its file."""
@@ -174,7 +192,7 @@ def main():
     else:
         files = text_files()
         wrong = [*repeated_code(files), *wide_lines(files), *broken_links(TOP, files),
-                 *wrong_versions(files), *unusable_edits(files)]
+                 *wrong_versions(files), *wrong_dates(files), *unusable_edits(files)]
     print(*wrong, f"tests/tidy.py: {len(wrong)} errors", sep="\n")
     return 1 if wrong else 0
 
