@@ -9,7 +9,7 @@
 #   file of them.
 # - The archive for users and the packages have no broken link. The archive's examples in C and Rust
 #   can be built, but not with a library of another version, and its Rust crate can be packaged.
-# - lintian reports no error and no warning for the packages.
+# - lintian reports no error and no warning for the packages, with and without a maintainer.
 # - The packages can be installed into another root and removed from it (skipped without root).
 # - tools/pack fails if a file or the date of the version is missing.
 # - tools/release packs what a gate left that is made here, with --proofs also the results of an rt
@@ -211,8 +211,13 @@ for case in "dated $day" 'future 2106-02-08'; do
     TZ=UTC tar -tvzf "$folder/$users.tar.gz" --full-time | grep -v " ${case#* } " >wrong || continue
     fail "$folder: $(head -n 1 wrong)"
 done
+(unset DEBFULLNAME DEBEMAIL && SOURCE_DATE_EPOCH='' pack one nameless) 2>said
 if has dpkg-deb && has lintian; then
-    lintian --allow-root --fail-on error,warning dated/*.deb >said || fail "lintian: $(cat said)"
+    grep -q '^tools/pack: set DEBEMAIL' said || fail "without DEBEMAIL: $(cat said)"
+    for folder in dated nameless; do
+        lintian --allow-root --fail-on error,warning $folder/*.deb >said ||
+            fail "lintian, $folder: $(cat said)"
+    done
 fi
 
 # What the gate leaves, and an rt, by which one library has no proof results after rt lib.
