@@ -14,10 +14,9 @@ use core::fmt;
 /// each header, and repeat the request if the dump was interrupted.
 ///
 /// **A message does not show who sent it.** Other processes can send to a netlink socket, with any
-/// numbers in the header. Connect the socket to port id 0 by connect(2), as
-/// `examples/list_sockets.rs` does: then only the kernel can send to it. After that,
-/// getsockname(2) returns the port id of the socket in `nl_pid`. Pass it to [`AnswerCheck::new`],
-/// as the example does.
+/// numbers in the header. Connect the socket to port id 0 by connect(2), as `examples/dump/mod.rs`
+/// does: then only the kernel can send to it. After that, getsockname(2) returns the port id of the
+/// socket in `nl_pid`. Pass it to [`AnswerCheck::new`], as the example does.
 ///
 /// **A dump without this flag may be incomplete too.** Linux 6.18 did not set it in any message of
 /// dumps during which sockets opened and closed, and sockets were missing or listed twice. To miss

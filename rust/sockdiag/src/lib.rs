@@ -16,7 +16,7 @@
 //! repeat the request if the dump was interrupted; the documentation of [`AnswerCheck`] says what
 //! the kernel does not report. A [`RejectedMessage`] without a header is a framing error: the rest
 //! of the datagram is lost, and possibly the end, so repeat the request on another socket.
-//! `examples/list_sockets.rs` is a complete program.
+//! `examples/dump/mod.rs` does this, and is to be copied. `examples/list_sockets.rs` uses it.
 //!
 //! The datagrams of a dump have at most 32 KiB. recv(2) cuts a longer datagram than the buffer
 //! silently: use 64 KiB, and treat a datagram that fills the buffer as cut.

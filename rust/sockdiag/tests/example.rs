@@ -25,9 +25,10 @@ const PORT_NUMBER: u32 = 9;
 /// first one, the end of a dump of another socket, a reply that is too short, a reply about a
 /// socket, one with memory of 4 bytes instead of 36, and its own end. Of the first answer about UDP
 /// sockets over IPv4 a datagram was dropped, and the first one over IPv6 has a truncated message:
-/// neither has an end. The answer about netlink sockets has a reply, and the one about packet
-/// sockets also a reply with settings of 4 bytes instead of 24. Each other request is answered by
-/// an error. A signal interrupts the first read of each socket.
+/// neither has an end. The answer about netlink sockets has a reply, and one after its end, which
+/// is none of it. The answer about packet sockets has a reply, and one with settings of 4 bytes
+/// instead of 24. Each other request is answered by an error. A signal interrupts the first read of
+/// each socket.
 struct Kernel<'r> {
     /// The requests that were sent on all sockets.
     requests: &'r RefCell<Vec<Vec<u8>>>,
@@ -74,7 +75,10 @@ impl Write for Kernel<'_> {
             ],
             5 => vec![],
             7 => vec![inner(&reply)[..30].to_vec()],
-            11 => vec![inner(&bytes_of(NETLINK)), done(number, NLM_F_MULTI)],
+            11 => vec![
+                inner(&bytes_of(NETLINK)),
+                [done(number, NLM_F_MULTI), inner(&bytes_of(NETLINK))].concat(),
+            ],
             12 => vec![
                 [inner(&packet), inner(&short_info)].concat(),
                 done(number, NLM_F_MULTI),
@@ -122,14 +126,14 @@ fn lists_sockets_once_after_incomplete_dumps() {
     let mut lister = Lister {
         open,
         output: Vec::new(),
-        sequence_number: 0,
         is_incomplete: false,
     };
     lister.list_all().unwrap();
     // A reply was rejected.
     assert!(lister.is_incomplete);
     let lines = String::from_utf8(lister.output).unwrap();
-    let expected = "unix type 1 state 10 inode 78 @a\\x00b peer 3 pending 4 pending 261\n\
+    let expected =
+        "unix type 1 state 10 inode 78 @a\\x00b peer 3 received 6 sent 7 pending 4 pending 261\n\
         unix type 1 state 10 inode 78 rejected 5 \
         (UnixMemInfo: buffer of 4 bytes, at least 36 needed)\n\
         netlink protocol 0 port 6250 inode 87039 group 1 group 5\n\
