@@ -113,6 +113,15 @@ static int dump_receive(struct dump *dump) {
     return state;
 }
 
+/* Sends the request. Returns 0, or -1 with errno. */
+static int dump_send(const struct dump *dump, const uint8_t *request, size_t length) {
+    ssize_t sent;
+    do
+        sent = send(dump->fd, request, length, 0);
+    while (sent < 0 && errno == EINTR);
+    return sent < 0 ? -1 : 0;
+}
+
 /* Opens a socket to which only the kernel can send, requests the dump, and receives it. */
 static int dump_once(struct dump *dump, uint8_t *request, size_t length) {
     struct sockaddr_nl address;
@@ -129,7 +138,7 @@ static int dump_once(struct dump *dump, uint8_t *request, size_t length) {
         return errno;
     if (connect(dump->fd, (struct sockaddr *)&address, sizeof address) != 0
         || getsockname(dump->fd, (struct sockaddr *)&address, &size) != 0
-        || send(dump->fd, request, length, 0) < 0) {
+        || dump_send(dump, request, length) != 0) {
         state = errno;
     } else {
         dump->port_number = address.nl_pid;

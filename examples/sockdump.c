@@ -119,7 +119,8 @@ static size_t fill_inet(struct request *request, const struct kind *kind) {
      * they would list TCP sockets. For 0 they answer with ENOENT. */
     request->body.inet.fixed.sdiag_protocol = 0;
     request->body.inet.head.nla_type = INET_DIAG_REQ_PROTOCOL;
-    request->body.inet.head.nla_len = NLA_HDRLEN + sizeof request->body.inet.protocol;
+    request->body.inet.head.nla_len = sizeof request->body.inet.head
+                                    + sizeof request->body.inet.protocol;
     request->body.inet.protocol = kind->protocol;
     return sizeof request->body.inet;
 }
@@ -206,6 +207,7 @@ static int write_packet(const struct datagram *it) {
 /* Sends the request for a kind, and stores it in a datagram. */
 static int send_request(int kernel, const struct kind *kind, struct datagram *sent) {
     struct request request;
+    ssize_t length;
     memset(&request, 0, sizeof request);
     sent->length = sizeof request.header + kind->fill(&request, kind);
     request.header.nlmsg_len = (uint32_t)sent->length;
@@ -214,9 +216,10 @@ static int send_request(int kernel, const struct kind *kind, struct datagram *se
     request.header.nlmsg_seq = (uint32_t)(kind - kinds) + 1;
     memcpy(sent->data.bytes, &request, sent->length);
     clock_gettime(CLOCK_REALTIME, &sent->time);
-    if (send(kernel, sent->data.bytes, sent->length, 0) != (ssize_t)sent->length)
-        return fail("send");
-    return 0;
+    do
+        length = send(kernel, sent->data.bytes, sent->length, 0);
+    while (length < 0 && errno == EINTR);
+    return length < 0 ? fail("send") : 0;
 }
 
 /* Receives a datagram. */

@@ -10,15 +10,19 @@
  * invalid one: those of MPTCP, whose INET_DIAG_INFO is no struct tcp_info, and the memory of
  * netlink sockets. If no line has the protocol, the answer is ENOENT for IPv4 and IPv6, and EINVAL
  * for other families. If the file has no mptcp, the attribute with the protocol is ignored, as
- * kernels without MPTCP do. A filter by the local port selects replies as the kernel does.
- * tests/api/kernels.py runs listers in this way, and tests/api/sockdump.py sockdump. These
- * variables change the datagrams:
+ * kernels without MPTCP do. A filter by the local port selects replies as the kernel does. After
+ * the end of an answer, where a kernel blocks, recv fails with ETIMEDOUT. tests/api/kernels.py runs
+ * listers in this way, and tests/api/sockdump.py sockdump. These variables change the datagrams:
  *
  * - Each datagram begins with the end of a dump that another socket requested, which a lister
  *   recognizes by its port id. With FAKE_KERNEL_ALONE there is no other socket.
  * - If FAKE_KERNEL_EXCESS is a number, each datagram has so many bytes more than the buffer. It
  *   ends with an NLMSG_NOOP, which fills the rest of the buffer if the excess is cut.
  * - If FAKE_KERNEL_LACK is a number below 20, each datagram lacks so many of its last bytes.
+ * - If FAKE_KERNEL_LENGTH is a number, it is the length field of the last message of each datagram.
+ * - If FAKE_KERNEL_END is a number, each dump ends with it. If it is empty, with no number.
+ * - If FAKE_KERNEL_INTERRUPTIONS is a number, so many dumps are interrupted: that of a request, and
+ *   those of the requests that follow and are the same but for the sequence number.
  *
  * Otherwise the first request is answered by a dump that is interrupted. The second one, which has
  * to be the same with another sequence number, is answered by the end of another dump, a reply that
@@ -27,6 +31,9 @@
  * the first one over IPv6 has a truncated message. Neither of these dumps ends, so they have to be
  * requested again on another socket. Each other request is answered by ENOENT. The state of the
  * sockets shows which states were requested. tests/api/c_api.sh compares the output.
+ *
+ * If FAKE_KERNEL_SIGNALS is set, a signal interrupts each second call that sends or receives,
+ * beginning with the first one.
  *
  * A socket has to be connected to the kernel before it sends and receives. If FAKE_KERNEL_REFUSES
  * is set, connect fails. Requests are answered all the same, as a kernel does, so a lister that
@@ -57,10 +64,20 @@
 static uint8_t request[128], first_request[128];
 static size_t request_length;
 static int requests, datagrams, sockets, is_connected, kernel = -1;
+/* How many requests precede this one that are the same but for the sequence number. */
+static size_t repetitions;
 /* The file of replies, or null; whether it has replies of the requested protocol; and whether it
  * has replies of MPTCP. */
 static FILE *replies;
 static int has_protocol, has_mptcp;
+/* Whether the answer from the file has ended. */
+static int has_ended;
+
+/* Returns the number in an environment variable, or 0. */
+static size_t variable(const char *name) {
+    const char *text = getenv(name);
+    return text == NULL ? 0 : strtoul(text, NULL, 10);
+}
 
 /* Opens the file of replies. Returns whether this succeeds. */
 static int open_replies(const char *path) {
@@ -104,16 +121,33 @@ int getsockname(int fd, struct sockaddr *address, socklen_t *length) {
     return 0;
 }
 
+/* Returns whether a signal interrupts a call, which is each second one, and sets errno. */
+static int is_interrupted(void) {
+    static int calls;
+    errno = EINTR;
+    return getenv("FAKE_KERNEL_SIGNALS") != NULL && calls++ % 2 == 0;
+}
+
+/* Returns whether the request is the same as another one, but for the sequence number. */
+static int repeats(const uint8_t *other) {
+    return memcmp(request, other, 8) == 0 && memcmp(request + 8, other + 8, 4) != 0
+        && memcmp(request + 12, other + 12, sizeof request - 12) == 0;
+}
+
 ssize_t send(int fd, const void *bytes, size_t length, int flags) {
+    static uint8_t previous[sizeof request];
     (void)fd;
     (void)flags;
-    if (!has_connected())
+    if (is_interrupted() || !has_connected())
         return -1;
+    memcpy(previous, request, sizeof previous);
+    memset(request, 0, sizeof request);
     request_length = length < sizeof request ? length : sizeof request;
     memcpy(request, bytes, request_length);
+    repetitions = repeats(previous) ? repetitions + 1 : 0;
     requests++;
     datagrams = 0;
-    has_protocol = 0;
+    has_protocol = has_ended = 0;
     if (replies != NULL)
         rewind(replies);
     if (requests == 1)
@@ -128,13 +162,6 @@ static size_t put(uint8_t *bytes, uint16_t type, uint16_t flags, uint32_t number
     memcpy(bytes, &header, 16);
     memcpy(bytes + 16, payload, length);
     return 16 + length;
-}
-
-/* Returns whether the request is the first one, but for the sequence number. */
-static int is_repeated(void) {
-    return memcmp(request, first_request, 8) == 0 &&
-           memcmp(request + 8, first_request + 8, 4) != 0 &&
-           memcmp(request + 12, first_request + 12, sizeof request - 12) == 0;
 }
 
 /* Returns the name of the protocol of a request for IPv4 or IPv6 sockets. A protocol above 255 is
@@ -312,20 +339,27 @@ static size_t put_other_end(uint8_t *bytes, uint32_t number) {
     return length;
 }
 
-/* Writes the next datagram of an answer by the replies of the file. Returns its length. */
+/* Writes the end of a dump, with the number that FAKE_KERNEL_END has. Returns its length. */
+static size_t put_end(uint8_t *bytes, uint32_t number) {
+    const char *text = getenv("FAKE_KERNEL_END");
+    const int32_t result = text == NULL ? 0 : (int32_t)strtol(text, NULL, 10);
+    const size_t length = text != NULL && *text == '\0' ? 0 : sizeof result;
+    const int is_last = repetitions >= variable("FAKE_KERNEL_INTERRUPTIONS");
+    const uint16_t flags = is_last ? NLM_F_MULTI : NLM_F_MULTI | NLM_F_DUMP_INTR;
+    return put(bytes, NLMSG_DONE, flags, number, &result, length);
+}
+
+/* Writes the next message of an answer by the replies of the file. Returns its length. */
 static size_t put_from_file(uint8_t *bytes, uint32_t number) {
-    static const int32_t success = 0;
     static uint8_t reply[MOST_REPLY];
     const int32_t failure = request[16] == AF_INET || request[16] == AF_INET6 ? -ENOENT : -EINVAL;
-    const size_t start = put_other_end(bytes, number);
     const size_t length = next_reply(reply);
-    bytes += start;
     if (length > 0)
-        return start
-             + put(bytes, SOCKDIAG_SOCK_DIAG_BY_FAMILY, NLM_F_MULTI, number, reply, length);
+        return put(bytes, SOCKDIAG_SOCK_DIAG_BY_FAMILY, NLM_F_MULTI, number, reply, length);
+    has_ended = 1;
     if (!has_protocol)
-        return start + put(bytes, NLMSG_ERROR, 0, number, &failure, 4);
-    return start + put(bytes, NLMSG_DONE, NLM_F_MULTI, number, &success, 4);
+        return put(bytes, NLMSG_ERROR, 0, number, &failure, 4);
+    return put_end(bytes, number);
 }
 
 /* Fills the buffer, after the first bytes of a datagram, with a message that exceeds it. Returns
@@ -338,10 +372,16 @@ static ssize_t exceed(uint8_t *bytes, size_t start, size_t capacity, size_t exce
     return (ssize_t)length;
 }
 
-/* Returns the number in an environment variable, or 0. */
-static size_t variable(const char *name) {
-    const char *text = getenv(name);
-    return text == NULL ? 0 : strtoul(text, NULL, 10);
+/* Writes the next datagram of an answer by the replies of the file, as the variables change it.
+ * Returns the length that recv returns. */
+static ssize_t put_datagram(uint8_t *bytes, uint32_t number, size_t capacity, int flags) {
+    const size_t start = put_other_end(bytes, number);
+    const size_t end = start + put_from_file(bytes + start, number) - variable("FAKE_KERNEL_LACK");
+    const size_t excess = variable("FAKE_KERNEL_EXCESS");
+    const uint32_t length = (uint32_t)variable("FAKE_KERNEL_LENGTH");
+    if (getenv("FAKE_KERNEL_LENGTH") != NULL)
+        memcpy(bytes + start, &length, sizeof length);
+    return excess == 0 ? (ssize_t)end : exceed(bytes, end, capacity, excess, flags);
 }
 
 /* Answers a request for UDP sockets. The first answer of each family loses data. A request on the
@@ -372,18 +412,18 @@ ssize_t recv(int fd, void *buffer, size_t capacity, int flags) {
     uint32_t number;
     size_t end = 0;
     (void)fd;
-    if (!has_connected())
+    if (is_interrupted() || !has_connected())
+        return -1;
+    errno = ETIMEDOUT;
+    if (has_ended)
         return -1;
     memcpy(&number, request + 8, 4);
-    if (replies != NULL) {
-        const size_t excess = variable("FAKE_KERNEL_EXCESS");
-        end = put_from_file(bytes, number) - variable("FAKE_KERNEL_LACK");
-        return excess == 0 ? (ssize_t)end : exceed(bytes, end, capacity, excess, flags);
-    }
+    if (replies != NULL)
+        return put_datagram(bytes, number, capacity, flags);
     datagrams++;
     if (request[16] != AF_UNIX && request[17] == IPPROTO_UDP)
         return lose_data(bytes, number);
-    if (requests > 2 || (requests == 2 && !is_repeated()))
+    if (requests > 2 || (requests == 2 && !repeats(first_request)))
         return (ssize_t)put(bytes, NLMSG_ERROR, 0, number, &failure, 4);
     if (datagrams == 2)
         return (ssize_t)put(bytes, NLMSG_DONE, NLM_F_MULTI, number, &success, 4);

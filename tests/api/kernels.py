@@ -7,15 +7,16 @@ and rust_api.sh run this script.
 A file of tests/api/kernels has replies, and the words of the line that a lister prints for each.
 fake_kernel.c, which is preloaded, answers the requests of the lister with them. A lister has to
 print a line for each reply, in the order of the file, with these words and no others, and end with
-status 0. Words that only one of the listers prints are not compared: the lengths of the queues, and
-the text of an error, which is in parentheses. A lister that takes arguments has to print the lines
-with a local port, and with -l those of sockets that listen. The lister list_rtt has to print the
-established TCP connections.
+status 0, also if signals interrupt its calls, and if the first nine dumps of a request are
+interrupted. The text of an error, which is in parentheses, is not compared. A lister that takes
+arguments has to print the lines with a local port, and with -l those of sockets that listen. The
+lister list_rtt has to print the established TCP connections.
 
 A lister has to print no character that could control a terminal. It has to end with status 1,
 without a line, if it cannot connect to the kernel, and if each datagram is longer than its buffer
-or truncated. It also has to end with status 1 if a reply is too short, after the lines about the
-others, and if its output cannot be written. The exit status is 1 if a lister fails.
+or truncated. It also has to end with status 1, after the lines, if ten dumps of a request are
+interrupted, if a dump ends with an error or with an invalid number, if another reply is too short,
+and if its output cannot be written. The exit status is 1 if a lister fails.
 """
 
 import os
@@ -31,6 +32,11 @@ PROTOCOLS = ("tcp", "udp", "mptcp")
 # Numbers of bytes by which datagrams exceed the buffer, and that they lack.
 EXCESSES = ("1", "4", "60000")
 LACKS = ("1", "4", "19")
+# How often a dump is requested, if it is always interrupted.
+ATTEMPTS = 10
+# Numbers with which a dump ends, and the texts of the errors. Error numbers are -4095 to -1.
+ENDS = (("-1", "Operation not permitted"), ("-4095", "Unknown error 4095"),
+        *((it, "Protocol error") for it in ("", "1", "2", "-4096", "-2147483648")))
 
 
 def replies():
@@ -54,7 +60,7 @@ def build(folder):
 
 def compared_words(line):
     """Returns the words of a line that every lister prints."""
-    return re.sub(r" received \d+ sent \d+| \(.*\)$", "", line).split()
+    return re.sub(r" \(.*\)$", "", line).split()
 
 
 def environment(library, file, **variables):
@@ -93,18 +99,20 @@ def line_of_rtt(line):
     return found and found[1] + (found[2] or "")
 
 
-def compare(lister, library, file, *arguments, status=0):
-    """Runs the lister with the replies of the file. Returns whether it prints what it has to, and
-    ends with this status."""
+def compare(lister, library, file, *arguments, status=0, error="", **variables):
+    """Runs the lister with the replies of the file. Returns whether it prints what it has to,
+    reports this error, and ends with this status."""
     lines = [line[2:] for line in file.read_text().splitlines() if line.startswith("= ")]
     expected = [line for line in lines if is_listed(line, arguments)]
     if is_list_rtt(lister):
         expected = list(filter(None, map(line_of_rtt, lines)))
-    done = run(lister, library, file, *arguments)
+    done = run(lister, library, file, *arguments, **variables)
     found = [compared_words(line) for line in done.stdout.splitlines()]
-    if found == [line.split() for line in expected] and done.returncode == status:
+    is_listed_all = found == [line.split() for line in expected]
+    if is_listed_all and done.returncode == status and error in done.stderr:
         return True
-    return report(lister, done, f"the replies of {file.name} {arguments}", expected)
+    what = f"the replies of {file.name} {arguments} {variables}"
+    return report(lister, done, what, [*expected, f"status {status} {error}"])
 
 
 def compare_arguments(lister, library, file):
@@ -151,6 +159,15 @@ def reports_short_reply(lister, library, file, folder):
     return compare(lister, library, changed, status=1)
 
 
+def repeats_dumps(lister, library, file):
+    """Returns whether the lister repeats a dump that was interrupted, and reports it if it was
+    interrupted at the last attempt."""
+    last, more = str(ATTEMPTS - 1), str(ATTEMPTS)
+    return (compare(lister, library, file, FAKE_KERNEL_INTERRUPTIONS=last)
+            and compare(lister, library, file, status=1, error="interrupted",
+                        FAKE_KERNEL_INTERRUPTIONS=more))
+
+
 def reports_full_disk(lister, library, file):
     """Returns whether the lister fails if its output cannot be written."""
     with open("/dev/full", "wb") as full:
@@ -170,6 +187,10 @@ def is_right(lister, library, files, folder):
     results.append(fails(lister, library, files[0], FAKE_KERNEL_REFUSES="1"))
     results += [fails(lister, library, files[0], FAKE_KERNEL_EXCESS=it) for it in EXCESSES]
     results += [fails(lister, library, files[0], FAKE_KERNEL_LACK=it) for it in LACKS]
+    results.append(compare(lister, library, files[0], FAKE_KERNEL_SIGNALS="1"))
+    results.append(repeats_dumps(lister, library, files[0]))
+    results += [compare(lister, library, files[0], status=1, error=error, FAKE_KERNEL_END=it)
+                for it, error in ENDS]
     results.append(reports_short_reply(lister, library, HERE / "kernels/tcp-info", folder))
     results.append(reports_full_disk(lister, library, files[0]))
     if not is_list_rtt(lister):

@@ -11,6 +11,7 @@ round. Also compared are the time between rounds, that each round is written as 
 program ends, and the texts of errors. The exit status is 1 if something differs.
 """
 
+import itertools
 import os
 import signal
 import socket
@@ -63,6 +64,9 @@ FAILURES = [
         ({"FAKE_KERNEL_EXCESS": "1"}, 1,
          "sockdump: unix: datagram of 65537 bytes exceeds the buffer\n"))),
     # Without a file, this kernel loses the first datagram about UDP sockets.
+    # A length field below the 16 bytes of the header, in the end of an answer and in a reply.
+    *(([kind], {"FAKE_KERNEL_LENGTH": it}, 1, f"sockdump: {kind}: truncated message\n")
+      for kind in ("xdp", "unix") for it in ("0", "1", "4", "12", "15")),
     (["udp"], {"FAKE_KERNEL_REPLIES": None}, 1, "sockdump: recv: No buffer space available\n"),
 ]
 
@@ -132,20 +136,25 @@ class Runs:
     def end(self, arguments, output, file, **variables):
         """Runs the program. Returns its exit status, standard output and standard error."""
         with self.start(arguments, output, file, **variables) as running:
-            written, errors = running.communicate(timeout=60)
+            try:
+                written, errors = running.communicate(timeout=60)
+            finally:
+                running.kill()
         return running.returncode, written, errors.decode()
 
 
 def test_kinds(runs, files):
-    """Requests all kinds, and some of them. A kind that the kernel lacks is written if it is
-    named."""
-    for file in files:
-        for kinds in ([], ["tcp"], ["xdp", "vsock", "raw", "unix"], ["mptcp", "netlink"]):
-            status, written, errors = runs.end(kinds, subprocess.PIPE, file)
-            compare(f"{file.name} {kinds}", (status, errors), (0, ""))
-            now = time.time()
-            assert all(now - 60 < it <= now for it, _ in packets(written)), "time of a packet"
-            compare_datagrams(f"{file.name} {kinds}", written, expected_round(file, kinds))
+    """Requests all kinds, and some of them, also while signals interrupt the calls. A kind that the
+    kernel lacks is written if it is named."""
+    selections = ([], ["tcp"], ["xdp", "vsock", "raw", "unix"], ["mptcp", "netlink"])
+    signals = ({}, {"FAKE_KERNEL_SIGNALS": "1"})
+    for file, kinds, variables in itertools.product(files, selections, signals):
+        what = f"{file.name} {kinds} {variables}"
+        status, written, errors = runs.end(kinds, subprocess.PIPE, file, **variables)
+        compare(what, (status, errors), (0, ""))
+        now = time.time()
+        assert all(now - 60 < it <= now for it, _ in packets(written)), "time of a packet"
+        compare_datagrams(what, written, expected_round(file, kinds))
 
 
 def test_failures(runs, files):
