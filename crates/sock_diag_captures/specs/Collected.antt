@@ -1,8 +1,8 @@
 -- The attributes of a reply, sorted: the first valid attribute of a kind counts, and each one that
 -- is invalid or unknown is listed.
-use Rattle.std.specs.Prelude.{ℕ, ◌==◌, ◌&&◌, if◌then◌else◌, Bool, false, List, [], ◌∷◌, flat_map}
+use Rattle.std.specs.Prelude.{ℕ, ◌≡◌, ◌==◌, ◌&&◌, if◌then◌else◌, Bool, false, List, [], ◌∷◌}
 use Rattle.std.specs.Prelude.{map, Option, None, Some, option_map, Result, Ok, Err, slice_index_or}
-use Rattle.std.specs.Prelude.{is_none, length, nat_lt, slice_set}
+use Rattle.std.specs.Prelude.{flat_map, is_none, length, nat_lt, slice_set}
 use Rattle.std.specs.List.{range_with_len}
 use Rattle.netlink_core.specs.Attribute.{Attribute, attribute_kind}
 use Rattle.netlink_core.specs.Walk.{buffered_attribute}
@@ -78,6 +78,13 @@ collected found = record {
   others = map other_model found.others.items;
   end = found.end;
 }
+
+-- nothing is collected yet
+abbrev pub HasNone : Attributes → Type 0
+HasNone found =
+    (length found.first.slots ≡ 23)
+    × ((k : ℕ) → slice_index_or found.first.slots k None ≡ None)
+    × (found.others.items ≡ []) × (found.end ≡ None)
 
 -- `first_in k s`: the first valid attribute of the kind `k`, or None
 abbrev pub first_in : ℕ → Summary → Option Attribute

@@ -5,7 +5,8 @@ ghost use Rattle.std.specs.Prelude.{◌≡◌, ◌<◌, ◌++◌, ◌∷◌, ℕ
 ghost use Rattle.std.specs.Prelude.{map, slice_index_or};
 ghost use Rattle.std.specs.Option.{option_or};
 ghost use Rattle.netlink_core.specs.Walk.{buffered_attribute};
-ghost use Rattle.sock_diag_captures.specs.Collected.{attribute_status, collected, first_in};
+ghost use Rattle.sock_diag_captures.specs.Collected.{HasNone, attribute_status, collected};
+ghost use Rattle.sock_diag_captures.specs.Collected.{first_in};
 ghost use Rattle.sock_diag_captures.specs.Collected.{first_valid, is_valid, other_in_piece};
 ghost use Rattle.sock_diag_captures.specs.Collected.{other_model, slot_attribute, summary_of};
 ghost use Rattle.sock_diag_captures.specs.Collected.{with_element};
@@ -43,6 +44,42 @@ pub(crate) struct Attributes<'a> {
 }
 
 impl<'a> Attributes<'a> {
+    /// Returns no attributes of a reply about these sockets.
+    #[inline(always)]
+    pub(crate) fn new(alloc: Global, sockets: Sockets) -> Attributes<'a>
+        ensures sockets { result.sockets ≡ sockets }
+        ensures none { HasNone result }
+    {
+        Attributes {
+            sockets,
+            first: FirstValid {
+                slots: [None; KINDS],
+            },
+            others: Vec::new(alloc),
+            end: None,
+        }
+    }
+
+    /// Adds the attributes in the bytes after the header of a reply. It fills the array in place:
+    /// a function that returned it would copy it.
+    pub(crate) fn collect(&mut self, bytes: &'a [u8]) -> Result<(), AllocError>
+        requires { HasNone self.now }
+        ensures summary { OnOk result (collected self.new
+            ≡ summary_of self.old.sockets (attributes_or_error 0 bytes.entry.now)) }
+        ensures end { OnOk result (self.new.end
+            ≡ framing_error_of (attributes_or_error 0 bytes.entry.now)) }
+    {
+        let sockets = self.sockets;
+        let mut walk = NlasIterator::new(bytes);
+        while let Some(piece) = next_piece(&mut walk) {
+            match piece {
+                Ok(nla) => add(sockets, &mut self.first.slots, &mut self.others, nla)?,
+                Err(error) => self.end = self.end.or(Some(error)),
+            }
+        }
+        Ok(())
+    }
+
     /// Returns the first valid attribute of a kind.
     pub(crate) fn first_of(&self, kind: u16) -> Option<NlaBuffer<'a>>
         ensures { slot_attribute result ≡ first_in kind (collected self.now) }
@@ -51,39 +88,8 @@ impl<'a> Attributes<'a> {
     }
 }
 
-/// Returns the attributes in the bytes after the header of a reply about these sockets.
-pub(crate) fn collect<'a>(
-    alloc: Global,
-    sockets: Sockets,
-    bytes: &'a [u8],
-) -> Result<Attributes<'a>, AllocError>
-    ensures summary { IfOk result (λ found. collected found
-        ≡ summary_of sockets (attributes_or_error 0 bytes.entry.now)) }
-    ensures end { IfOk result (λ found. found.end
-        ≡ framing_error_of (attributes_or_error 0 bytes.entry.now)) }
-{
-    let mut slots = [None; KINDS];
-    let mut others = Vec::new(alloc);
-    let mut end = None;
-    let mut walk = NlasIterator::new(bytes);
-    while let Some(piece) = next_piece(&mut walk) {
-        match piece {
-            Ok(nla) => add(alloc, sockets, &mut slots, &mut others, nla)?,
-            Err(error) => end = end.or(Some(error)),
-        }
-    }
-    let first = FirstValid { slots };
-    Ok(Attributes {
-        sockets,
-        first,
-        others,
-        end,
-    })
-}
-
 /// Adds an attribute to the first valid ones, or to the others.
 fn add<'a>(
-    alloc: Global,
     sockets: Sockets,
     slots: &mut [Option<NlaBuffer<'a>>],
     others: &mut Vec<(NlaBuffer<'a>, Status)>,
@@ -97,7 +103,7 @@ fn add<'a>(
     ensures others { OnOk result (map other_model others.new.items ≡ map other_model
         others.old.items ++ other_in_piece sockets (Ok (buffered_attribute nla.entry))) }
 {
-    let status = status_in(alloc, sockets, &nla)?;
+    let status = status_in(*others.allocator(), sockets, &nla)?;
     if is_valid(&status) {
         set_if_none(slots, nla.kind() as usize, nla);
         Ok(())

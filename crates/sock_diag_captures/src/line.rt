@@ -23,7 +23,7 @@ ghost use Rattle.sock_diag_captures.specs.Table.{unix_kind, unix_line, unix_line
 ghost use Rattle.sock_diag_captures.specs.declared.attributes.Sockets.TheVariants.{Inet, Unix};
 
 use crate::attributes::{Info, Sockets};
-use crate::collected::{Attributes, collect};
+use crate::collected::Attributes;
 use crate::details::{push_details, timer_of};
 use crate::json_attributes::push_json;
 use crate::kinds::{name_of_inet_kind, name_of_unix_kind};
@@ -124,7 +124,8 @@ fn push_unix_socket(
     if !options.lists_unix(header.state) {
         return Ok(find_framing_error(bytes));
     }
-    let found = collect(*text.allocator(), Sockets::Unix, bytes)?;
+    let mut found = Attributes::new(*text.allocator(), Sockets::Unix);
+    found.collect(bytes)?;
     push_unix_lines(text, options, header, &found)?;
     Ok(found.end)
 }
@@ -292,7 +293,8 @@ fn push_inet_socket(
         return Ok(find_framing_error(bytes));
     }
     let sockets = Sockets::Inet(info_of(socket.protocol));
-    let found = collect(*text.allocator(), sockets, bytes)?;
+    let mut found = Attributes::new(*text.allocator(), sockets);
+    found.collect(bytes)?;
     push_inet_lines(text, options, socket, &found)?;
     Ok(found.end)
 }

@@ -23,7 +23,7 @@ ghost use Rattle.sslist_options.specs.declared.options.Family.TheVariants.{Netli
 ghost use Rattle.sslist_options.specs.declared.options.Family.TheVariants.{Vsock, Xdp};
 
 use crate::attributes::{Sockets, memory_kind};
-use crate::collected::{Attributes, collect};
+use crate::collected::Attributes;
 use crate::details::push_details;
 use crate::json_attributes::{JsonHeader, push_json};
 use crate::kinds::name_of_other_kind;
@@ -147,7 +147,8 @@ fn push_socket<H: Listed>(
     ensures error { IfOk result
         (λ error. error ≡ framing_error_of (attributes_or_error 0 bytes.now)) }
 {
-    let found = collect(*text.allocator(), Sockets::Other(H::family()), bytes)?;
+    let mut found = Attributes::new(*text.allocator(), Sockets::Other(H::family()));
+    found.collect(bytes)?;
     let socket = header.socket(&found);
     push_output(text, options, header, &socket, &found)?;
     Ok(found.end)

@@ -4,5 +4,10 @@ use Rattle.sock_diag_captures.proofs.line.push_inet_socket.Goals as goal
 pub returns-clause-lines : goal.returns-clause-lines
 returns-clause-lines c =
     let asked = sym c.lists_inet.ensures ∙ c.if-not-lists_inet.false in
-    rw (asked, ← c.info_of.ensures, ← c.in_ok-found.ensures.summary)
+    rw (
+      asked,
+      ← c.info_of.ensures,
+      ← c.new-found.ensures.sockets,
+      ← c.in_ok-collect.ensures.summary,
+    )
     c.in_ok-push_inet_lines.ensures

@@ -2,5 +2,10 @@ use Rattle.sock_diag_captures.proofs.others.push_socket.Goals as goal
 
 pub returns-clause-lines : goal.returns-clause-lines
 returns-clause-lines g c =
-    rw (← c.family.ensures, ← c.in_ok-found.ensures.summary, ← c.socket-socket.ensures)
+    rw (
+      ← c.family.ensures,
+      ← c.new-found.ensures.sockets,
+      ← c.in_ok-collect.ensures.summary,
+      ← c.socket-socket.ensures,
+    )
     c.in_ok-push_output.ensures

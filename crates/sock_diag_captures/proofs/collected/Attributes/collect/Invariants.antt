@@ -4,19 +4,19 @@ use Rattle.sock_diag_captures.specs.Collected.{first_valid, other_in_piece, othe
 use Rattle.sock_diag_captures.specs.Collected.{slot_attribute}
 use Rattle.sock_diag_captures.specs.Pieces.{attributes_or_error, attributes_or_error_left}
 use Rattle.sock_diag_captures.specs.Pieces.{framing_error_of}
-use Rattle.sock_diag_captures.proofs.collected.collect.Given as goal
+use Rattle.sock_diag_captures.proofs.collected.Attributes.collect.Given as goal
 
 -- what was found so far, or else in the remaining pieces, is what all pieces have
 abbrev pub invariant-loop-piece : goal.invariant-loop-piece
 invariant-loop-piece l =
-    (length l.slots ≡ 23) × ((k : ℕ) → k < 23
-    → option_or (slot_attribute (slice_index_or l.slots k None))
+    (l.self.sockets ≡ l.sockets) × (length l.self.first.slots ≡ 23) × ((k : ℕ) → k < 23
+    → option_or (slot_attribute (slice_index_or l.self.first.slots k None))
     (first_valid l.sockets (attributes_or_error_left l.walk) k)
     ≡ first_valid l.sockets (attributes_or_error 0 l.bytes) k)
-    × (map other_model l.others.items
+    × (map other_model l.self.others.items
     ++ flat_map (other_in_piece l.sockets) (attributes_or_error_left l.walk)
     ≡ flat_map (other_in_piece l.sockets) (attributes_or_error 0 l.bytes))
-    × (option_or l.end (framing_error_of (attributes_or_error_left l.walk))
+    × (option_or l.self.end (framing_error_of (attributes_or_error_left l.walk))
     ≡ framing_error_of (attributes_or_error 0 l.bytes))
 
 abbrev pub decreases-loop-piece : goal.decreases-loop-piece
