@@ -8,6 +8,9 @@
                                  on are proved
     tests/edits.py --list        prints what the prover checks for each edit
 
+An edit that was rejected in this clone is not tried again while nothing that the prover reads for
+it has changed: out/edits-rejected has a sum of the edit and of these files.
+
 An edit makes code wrong. The prover checks the functions that it changes, and what they call, and
 has to reject one of the changed functions: a function that is not proved only because it calls such
 a function does not count. If an edit changes other text than functions, the functions of its module
@@ -15,6 +18,7 @@ are checked. A line `# only:` in the edit names other functions or modules. The 
 prover rejects each edit. The edits of a crate in crates/*/must-fail are tried by `rt ci`.
 """
 
+import hashlib
 import os
 import re
 import shutil
@@ -31,6 +35,7 @@ from functions import changed_names
 from tidy import TOP, edited_files, text_files
 
 PARTS = ("src", "specs", "proofs")
+REJECTED = TOP / "out/edits-rejected"
 
 
 def crate_of(name):
@@ -61,6 +66,23 @@ def libraries_below(crate):
     return run.stdout.split()
 
 
+def sum_of(name, files):
+    """Returns a sum of an edit and of the files that the prover reads for it."""
+    read = {f"crates/{crate}/{part}" for part in PARTS
+            for crate in [crate_of(name), *libraries_below(crate_of(name))]}
+    read |= {name, "crates.txt", "LOGIC"}
+    found = hashlib.sha256()
+    for path in sorted(files):
+        if path in read or "/".join(path.split("/")[:3]) in read:
+            found.update(f"{path}\0{files[path]}\0".encode())
+    return f"{name} {found.hexdigest()}"
+
+
+def was_rejected(edit):
+    """Returns whether an edit with this sum was rejected before."""
+    return REJECTED.exists() and edit in REJECTED.read_text("utf-8").splitlines()
+
+
 def is_rejected(crate, names, output):
     """Returns whether the prover rejected one of these functions, or one of these modules."""
     reason = "not proved|no proof: expected answers|no proof: it passes the block"
@@ -86,6 +108,10 @@ def try_edit(name, files, folder):
     if wrong:
         print(f"{name}: {wrong}")
         return False
+    edit = sum_of(name, files)
+    if was_rejected(edit):
+        print(f"{name}: was rejected before", flush=True)
+        return True
     begin = time.monotonic()
     for path, text in changed.items():
         (folder / Path(path).relative_to(f"crates/{crate}")).write_text(text, "utf-8")
@@ -95,6 +121,9 @@ def try_edit(name, files, folder):
     seconds = time.monotonic() - begin
     if run.returncode == 1 and is_rejected(crate, names, run.stdout):
         print(f"{name}: rejected, {seconds:.0f} seconds", flush=True)
+        REJECTED.parent.mkdir(exist_ok=True)
+        with REJECTED.open("a", encoding="utf-8") as rejected:
+            print(edit, file=rejected)
         return True
     said = re.sub(r"(?m)^(?:statements|logic) .*\n", "", run.stdout)[-2000:]
     print(f"{name}: not rejected: {', '.join(names)}, status {run.returncode}:\n{said}", flush=True)
@@ -163,8 +192,8 @@ def try_those_of_gate(files):
 
 
 def libraries_are_current(names):
-    """Proves the libraries below the crates of these edits, unless `rt ci` left them: then they have
-    no stamp."""
+    """Proves the libraries below the crates of these edits, unless `rt ci` left them: then they
+    have no stamp."""
     for library in sorted({below for name in names for below in libraries_below(crate_of(name))}):
         folder = TOP / "crates" / library
         built = folder / "out/rlib"
