@@ -4,15 +4,15 @@ use Rattle.std.proofs.Common.{subst, ◌∙◌, append-nil, arith}
 use Rattle.std.specs.Prelude.{Option}
 use Rattle.std.specs.Io.KnownBytes.{Consumes}
 use Rattle.std.proofs.KnownBytes.{Consumes-trans}
+use Rattle.program_streams.specs.declared.streams.ReadError.{ReadError}
 use Rattle.netlink_captures.specs.Capture.{IsPacketStop, number_at_offset}
 use Rattle.netlink_captures.specs.private.Capture.{IsReadStop}
 use Rattle.netlink_captures.specs.declared.captures.CaptureError.{CaptureError}
 use Rattle.netlink_captures.specs.declared.captures.CaptureError.TheVariants.{Memory}
 use Rattle.netlink_captures.specs.declared.captures.FileHeader.{FileHeader}
 
-stop_within_packet : (file : FileHeader) (left : Option (List ℕ)) (failed : Type 0)
-    (header part : List ℕ)
-    (e : CaptureError)
+stop_within_packet : (file : FileHeader) (left : Option (List ℕ)) (failed : ReadError → Type 0)
+    (header part : List ℕ) (e : CaptureError)
     → length header ≡ 16 → length part < number_at_offset file.order 4 8 header
     → IsReadStop left failed e
     → IsPacketStop file left failed (header ++ part) e
@@ -20,8 +20,8 @@ stop_within_packet file left failed header part e long short stop =
     grind arith
 
 -- A stop after a packet header, while its packet is read, is a reason why no packet was read.
-pub packet_stops : (file : FileHeader) (a b c : Option (List ℕ)) (failed : Type 0) (header : List ℕ)
-    (e : CaptureError)
+pub packet_stops : (file : FileHeader) (a b c : Option (List ℕ)) (failed : ReadError → Type 0)
+    (header : List ℕ) (e : CaptureError)
     → length header ≡ 16 → number_at_offset file.order 4 8 header ≤ 262144 → Consumes a b header
     → ((part : List ℕ) × Consumes b c part
     × (((e ≡ Memory) × (part ≡ [])) ⊎ ((length part < number_at_offset file.order 4 8 header)

@@ -9,6 +9,7 @@ use Rattle.std.specs.List.{concat}
 use Rattle.std.proofs.lemmas.List.Folds.{concat-append}
 use Rattle.byteorder.specs.Endian.{little_from, big_from}
 use Rattle.byteorder.specs.Numbers.{little_from-append, big_from-append}
+use Rattle.program_streams.specs.declared.streams.ReadError.{ReadError}
 use Rattle.netlink_captures.specs.Capture.{number_at_offset}
 use Rattle.netlink_captures.specs.declared.captures.ByteOrder.{ByteOrder}
 use Rattle.netlink_captures.specs.declared.captures.ByteOrder.TheVariants.{LittleEndian, BigEndian}
@@ -175,26 +176,28 @@ framed p head rest order long ok whole = record {
       ∙ (omega (arith, length-append head rest));
 }
 
-input_stop : (left : Option (List ℕ)) (failed : Type 0) (part : List ℕ) (e : CaptureError)
+input_stop : (left : Option (List ℕ)) (failed : ReadError → Type 0) (part : List ℕ)
+    (e : CaptureError)
     → 0 < length part → IsReadStop left failed e → IsInputStop left failed part e
 input_stop left failed part e some stop =
     grind arith
 
-truncated_stop : (left : Option (List ℕ)) (failed : Type 0) (part : List ℕ) (e : CaptureError)
+truncated_stop : (left : Option (List ℕ)) (failed : ReadError → Type 0) (part : List ℕ)
+    (e : CaptureError)
     → (e ≡ Truncated → 0 < length part) → IsReadStop left failed e → IsInputStop left failed part e
 truncated_stop left failed part e some stop =
     grind arith
 
 -- A stop before the first 12 bytes of a block is a reason why the block was not read.
-pub stop_in_head : (p : Position) (left : Option (List ℕ)) (failed : Type 0) (part : List ℕ)
-    (e : CaptureError)
+pub stop_in_head : (p : Position) (left : Option (List ℕ)) (failed : ReadError → Type 0)
+    (part : List ℕ) (e : CaptureError)
     → length part < 12 → (e ≡ Truncated → 0 < length part) → IsReadStop left failed e
     → IsBlockStop p left failed part e
 stop_in_head p left failed part e short some stop =
     inl (inl short, truncated_stop left failed part e some stop)
 
 -- A stop after the first 12 bytes of a block is a reason why the block was not read.
-pub stop_after_head : (p : Position) (left : Option (List ℕ)) (failed : Type 0)
+pub stop_after_head : (p : Position) (left : Option (List ℕ)) (failed : ReadError → Type 0)
     (head part : List ℕ) (e : CaptureError) → length head ≡ 12
     → IsStopAfterHead p left failed head part e → IsBlockStop p left failed (head ++ part) e
 stop_after_head p left failed head part e long stop = elim stop [
@@ -242,7 +245,7 @@ same_content p q order a b content same equal is =
     ∙ ap (λ (l : List ℕ). content_of q order l) equal
 
 -- A whole block with an invalid content was not read.
-pub stop_at_content : (p q : Position) (left : Option (List ℕ)) (failed : Type 0)
+pub stop_at_content : (p q : Position) (left : Option (List ℕ)) (failed : ReadError → Type 0)
     (head rest block shown : List ℕ) (order : ByteOrder) (e : CaptureError)
     → length head ≡ 12 → frame_of p head ≡ Ok order
     → 12 + length rest ≡ number_at_offset order 4 4 head → block ≡ head ++ rest → shown ≡ block

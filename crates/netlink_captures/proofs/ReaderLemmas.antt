@@ -21,8 +21,8 @@ nothing_more (in_pcap file) = refl
 nothing_more (in_pcapng p) = (p, ([], refl, refl))
 
 -- A read may fail at once after any state.
-pub stopped_at_once : (s : CaptureState) (left : Option (List ℕ)) (failed : Type 0)
-    (error : ReadError) → failed → IsCaptureStop s left failed [] (errors.Read error)
+pub stopped_at_once : (s : CaptureState) (left : Option (List ℕ)) (failed : ReadError → Type 0)
+    (error : ReadError) → failed error → IsCaptureStop s left failed [] (errors.Read error)
 stopped_at_once (in_pcap file) left failed error h = (inl (omega arith), h)
 stopped_at_once (in_pcapng p) left failed error h = record {
   blocks = [];
@@ -33,42 +33,42 @@ stopped_at_once (in_pcapng p) left failed error h = record {
   stopped = inl (inl (omega arith), h);
 }
 
-packet_stop_for_either : (file : FileHeader) (left : Option (List ℕ)) (A B : Type 0)
-    (part : List ℕ) (e : CaptureError)
-    → IsPacketStop file left A part e → IsPacketStop file left (A ⊎ B) part e
-packet_stop_for_either file left A B part errors.Truncated h = h
-packet_stop_for_either file left A B part (errors.Read error) h = (h.0, inl h.1)
-packet_stop_for_either file left A B part errors.Memory h = h
-packet_stop_for_either file left A B part (errors.PacketTooLong count) h = h
-packet_stop_for_either file left A B part _ h = h
+-- a cause of a failed read, and one that follows from it
+module _ (left : Option (List ℕ)) (A B : ReadError → Type 0)
+    (implies : (error : ReadError) → A error → B error) where
+  packet_stop_implies : (file : FileHeader) (part : List ℕ) (e : CaptureError)
+      → IsPacketStop file left A part e → IsPacketStop file left B part e
+  packet_stop_implies file part errors.Truncated h = h
+  packet_stop_implies file part (errors.Read error) h = (h.0, implies error h.1)
+  packet_stop_implies file part errors.Memory h = h
+  packet_stop_implies file part (errors.PacketTooLong count) h = h
+  packet_stop_implies file part _ h = h
 
-input_stop_for_either : (left : Option (List ℕ)) (A B : Type 0) (part : List ℕ) (e : CaptureError)
-    → IsInputStop left A part e → IsInputStop left (A ⊎ B) part e
-input_stop_for_either left A B part errors.Truncated h = h
-input_stop_for_either left A B part (errors.Read error) h = inl h
-input_stop_for_either left A B part _ h = h
+  input_stop_implies : (part : List ℕ) (e : CaptureError)
+      → IsInputStop left A part e → IsInputStop left B part e
+  input_stop_implies part errors.Truncated h = h
+  input_stop_implies part (errors.Read error) h = implies error h
+  input_stop_implies part _ h = h
 
-block_stop_for_either : (p : Position) (left : Option (List ℕ)) (A B : Type 0) (part : List ℕ)
-    (e : CaptureError) → IsBlockStop p left A part e → IsBlockStop p left (A ⊎ B) part e
-block_stop_for_either p left A B part e h = elim h [
-  | inl s ↦ inl (s.0, input_stop_for_either left A B part e s.1)
-  | inr s ↦ inr s
-]
+  block_stop_implies : (p : Position) (part : List ℕ) (e : CaptureError)
+      → IsBlockStop p left A part e → IsBlockStop p left B part e
+  block_stop_implies p part e h = elim h [
+    | inl s ↦ inl (s.0, input_stop_implies part e s.1)
+    | inr s ↦ inr s
+  ]
 
--- A reason to stop for one cause is a reason to stop for one of two causes.
-pub stopped_for_either : (s : CaptureState) (left : Option (List ℕ)) (A B : Type 0)
-    (part : List ℕ) (e : CaptureError)
-    → IsCaptureStop s left A part e → IsCaptureStop s left (A ⊎ B) part e
-stopped_for_either (in_pcap file) left A B part e h =
-    packet_stop_for_either file left A B part e h
-stopped_for_either (in_pcapng p) left A B part e h = record {
-  blocks = h.blocks;
-  mid = h.mid;
-  rest = h.rest;
-  skipped = h.skipped;
-  parts = h.parts;
-  stopped = block_stop_for_either h.mid left A B h.rest e h.stopped;
-}
+  -- A reason to stop for the first cause is one for the second.
+  pub stop_implies : (s : CaptureState) (part : List ℕ) (e : CaptureError)
+      → IsCaptureStop s left A part e → IsCaptureStop s left B part e
+  stop_implies (in_pcap file) part e h = packet_stop_implies file part e h
+  stop_implies (in_pcapng p) part e h = record {
+    blocks = h.blocks;
+    mid = h.mid;
+    rest = h.rest;
+    skipped = h.skipped;
+    parts = h.parts;
+    stopped = block_stop_implies h.mid h.rest e h.stopped;
+  }
 
 -- Bytes after the first four do not change the magic number.
 magic-append : (a b : List ℕ) → 4 ≤ length a → HasMagic a → HasMagic (a ++ b)
@@ -79,7 +79,8 @@ magic-append a b long found =
     ) found
 
 -- A stop within the header of a capture, after its magic number, is one of its reasons to stop.
-pub early_stop : (left : Option (List ℕ)) (failed : Type 0) (head part : List ℕ) (e : CaptureError)
+pub early_stop : (left : Option (List ℕ)) (failed : ReadError → Type 0) (head part : List ℕ)
+    (e : CaptureError)
     → 4 ≤ length head → HasMagic head → IsReadStop left failed e
     → IsEarlyReadStop left failed (head ++ part) e
 early_stop left failed head part errors.Truncated long found stop = (
@@ -92,7 +93,8 @@ early_stop left failed head part _ long found stop = absurd stop
 
 -- A stop within the file header of a pcap file, after its first 12 bytes, or an invalid one, is a
 -- reason why the capture could not be opened.
-pub pcap_stop : (left : Option (List ℕ)) (failed : Type 0) (head part : List ℕ) (e : CaptureError)
+pub pcap_stop : (left : Option (List ℕ)) (failed : ReadError → Type 0) (head part : List ℕ)
+    (e : CaptureError)
     → length head ≡ 12 → HasMagic head → is_section_header head ≡ false
     → ((length part < 12) × IsReadStop left failed e)
     ⊎ ((length part ≡ 12) × IsFileHeaderError (head ++ part) e)

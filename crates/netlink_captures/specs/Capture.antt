@@ -4,6 +4,7 @@ use Rattle.std.specs.Prelude.{◌≡◌, ◌≢◌, ℕ, ◌%◌, ◌<◌, ◌�
 use Rattle.std.specs.Prelude.{None, Some, ◌==◌, if◌then◌else◌}
 use Rattle.std.specs.Io.KnownBytes.{IsAtEnd}
 use Rattle.byteorder.specs.Endian.{big_number, little_number}
+use Rattle.program_streams.specs.declared.streams.ReadError.{ReadError}
 use Rattle.netlink_captures.specs.declared.captures.ByteOrder.{ByteOrder}
 use Rattle.netlink_captures.specs.declared.captures.ByteOrder.TheVariants.{LittleEndian, BigEndian}
 use Rattle.netlink_captures.specs.declared.captures.CaptureError.{CaptureError}
@@ -120,15 +121,16 @@ IsPartOfPacket file part =
     × (length front < number_at_offset file.order 4 8 header))
 
 -- `IsPacketStop file left failed part e`: `e` is the reason why no packet was read. `left` are the
--- remaining bytes, if known, and `failed` states that a read failed. `part` are the bytes that were
--- read: a proper prefix of a packet, and the input is at its end (Truncated, after at least one
--- byte) or a read failed (Read); or a packet header, whose captured length is at most 262144, but
--- the allocation of this memory failed (Memory), or is greater than 262144 (PacketTooLong with this
--- length).
-abbrev pub IsPacketStop : FileHeader → Option (List ℕ) → Type 0 → List ℕ → CaptureError → Type 0
+-- remaining bytes, if known, and `failed error` states that a read failed with this error. `part`
+-- are the bytes that were read: a proper prefix of a packet, and the input is at its end
+-- (Truncated, after at least one byte) or a read failed (Read); or a packet header, whose captured
+-- length is at most 262144, but the allocation of this memory failed (Memory), or is greater than
+-- 262144 (PacketTooLong with this length).
+abbrev pub IsPacketStop : FileHeader → Option (List ℕ) → (ReadError → Type 0) → List ℕ
+    → CaptureError → Type 0
 IsPacketStop file left failed part errors.Truncated = (0 < length part) × IsPartOfPacket file part
     × IsAtEnd left
-IsPacketStop file left failed part (errors.Read error) = IsPartOfPacket file part × failed
+IsPacketStop file left failed part (errors.Read error) = IsPartOfPacket file part × failed error
 IsPacketStop file left failed part errors.Memory = (length part ≡ 16)
     × (number_at_offset file.order 4 8 part ≤ 262144)
 IsPacketStop file left failed part (errors.PacketTooLong told) =

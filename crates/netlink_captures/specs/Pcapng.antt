@@ -21,6 +21,7 @@ use Rattle.std.specs.Prelude.{length, drop, slice_range, slice_get, slice_index,
 use Rattle.std.specs.Prelude.{Result, Ok, Err, min}
 use Rattle.std.specs.List.{concat}
 use Rattle.std.specs.Io.KnownBytes.{IsAtEnd}
+use Rattle.program_streams.specs.declared.streams.ReadError.{ReadError}
 use Rattle.netlink_captures.specs.declared.block_error.BlockError.{BlockError}
 use Rattle.netlink_captures.specs.declared.block_error.BlockError.TheVariants as errors
 use Rattle.netlink_captures.specs.declared.captures.ByteOrder.{ByteOrder}
@@ -353,10 +354,10 @@ IsPartOfBlock p part =
 
 -- `IsInputStop left failed part e`: `e` is the reason why no more bytes were read. The input is at
 -- its end, after at least one byte (Truncated), or a read failed (Read). `left` are the remaining
--- bytes, if known. `failed` states that a read failed.
-abbrev pub IsInputStop : Option (List ℕ) → Type 0 → List ℕ → CaptureError → Type 0
+-- bytes, if known. `failed error` states that a read failed with this error.
+abbrev pub IsInputStop : Option (List ℕ) → (ReadError → Type 0) → List ℕ → CaptureError → Type 0
 IsInputStop left failed part capture_errors.Truncated = (0 < length part) × IsAtEnd left
-IsInputStop left failed part (capture_errors.Read error) = failed
+IsInputStop left failed part (capture_errors.Read error) = failed error
 IsInputStop left failed part _ = ⊥
 
 -- `IsBlockStop p left failed part e`: `e` is the reason why no block was read at the position `p`.
@@ -364,7 +365,8 @@ IsInputStop left failed part _ = ⊥
 -- proper prefix of a block, and the input stopped there; or at least 12 bytes with a valid frame,
 -- and an allocation failed; or 12 bytes with an invalid frame; or a whole block with invalid
 -- content.
-abbrev pub IsBlockStop : Position → Option (List ℕ) → Type 0 → List ℕ → CaptureError → Type 0
+abbrev pub IsBlockStop : Position → Option (List ℕ) → (ReadError → Type 0) → List ℕ → CaptureError
+    → Type 0
 IsBlockStop p left failed part e =
     (IsPartOfBlock p part × IsInputStop left failed part e)
     ⊎ ((12 ≤ length part) × HasFrame p part × (e ≡ capture_errors.Memory))
@@ -374,7 +376,7 @@ IsBlockStop p left failed part e =
 -- `IsNextPacketStop p left failed part e`: `e` is the reason why no packet was read after the
 -- position `p`. `part` are the bytes that were read: some valid blocks without a packet, and the
 -- bytes of the one that could not be read.
-pub record IsNextPacketStop (p : Position) (left : Option (List ℕ)) (failed : Type 0)
+pub record IsNextPacketStop (p : Position) (left : Option (List ℕ)) (failed : ReadError → Type 0)
     (part : List ℕ) (e : CaptureError) : Type 0 where
   -- the valid blocks
   pub blocks : List (List ℕ)

@@ -1,6 +1,7 @@
 -- Captures of netlink traffic, in the pcap or the pcapng format.
 use Rattle.std.specs.Prelude.{◌≡◌, ℕ, ◌<◌, ◌≤◌, ◌⊎◌, List, [], ◌++◌, length, Option, IsTrue}
 use Rattle.std.specs.Io.KnownBytes.{IsAtEnd}
+use Rattle.program_streams.specs.declared.streams.ReadError.{ReadError}
 use Rattle.netlink_captures.specs.declared.captures.ByteOrder.{ByteOrder}
 use Rattle.netlink_captures.specs.declared.captures.ByteOrder.TheVariants.{BigEndian, LittleEndian}
 use Rattle.netlink_captures.specs.declared.captures.CaptureError.{CaptureError}
@@ -51,14 +52,14 @@ HasNoMagic bytes e = (¬ IsTrue (is_section_header bytes)) × HasNoPcapMagic byt
 -- a capture was complete, after the bytes `part`. The input is at its end: without a byte (Empty),
 -- after one to three bytes (TooShort), or after at least four, with a known magic number
 -- (Truncated). Or a read failed (Read). Or the first four bytes are not a known magic number
--- (Compressed, NoCapture). `left` are the remaining bytes, if known. `failed` states that a read
--- failed.
-abbrev pub IsEarlyReadStop : Option (List ℕ) → Type 0 → List ℕ → CaptureError → Type 0
+-- (Compressed, NoCapture). `left` are the remaining bytes, if known. `failed error` states that a
+-- read failed with this error.
+abbrev pub IsEarlyReadStop : Option (List ℕ) → (ReadError → Type 0) → List ℕ → CaptureError → Type 0
 IsEarlyReadStop left failed part errors.Empty = (part ≡ []) × IsAtEnd left
 IsEarlyReadStop left failed part errors.TooShort =
     (0 < length part) × (length part < 4) × IsAtEnd left
 IsEarlyReadStop left failed part errors.Truncated = (4 ≤ length part) × HasMagic part × IsAtEnd left
-IsEarlyReadStop left failed part (errors.Read error) = failed
+IsEarlyReadStop left failed part (errors.Read error) = failed error
 IsEarlyReadStop left failed part (errors.Compressed compression) =
     (length part ≡ 4) × HasNoMagic part (errors.Compressed compression)
 IsEarlyReadStop left failed part (errors.NoCapture magic) =
@@ -69,7 +70,8 @@ IsEarlyReadStop left failed part _ = ⊥
 -- after the bytes `part`. They are fewer than 24, and reading stopped there; or 24 that are neither
 -- a file header of pcap nor the start of a pcapng file; or the section header block of a pcapng
 -- file could not be read. `left` and `failed` are as in `IsEarlyReadStop`.
-abbrev pub IsCaptureStartStop : Option (List ℕ) → Type 0 → List ℕ → CaptureError → Type 0
+abbrev pub IsCaptureStartStop : Option (List ℕ) → (ReadError → Type 0) → List ℕ → CaptureError
+    → Type 0
 IsCaptureStartStop left failed part e =
     ((length part < 24) × IsEarlyReadStop left failed part e)
     ⊎ ((length part ≡ 24) × (¬ IsTrue (is_section_header part)) × IsFileHeaderError part e)
@@ -93,6 +95,7 @@ IsCaptureEnd (in_pcapng p) bytes = (after : Position) × IsEndOfBlocks p bytes a
 
 -- `IsCaptureStop s left failed part e`: `e` is the reason why no packet was read after the state
 -- `s`, and `part` are the bytes that were read. `left` and `failed` are as in `IsEarlyReadStop`.
-abbrev pub IsCaptureStop : CaptureState → Option (List ℕ) → Type 0 → List ℕ → CaptureError → Type 0
+abbrev pub IsCaptureStop : CaptureState → Option (List ℕ) → (ReadError → Type 0) → List ℕ
+    → CaptureError → Type 0
 IsCaptureStop (in_pcap file) left failed part e = IsPacketStop file left failed part e
 IsCaptureStop (in_pcapng p) left failed part e = IsNextPacketStop p left failed part e

@@ -323,7 +323,7 @@ impl FileHeader {
             (λ told_header. (header : List ℕ)
             × IsPacketRecord self.now header (captured_packet packet.new.items told_header)
             × Consumes (R.left input.old) (R.left input.new) (header ++ packet.new.items))) }
-        // R.failed: a read has failed. part: the bytes that were read.
+        // R.failed: a read has failed with this error. part: the bytes that were read.
         ensures stopped { IfErr result (λ e. (part : List ℕ)
             × Consumes (R.left input.old) (R.left input.new) part
             × IsPacketStop self.now (R.left input.new) (R.failed input.new) part e) }

@@ -105,7 +105,7 @@ impl CaptureReader {
         ensures read { IfOk result (λ reader. (bytes : List ℕ)
             × IsCaptureStart bytes (state_of reader)
             × Consumes (R.left input.old) (R.left input.new) bytes) }
-        // R.failed: a read has failed. part: the bytes that were read.
+        // R.failed: a read has failed with this error. part: the bytes that were read.
         ensures stopped { IfErr result (λ e. (part : List ℕ)
             × Consumes (R.left input.old) (R.left input.new) part
             × IsCaptureStartStop (R.left input.new) (R.failed input.new) part e) }
@@ -151,7 +151,7 @@ impl CaptureReader {
             (IsAtEnd (R.left input.new) × IsCaptureEnd (state_of self.old) bytes)
             (λ header. ReadsPacket (state_of self.old) bytes
             (captured_packet packet.new.items header) (state_of self.new))) }
-        // R.failed: a read has failed. part: the bytes that were read.
+        // R.failed: a read has failed with this error. part: the bytes that were read.
         ensures stopped { IfErr result (λ e. (part : List ℕ)
             × Consumes (R.left input.old) (R.left input.new) part
             × IsCaptureStop (state_of self.old) (R.left input.new) (R.failed input.new) part e) }

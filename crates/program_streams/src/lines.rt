@@ -11,6 +11,7 @@ ghost use Rattle.program_streams.specs.private.LineRun.{AnswersCompleteLines, Ha
 ghost use Rattle.program_streams.specs.private.LineRun.{WritesAllText, all_answers_good};
 ghost use Rattle.program_streams.specs.private.LineRun.{with_line_feed};
 ghost use Rattle.program_streams.specs.declared.lines.RunError.TheVariants.{Memory, Read, Write};
+ghost use Rattle.program_streams.specs.declared.streams.ReadError.{ReadError};
 ghost use Rattle.program_streams.specs.declared.streams.WriteError.{WriteError};
 
 use crate::streams::{ReadError, Sink, Source, WriteError, send};
@@ -142,7 +143,7 @@ impl<R: Source> PromptRead for R {
     // A source does not count reads: this always holds.
     ghost reads = { λ _ _. ⊤ };
 
-    ghost failed = { λ r. R.failed r };
+    ghost failed = { λ r. (e : ReadError) × R.failed r e };
 
     fn read_prompt<S: Start, W: Sink>(
         &mut self,

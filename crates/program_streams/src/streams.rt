@@ -1,7 +1,7 @@
 //! Reading and writing: single calls, whose errors are classified, and whole texts.
 
 ghost use Rattle.std.specs.Prelude.{◌≡◌, ◌↔◌, ◌<◌, ◌≤◌, ◌==◌, ◌++◌, if◌then◌else◌, ℕ, List, Option};
-ghost use Rattle.std.specs.Prelude.{◌≢◌, length, IfOk, IfErr, MatchResult, OnErr, OnOk, Some, ⊤};
+ghost use Rattle.std.specs.Prelude.{◌≢◌, length, IfOk, IfErr, MatchResult, OnOk, Some, ⊤};
 ghost use Rattle.std.specs.Io.KnownBytes.{Appends, Keeps, ReadConsumes, WriteAppends};
 ghost use Rattle.std.specs.Io.{ReadsAtMost};
 ghost use Rattle.std.specs.IoError.{error_kind, raw_os_error};
@@ -9,6 +9,7 @@ ghost use Rattle.program_streams.specs.ErrorText.{error_text_bytes};
 ghost use Rattle.program_streams.specs.Streams.{WritesAllOrFails, error_number};
 ghost use Rattle.program_streams.specs.Streams.{numbered_read_error, numbered_write_error};
 ghost use Rattle.program_streams.specs.Streams.{os_error_end, read_error_text, write_error_text};
+ghost use Rattle.program_streams.specs.declared.streams.ReadError.{ReadError};
 ghost use Rattle.program_streams.specs.declared.streams.WriteError.{WriteError};
 
 use crate::error_text::ErrorText;
@@ -116,14 +117,14 @@ pub fn os_error_end(code: u32) -> &'static str
     }
 }
 
-/// An input. Generic code that has no other bound on it cannot report a failed read unless one
-/// failed.
+/// An input. Generic code that has no other bound on it cannot report an error of a read unless a
+/// read failed with this error.
 pub trait Source {
     // The bytes that are left to read, if they are known.
     ghost left: { Self → Option (List ℕ) };
 
-    // A read failed.
-    ghost failed: { Self → Type 0 };
+    // A read failed with this error.
+    ghost failed: { Self → ReadError → Type 0 };
 
     /// Reads once, to the start of `bytes`. Returns the number of bytes that were read. It is 0
     /// only if the input is at its end or `bytes` is empty. If the read fails, nothing was
@@ -134,14 +135,14 @@ pub trait Source {
         // If `n` is returned, the first `n` bytes of `bytes` were consumed; if it is 0 and `bytes`
         // is not empty, none remain. If the read fails, the remaining bytes are unchanged.
         ensures bytes { ReadConsumes (left self.old) (left self.new) result bytes.new }
-        ensures cause { OnErr result (failed self.new) };
+        ensures cause { IfErr result (λ e. failed self.new e) };
 }
 
 impl<R: Read> Source for R {
     ghost left = { λ r. R.remaining r };
 
     // A reader of std does not record failures: this always holds.
-    ghost failed = { λ _. ⊤ };
+    ghost failed = { λ _ _. ⊤ };
 
     fn read_some(&mut self, bytes: &mut [u8]) -> Result<usize, ReadError> {
         read_outcome(self.read(bytes))
@@ -185,8 +186,8 @@ fn error_number(code: Option<i32>) -> Option<u32>
     }
 }
 
-/// An output. Generic code that has no other bound on it cannot report a failed write unless one
-/// failed, nor a flush unless it flushed.
+/// An output. Generic code that has no other bound on it cannot report an error of a write or a
+/// flush unless one failed with this error, nor a flush unless it flushed.
 pub trait Sink {
     // The bytes that have been written, if they are known.
     ghost held: { Self → Option (List ℕ) };

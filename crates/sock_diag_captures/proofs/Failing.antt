@@ -10,13 +10,14 @@ use Rattle.std.proofs.KnownBytes.{Keeps-refl}
 use Rattle.netlink_captures.specs.Capture.{CapturedPacket}
 use Rattle.netlink_captures.specs.Reader.{CaptureState, IsCaptureEnd, IsCaptureStart}
 use Rattle.netlink_captures.specs.Reader.{IsCaptureStartStop, IsCaptureStop, ReadsPacket}
-use Rattle.netlink_captures.proofs.ReaderLemmas.{nothing_more, stopped_at_once, stopped_for_either}
+use Rattle.netlink_captures.proofs.ReaderLemmas.{nothing_more, stopped_at_once, stop_implies}
 use Rattle.netlink_captures.specs.declared.captures.CaptureError.{CaptureError}
 use Rattle.netlink_captures.specs.declared.captures.CaptureError.TheVariants.{Read}
 use Rattle.sock_diag_listing.specs.declared.list_error.ListError.{ListError}
 use Rattle.sock_diag_listing.specs.declared.list_error.ListError.TheVariants.{Header, Packet}
 use Rattle.sock_diag_listing.specs.declared.list_error.ListError.TheVariants.{Memory}
 use Rattle.sock_diag_listing.specs.declared.list_error.ListError.TheVariants.{Write}
+use Rattle.program_streams.specs.declared.streams.ReadError.{ReadError}
 use Rattle.program_streams.specs.declared.streams.ReadError.TheVariants.{Other}
 use Rattle.program_streams.specs.declared.streams.WriteError.{WriteError}
 use Rattle.sslist_options.specs.declared.options.Options.{Options}
@@ -60,7 +61,7 @@ write_cause e cause P is failed error write =
 
 -- The run failed because the capture could not be opened.
 pub fails_at_header : (o : Options) (a d x : Option (List ℕ)) (heading front : List ℕ)
-    (Reported : List ℕ → Type 0) (unread : Type 0) (e : ListError) → Reported []
+    (Reported : List ℕ → Type 0) (unread : ReadError → Type 0) (e : ListError) → Reported []
     → ((error : CaptureError) × (e ≡ Header error) × (part : List ℕ) × Consumes a d part
     × IsCaptureStartStop d unread part error)
     → Fails o a d x x heading front Reported unread e
@@ -171,7 +172,7 @@ module _ (o : Options) (front : List ℕ) (start : CaptureState) (header : List 
       (first : Consumes a b header) (begun : Appends x y heading) where
     module _ (Reported : List ℕ → Type 0) (reported : Reported p.diagnostics) where
       -- The run failed because a packet could not be read.
-      pub fails_at_packet : (d : Option (List ℕ)) (unread : Type 0) (e : ListError)
+      pub fails_at_packet : (d : Option (List ℕ)) (unread : ReadError → Type 0) (e : ListError)
           → ((error : CaptureError) × (e ≡ Packet number error) × (part : List ℕ)
           × Consumes c d part × IsCaptureStop state d unread part error)
           → Fails o a d x z heading front Reported unread e
@@ -183,11 +184,13 @@ module _ (o : Options) (front : List ℕ) (start : CaptureState) (header : List 
             progress_is_run_state a b c d x y z heading part Reported state asked whole number p
                 reported first read begun,
             p.next,
-            stopped_for_either state d unread (number ≡ 2 ^ 64 - 1) part error stop,
+            stop_implies d unread
+                (λ cause. unread cause ⊎ ((number ≡ 2 ^ 64 - 1) × (cause ≡ Other)))
+                (λ cause h. inl h) state part error stop,
           )
 
       -- The run failed because the next packet has no number.
-      pub fails_past_numbers : (unread : Type 0) → number ≡ 2 ^ 64 - 1
+      pub fails_past_numbers : (unread : ReadError → Type 0) → number ≡ 2 ^ 64 - 1
           → Fails o a c x z heading front Reported unread
           (Packet (2 ^ 64 - 1) (Read Other))
       fails_past_numbers unread last = (
@@ -197,11 +200,13 @@ module _ (o : Options) (front : List ℕ) (start : CaptureState) (header : List 
         progress_is_run_state a b c c x y z heading [] Reported state asked whole number p reported
             first (Consumes-nil c) begun,
         sym last ∙ p.next,
-        stopped_at_once state c (unread ⊎ (2 ^ 64 - 1 ≡ 2 ^ 64 - 1)) Other (inr refl),
+        stopped_at_once state c
+            (λ cause. unread cause ⊎ ((2 ^ 64 - 1 ≡ 2 ^ 64 - 1) × (cause ≡ Other))) Other
+            (inr (refl, refl)),
       )
 
       -- The run failed because an allocation for the lines of a packet failed.
-      pub fails_at_memory : (d : Option (List ℕ)) (unread : Type 0) (e : ListError)
+      pub fails_at_memory : (d : Option (List ℕ)) (unread : ReadError → Type 0) (e : ListError)
           (bytes : List ℕ) (packet : CapturedPacket) (after : CaptureState) → e ≡ Memory
           → ReadsPacket state bytes packet after → Consumes c d bytes
           → Fails o a d x z heading front Reported unread e
@@ -327,7 +332,7 @@ module _ (o : Options) (left left' held held' : Option (List ℕ)) (heading fron
     implies diagnostics reported,
   )
 
-  pub fails_implies : (unread : Type 0) (e : ListError)
+  pub fails_implies : (unread : ReadError → Type 0) (e : ListError)
       → Fails o left left' held held' heading front P unread e
       → Fails o left left' held held' heading front Q unread e
   fails_implies unread (Header error) (part, read, stop, kept, reported) =
@@ -356,7 +361,7 @@ module _ (o : Options) (left left' held held' : Option (List ℕ)) (heading fron
 
 -- The outcome of a run, if the line that names a failure was reported after the diagnostics.
 pub run_outcome : (o : Options) (left left' held held' : Option (List ℕ)) (heading front : List ℕ)
-    (P Q : List ℕ → Type 0) (unread : Type 0) (r : Result Bool ListError)
+    (P Q : List ℕ → Type 0) (unread : ReadError → Type 0) (r : Result Bool ListError)
     → ((diagnostics : List ℕ) → P diagnostics → Q (diagnostics ++ closing_text front r))
     → IfOk r (Finishes o left left' held held' heading front P)
     → IfErr r (Fails o left left' held held' heading front P unread)

@@ -3,6 +3,8 @@ use Rattle.std.specs.Prelude.{◌≡◌, ◌↔◌, ℕ, ◌+◌, ◌-◌, ◌^�
 use Rattle.std.specs.Prelude.{flat_map, Bool, IsTrue, Option, ⊤}
 use Rattle.std.specs.Io.KnownBytes.{Appends, Consumes, IsAtEnd, Keeps}
 use Rattle.std.specs.List.{AllByRecursion}
+use Rattle.program_streams.specs.declared.streams.ReadError.{ReadError}
+use Rattle.program_streams.specs.declared.streams.ReadError.TheVariants.{Other}
 use Rattle.sock_diag_listing.specs.declared.list_error.ListError.{ListError}
 use Rattle.sock_diag_listing.specs.declared.list_error.ListError.TheVariants.{Header, Packet}
 use Rattle.sock_diag_listing.specs.declared.list_error.ListError.TheVariants.{Write}
@@ -119,21 +121,23 @@ module _ (o : Options) (left left' held held' : Option (List ℕ)) (heading fron
       × Consumes left left' (bytes ++ more) × (sent : List ℕ) × (rest : List ℕ)
       × (heading ++ lines ≡ sent ++ rest) × Appends held held' sent × Reported diagnostics
 
-  -- The state of a run that failed with an error. `unread` states that a read failed.
+  -- The state of a run that failed with an error. `unread error` states that a read failed with
+  -- this error.
   -- * Header: the capture could not be opened, nothing was written and nothing reported.
   -- * Packet: the packet of this number could not be read. The packets before it were listed. The
-  --   number 2 ^ 64 - 1 is never read: the run fails there as if a read had failed.
+  --   number 2 ^ 64 - 1 is never read: the run fails there as if a read had failed, with Other.
   -- * Memory: an allocation failed while a packet was listed, which had been read. The packets
   --   before it were listed.
   -- * Write: a write or the last flush failed.
-  abbrev pub Fails : Type 0 → ListError → Type 0
+  abbrev pub Fails : (ReadError → Type 0) → ListError → Type 0
   Fails unread (Header error) =
       (part : List ℕ) × Consumes left left' part × IsCaptureStartStop left' unread part error
       × Keeps held held' × Reported []
   Fails unread (Packet number error) =
       (state : CaptureState) × (packets : ℕ) × (part : List ℕ) × RunState state packets part
       × (number ≡ packets + 1)
-      × IsCaptureStop state left' (unread ⊎ (number ≡ 2 ^ 64 - 1)) part error
+      × IsCaptureStop state left'
+      (λ cause. unread cause ⊎ ((number ≡ 2 ^ 64 - 1) × (cause ≡ Other))) part error
   Fails unread Memory =
       (state after : CaptureState) × (packets : ℕ) × (bytes : List ℕ) × (packet : CapturedPacket)
       × ReadsPacket state bytes packet after × RunState state packets bytes

@@ -155,8 +155,7 @@ pub fn run_to_status<R: Read, W: Write, E: Write>(
         front.now (WritesPrefix (E.contents errors.old) (E.contents errors.new)) true }
     // The status is 0 if and only if the whole capture was listed completely. Otherwise it is
     // 1. On `errors` are the diagnostics and the line that names the failure, or a prefix of this
-    // text. ⊤: a standard reader does not report whether a read failed, so `Read` is always
-    // possible.
+    // text. λ _. ⊤: a standard reader does not report failed reads, so `Read` is always possible.
     ensures outcome { (outcome : Result Bool ListError)
         × ((exit_status result ≡ 0) ↔ (outcome ≡ Ok true))
         × ((exit_status result ≡ 1) ↔ ¬ (outcome ≡ Ok true))
@@ -167,7 +166,7 @@ pub fn run_to_status<R: Read, W: Write, E: Write>(
         (λ e. Fails options (R.remaining input.old) (R.remaining input.new)
         (W.contents output.old) (W.contents output.new) heading.now front.now
         (λ diagnostics. WritesPrefix (E.contents errors.old) (E.contents errors.new)
-        (diagnostics ++ closing_line front.now e)) ⊤ e) }
+        (diagnostics ++ closing_line front.now e)) (λ _. ⊤) e) }
 {
     list_to_status(alloc, options, front, heading, input, output, errors)
 }

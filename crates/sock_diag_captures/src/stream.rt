@@ -40,10 +40,10 @@ pub fn run<R: Read, W: Write, E: Write>(
     ensures table { IfOk result (Finishes options (R.remaining input.old) (R.remaining input.new)
         (W.contents output.old) (W.contents output.new) heading.now front.now
         (WritesPrefix (E.contents errors.old) (E.contents errors.new))) }
-    // ⊤: a standard reader does not report whether a read failed, so `Read` is always possible.
+    // λ _. ⊤: a standard reader does not report failed reads, so `Read` is always possible.
     ensures failed { IfErr result (Fails options (R.remaining input.old) (R.remaining input.new)
         (W.contents output.old) (W.contents output.new) heading.now front.now
-        (WritesPrefix (E.contents errors.old) (E.contents errors.new)) ⊤) }
+        (WritesPrefix (E.contents errors.old) (E.contents errors.new)) (λ _. ⊤)) }
 {
     let mut is_open = true;
     write_table(

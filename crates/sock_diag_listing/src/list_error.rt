@@ -107,7 +107,7 @@ pub fn read_header<R: Source>(alloc: Global, input: &mut R) -> Result<CaptureRea
     // R.left: the remaining bytes, if known.
     ensures read { IfOk result (λ reader. (bytes : List ℕ) × IsCaptureStart bytes (state_of reader)
         × Consumes (R.left input.old) (R.left input.new) bytes) }
-    // R.failed: a read has failed. part: the bytes that were read.
+    // R.failed: a read has failed with this error. part: the bytes that were read.
     ensures stopped { IfErr result (λ e. (error : CaptureError) × (e ≡ ListError.Header error)
         × (part : List ℕ)
         × Consumes (R.left input.old) (R.left input.new) part
@@ -135,7 +135,7 @@ pub fn read_packet<R: Source>(
         (IsAtEnd (R.left input.new) × IsCaptureEnd (state_of reader.old) bytes)
         (λ header. ReadsPacket (state_of reader.old) bytes
         (captured_packet packet.new.items header) (state_of reader.new))) }
-    // R.failed: a read has failed. part: the bytes that were read.
+    // R.failed: a read has failed with this error. part: the bytes that were read.
     ensures stopped { IfErr result (λ e. (error : CaptureError)
         × (e ≡ ListError.Packet number error) × (part : List ℕ)
         × Consumes (R.left input.old) (R.left input.new) part

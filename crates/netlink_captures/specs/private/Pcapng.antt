@@ -1,5 +1,6 @@
 -- Steps of a reader of pcapng files.
 use Rattle.std.specs.Prelude.{◌≡◌, ◌+◌, ◌<◌, ◌≤◌, ◌⊎◌, ⊤, ℕ, List, length, Option, Ok, Err}
+use Rattle.program_streams.specs.declared.streams.ReadError.{ReadError}
 use Rattle.netlink_captures.specs.declared.captures.ByteOrder.{ByteOrder}
 use Rattle.netlink_captures.specs.declared.captures.CaptureError.{CaptureError}
 use Rattle.netlink_captures.specs.declared.captures.CaptureError.TheVariants.{Memory}
@@ -15,10 +16,10 @@ FitsBlock block (Captured slot) = slot.start + slot.count ≤ length block
 FitsBlock block _ = ⊤
 
 -- `IsStopAfterHead p left failed head part e`: `e` is the reason why a block was not read after its
--- first 12 bytes, `head`, and the bytes `part`. `left` are the remaining bytes, if known. `failed`
--- states that a read failed.
-abbrev pub IsStopAfterHead : Position → Option (List ℕ) → Type 0 → List ℕ → List ℕ → CaptureError
-    → Type 0
+-- first 12 bytes, `head`, and the bytes `part`. `left` are the remaining bytes, if known. `failed
+-- error` states that a read failed with this error.
+abbrev pub IsStopAfterHead : Position → Option (List ℕ) → (ReadError → Type 0) → List ℕ → List ℕ
+    → CaptureError → Type 0
 IsStopAfterHead p left failed head part e =
     ((frame_of p head ≡ Err e) × (length part ≡ 0))
     ⊎ (HasFrame p head × (e ≡ Memory))
