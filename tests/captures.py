@@ -598,6 +598,17 @@ def reports_why(sslist):
                  errors=["packet 1: packet length 262145 exceeds the maximum of 262144"])
 
 
+def reports_another_capture(sslist):
+    """A pcap file that follows a pcap file has an error, in each byte order and with each magic
+    number. A packet that was captured in the second with such a number is listed."""
+    unix = (SOCK_DIAG, UNIX)
+    for header in HEADERS:
+        sslist.run(pcap(HEADERS[0], unix) + pcap(header, unix), lines=[UNIX_LINE], errors=[
+            "packet 2: another capture begins here; list the files separately"])
+        packet = pcap(HEADERS[0], unix)[24:]
+        sslist.run(bytes.fromhex(HEADERS[0] + header[:8]) + packet[4:], lines=[UNIX_LINE])
+
+
 def lists_sections_of_both_orders(sslist):
     """Captures in pcapng format in both byte orders, by themselves and as sections of one file."""
     for number in (0, 1):
@@ -642,8 +653,9 @@ def main():
         lists_captures_of_both_orders, lists_other_families, lists_attributes_of_newer_kernels,
         lists_short_tcp_info, shows_names_in_utf8, lists_objects, selects_by_address,
         selects_states_without_a_name, lists_requests, lists_a_long_datagram,
-        reports_where_a_capture_is_truncated, reports_why, lists_sections_of_both_orders,
-        lists_times_of_requests, reports_where_a_file_is_truncated, reports_invalid_blocks,
+        reports_where_a_capture_is_truncated, reports_why, reports_another_capture,
+        lists_sections_of_both_orders, lists_times_of_requests, reports_where_a_file_is_truncated,
+        reports_invalid_blocks,
     ):
         try:
             check(sslist)

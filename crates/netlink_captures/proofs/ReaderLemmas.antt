@@ -42,6 +42,7 @@ module _ (left : Option (List ℕ)) (A B : ReadError → Type 0)
   packet_stop_implies file part (errors.Read error) h = (h.0, implies error h.1)
   packet_stop_implies file part errors.Memory h = h
   packet_stop_implies file part (errors.PacketTooLong count) h = h
+  packet_stop_implies file part errors.AnotherCapture h = h
   packet_stop_implies file part _ h = h
 
   input_stop_implies : (part : List ℕ) (e : CaptureError)

@@ -98,9 +98,18 @@ pub record CapturedPacket : Type 0 where
 abbrev pub captured_packet : List ℕ → PacketHeader → CapturedPacket
 captured_packet bytes header = record { bytes = bytes; header = header }
 
+-- The 16 bytes where a packet header is expected begin another pcap file: a magic number in either
+-- byte order at 0, and 0 at 8. A file header has its time zone at 8, and a packet header its
+-- captured length, so no packet that has bytes begins like this.
+abbrev pub BeginsCapture : FileHeader → List ℕ → Type 0
+BeginsCapture file header =
+    (IsPcapMagic (number_at_offset BigEndian 4 0 header)
+    ⊎ IsPcapMagic (number_at_offset LittleEndian 4 0 header))
+    × (number_at_offset file.order 4 8 header ≡ 0)
+
 -- A packet in the capture: `header` is its packet header of 16 bytes, with the captured length at
--- 8, which is the number of the packet's bytes, at most 262144. The other fields of the header are
--- `packet.header`.
+-- 8, which is the number of the packet's bytes, at most 262144. It does not begin another capture.
+-- The other fields of the header are `packet.header`.
 pub record IsPacketRecord (file : FileHeader) (header : List ℕ)
     (packet : CapturedPacket) : Type 0 where
   pub whole : length header ≡ 16
@@ -109,6 +118,7 @@ pub record IsPacketRecord (file : FileHeader) (header : List ℕ)
   pub tells : packet.header ≡ packet_header_fields file header
   -- the limit of the reader, whatever the snapshot length in the file header
   pub within : length packet.bytes ≤ 262144
+  pub no_capture : ¬ BeginsCapture file header
 
 -- ---- states of the input when reading stops
 
@@ -123,9 +133,9 @@ IsPartOfPacket file part =
 -- `IsPacketStop file left failed part e`: `e` is the reason why no packet was read. `left` are the
 -- remaining bytes, if known, and `failed error` states that a read failed with this error. `part`
 -- are the bytes that were read: a proper prefix of a packet, and the input is at its end
--- (Truncated, after at least one byte) or a read failed (Read); or a packet header, whose captured
--- length is at most 262144, but the allocation of this memory failed (Memory), or is greater than
--- 262144 (PacketTooLong with this length).
+-- (Truncated, after at least one byte) or a read failed (Read); or the start of another capture
+-- (AnotherCapture); or a packet header, whose captured length is at most 262144, but the allocation
+-- of this memory failed (Memory), or is greater than 262144 (PacketTooLong with this length).
 abbrev pub IsPacketStop : FileHeader → Option (List ℕ) → (ReadError → Type 0) → List ℕ
     → CaptureError → Type 0
 IsPacketStop file left failed part errors.Truncated = (0 < length part) × IsPartOfPacket file part
@@ -135,4 +145,6 @@ IsPacketStop file left failed part errors.Memory = (length part ≡ 16)
     × (number_at_offset file.order 4 8 part ≤ 262144)
 IsPacketStop file left failed part (errors.PacketTooLong told) =
     (length part ≡ 16) × (told ≡ number_at_offset file.order 4 8 part) × (262144 < told)
+IsPacketStop file left failed part errors.AnotherCapture =
+    (length part ≡ 16) × BeginsCapture file part
 IsPacketStop file left failed part _ = ⊥

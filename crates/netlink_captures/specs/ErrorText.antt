@@ -45,4 +45,6 @@ capture_error_text (capture_errors.OtherLinkType link_type) =
     ++ codes ", expected 253 (netlink), as of nlmon0"
 capture_error_text (capture_errors.PacketTooLong count) =
     codes "packet length " ++ decimal count ++ codes " exceeds the maximum of 262144"
+capture_error_text capture_errors.AnotherCapture =
+    codes "another capture begins here; list the files separately"
 capture_error_text (capture_errors.Block offset error) = block_error_text error ++ decimal offset

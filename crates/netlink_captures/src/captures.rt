@@ -4,7 +4,7 @@
 ghost use Rattle.std.specs.Prelude.{◌≡◌, ◌↔◌, ◌+◌, ◌<◌, ◌≤◌, ◌++◌, ◌⊎◌, ℕ, List, [], length, IfOk};
 ghost use Rattle.std.specs.Prelude.{IfErr, OnOk, IsTrue, MatchBool, MatchOption, MatchResult, Some};
 ghost use Rattle.std.specs.Io.KnownBytes.{Consumes, IsAtEnd, Keeps};
-ghost use Rattle.netlink_captures.specs.Capture.{IsFileHeader, IsFileHeaderError};
+ghost use Rattle.netlink_captures.specs.Capture.{BeginsCapture, IsFileHeader, IsFileHeaderError};
 ghost use Rattle.netlink_captures.specs.Capture.{IsPcapMagic, IsMagicError, IsPacketStop};
 ghost use Rattle.netlink_captures.specs.Capture.{IsPacketRecord, number_at_offset};
 ghost use Rattle.netlink_captures.specs.Capture.{packet_header_fields, captured_packet, unit_of};
@@ -80,6 +80,8 @@ pub enum CaptureError {
     OtherLinkType(u32),
     /// A packet header has a length of more than 262144 bytes. The length is here.
     PacketTooLong(u32),
+    /// Another pcap file begins in place of a packet.
+    AnotherCapture,
     /// A block of a pcapng file is invalid.
     Block {
         /// Offset of the block in the file, in bytes.
@@ -130,6 +132,9 @@ impl CaptureError {
                 u64::from(*count),
                 " exceeds the maximum of 262144",
             ),
+            CaptureError::AnotherCapture => {
+                ErrorText::Plain("another capture begins here; list the files separately")
+            }
             CaptureError::Block { offset, error } => {
                 ErrorText::Decimal(error.text(), *offset, "")
             }
@@ -307,8 +312,9 @@ impl FileHeader {
     /// packet header. Returns `None` if the input is at its end; then nothing was consumed.
     ///
     /// Fails with `Truncated` if the input ends within the packet header or the bytes of the
-    /// packet, with `Read` if a read failed, with `PacketTooLong` if the captured length is greater
-    /// than 262144, and with `Memory` if an allocation failed. At the end of the input and after an
+    /// packet, with `Read` if a read failed, with `AnotherCapture` if another pcap file begins in
+    /// place of the packet header, with `PacketTooLong` if the captured length is greater than
+    /// 262144, and with `Memory` if an allocation failed. At the end of the input and after an
     /// error, the content of `packet` is not specified.
     ///
     /// Allocates only for the bytes of the packet, and never for more than 262144 bytes.
@@ -332,6 +338,9 @@ impl FileHeader {
         if !fill_or_end(input, &mut header)? {
             return Ok(None);
         }
+        if self.begins_capture(&header) {
+            return Err(CaptureError::AnotherCapture);
+        }
         let length = self.order.word_at(&header, 8);
         if length > MOST {
             return Err(CaptureError::PacketTooLong(length));
@@ -340,6 +349,16 @@ impl FileHeader {
             Ok(()) => Ok(Some(self.packet_header(&header))),
             Err(error) => Err(error),
         }
+    }
+
+    /// Returns whether the 16 bytes in place of a packet header begin another pcap file: they have
+    /// a magic number in either byte order at 0, and 0 at 8, where a file header has its time zone
+    /// and a packet header its captured length.
+    fn begins_capture(&self, bytes: &[u8]) -> bool
+        requires { 16 ≤ length bytes.now }
+        ensures { IsTrue result ↔ BeginsCapture self.now bytes.now }
+    {
+        self.order.word_at(bytes, 8) == 0 && ByteOrder::find(bytes).is_some()
     }
 
     /// Returns the fields of the packet header in the first 16 bytes.

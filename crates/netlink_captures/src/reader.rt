@@ -132,7 +132,8 @@ impl CaptureReader {
     /// A pcap file has packets only, see `FileHeader::read_packet`. In a pcapng file, blocks
     /// without a packet are skipped. Fails with `Truncated` if the input ends within a packet or a
     /// block, with `Read` if a read failed, with `PacketTooLong` if the captured length is greater
-    /// than 262144, and with `Memory` if an allocation failed. If a block of a pcapng file is
+    /// than 262144, and with `Memory` if an allocation failed. If another pcap file begins in place
+    /// of a packet of a pcap file, fails with `AnotherCapture`. If a block of a pcapng file is
     /// invalid, fails with `Block`, and if a packet has another link type than 253, with
     /// `OtherLinkType`. At the end of the input and after an error, the content of `packet` is not
     /// specified, and after an error neither is the state of the reader.
