@@ -397,7 +397,7 @@ class Lister:
         given. Without `lines` the table is not compared."""
         self.runs += 1
         ended = subprocess.run([self.program, *options], input=capture, capture_output=True)
-        heading = "" if "--json" in options else HEADING
+        heading = "" if {"--json", "-H"} & set(options) else HEADING
         table = None if lines is None else (heading + "".join(lines)).encode()
         wanted = (bool(errors) if status is None else status, table,
                   "".join(f"sslist: {error}\n" for error in errors).encode())
@@ -426,6 +426,11 @@ def enhanced(order, *digits):
     return pcapng.enhanced(order, 0, 7_000_009, len(packet), packet)
 
 
+def list_heading(time):
+    """Returns the lines before a further list of sockets, whose first request has this time."""
+    return f"\n==> {time} <==\n{HEADING}"
+
+
 def section(number, *packets):
     """Returns a section with an interface and these packets. Section 0 is little-endian, and
     section 1 big-endian."""
@@ -440,6 +445,11 @@ MIXED = [
     (SOCK_DIAG, INET6), (SOCK_DIAG, DONE),
 ]
 MIXED_LINES = [UNIX_LINE, INET6_LINE]
+
+# The time of the packets of `pcap` and `enhanced` in microseconds; of those of `enhanced` in
+# nanoseconds.
+SEVEN = "1970-01-01T00:00:07.000009000Z"
+SEVEN_IN_NANOSECONDS = "1970-01-01T00:00:00.007000009Z"
 
 
 def lists_captures_of_both_orders(sslist):
@@ -541,6 +551,25 @@ def lists_requests(sslist):
         sslist.run(pcap(header, *packets), ["--requests"], lines)
 
 
+def separates_lists(sslist):
+    """A request with the type and the bytes of the first one begins another list, whatever its flags
+    and numbers are. Other requests do not, also if they are repeated. -H and --json omit the
+    heading."""
+    again = REQUEST[:12] + "0503" + "22222222" * 2 + REQUEST[32:]
+    destroy = REQUEST[:8] + "1500" + REQUEST[12:]
+    packets = [(SOCK_DIAG, it) for it in (
+        REQUEST, UNIX, TCP_REQUEST, destroy, UNIX, again, UNIX, TCP_REQUEST, destroy, REQUEST)]
+    capture, heading = pcap(HEADERS[0], *packets), list_heading(SEVEN)
+    sslist.run(capture, lines=[UNIX_LINE, UNIX_LINE, heading, UNIX_LINE, heading])
+    sslist.run(capture, ["-H"], [UNIX_LINE] * 3)
+    sslist.run(capture, ["--json"], [OBJECTS[0][1], "\n"] * 3)
+    unix, tcp, closed = (f"-- {SEVEN} {it}\n" for it in (
+        "unix states:0xffffffff", "tcp family:inet states:0xffffffff",
+        "destroy unix states:0xffffffff"))
+    sslist.run(capture, ["--requests"], [unix, UNIX_LINE, tcp, closed, UNIX_LINE, heading, unix,
+                                         UNIX_LINE, tcp, closed, heading, unix])
+
+
 def lists_a_long_datagram(sslist):
     """A packet with a thousand messages."""
     header = "d4c3b2a102000400000000000000000000000400fd000000"
@@ -613,7 +642,8 @@ def lists_sections_of_both_orders(sslist):
     """Captures in pcapng format in both byte orders, by themselves and as sections of one file."""
     for number in (0, 1):
         sslist.run(section(number, *MIXED), lines=MIXED_LINES)
-    sslist.run(section(0, *MIXED) + section(1, *MIXED), lines=MIXED_LINES * 2)
+    lines = [*MIXED_LINES, list_heading(SEVEN), *MIXED_LINES]
+    sslist.run(section(0, *MIXED) + section(1, *MIXED), lines=lines)
 
 
 def lists_times_of_requests(sslist):
@@ -622,9 +652,9 @@ def lists_times_of_requests(sslist):
     capture = section(1, (SOCK_DIAG, REQUEST))
     capture += bytes.fromhex(SECTION + NANOSECONDS + UNKNOWN + SIMPLE)
     capture += enhanced("<", SOCK_DIAG, REQUEST)
-    times = ["1970-01-01T00:00:07.000009000Z", "1970-01-01T00:00:00.007000009Z"]
-    lines = [f"-- {time} unix states:0xffffffff\n" for time in times]
-    sslist.run(capture, ["--requests"], lines)
+    times = (SEVEN, SEVEN_IN_NANOSECONDS)
+    first, second = (f"-- {time} unix states:0xffffffff\n" for time in times)
+    sslist.run(capture, ["--requests"], [first, list_heading(SEVEN_IN_NANOSECONDS), second])
 
 
 def reports_where_a_file_is_truncated(sslist):
@@ -652,7 +682,7 @@ def main():
     for check in (
         lists_captures_of_both_orders, lists_other_families, lists_attributes_of_newer_kernels,
         lists_short_tcp_info, shows_names_in_utf8, lists_objects, selects_by_address,
-        selects_states_without_a_name, lists_requests, lists_a_long_datagram,
+        selects_states_without_a_name, lists_requests, separates_lists, lists_a_long_datagram,
         reports_where_a_capture_is_truncated, reports_why, reports_another_capture,
         lists_sections_of_both_orders, lists_times_of_requests, reports_where_a_file_is_truncated,
         reports_invalid_blocks,

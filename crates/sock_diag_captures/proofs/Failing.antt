@@ -24,7 +24,7 @@ use Rattle.sslist_options.specs.declared.options.Options.{Options}
 use Rattle.sock_diag_listing.specs.Reports.{closing_line}
 use Rattle.sock_diag_captures.specs.Diagnostics.{DiagnosesPacket}
 use Rattle.sock_diag_captures.specs.Listing.{requests_after_packet}
-use Rattle.sock_diag_captures.specs.declared.requests.Query.{Query}
+use Rattle.sock_diag_captures.specs.Requests.{PastRequests, no_requests}
 use Rattle.sock_diag_captures.specs.Run.{FailsAtWrite, Fails, Finishes, IsListed, IsTableOfCapture}
 use Rattle.sock_diag_captures.specs.Run.{RunState, ListedPacket}
 use Rattle.sock_diag_captures.specs.private.Run.{closing_text}
@@ -108,13 +108,13 @@ fails_at_write_of_packets o a d x z heading front bytes lines diagnostics Report
 module _ (o : Options) (front : List ℕ) (start : CaptureState) (header : List ℕ)
     (is : IsCaptureStart header start) where
   -- the table of the packets so far
-  abbrev pub table_of : (b c y z : Option (List ℕ)) (state : CaptureState) (asked : List Query)
+  abbrev pub table_of : (b c y z : Option (List ℕ)) (state : CaptureState) (past : PastRequests)
       (whole : Bool) (number : ℕ)
-      (p : Progress o front start b c y z state asked whole number)
+      (p : Progress o front start b c y z state past whole number)
       → IsTableOfCapture o front (header ++ p.records) (flat_map lines_of_packet p.listings)
       p.diagnostics
       whole
-  table_of b c y z state asked whole number p = record {
+  table_of b c y z state past whole number p = record {
     header = header;
     start = start;
     records = p.records;
@@ -133,19 +133,19 @@ module _ (o : Options) (front : List ℕ) (start : CaptureState) (header : List 
   -- The state after the packets so far, if more bytes were read.
   progress_is_run_state : (a b c d x y z : Option (List ℕ)) (heading more : List ℕ)
       (Reported : List ℕ → Type 0)
-      (state : CaptureState) (asked : List Query) (whole : Bool) (number : ℕ)
-      (p : Progress o front start b c y z state asked whole number)
+      (state : CaptureState) (past : PastRequests) (whole : Bool) (number : ℕ)
+      (p : Progress o front start b c y z state past whole number)
       → Reported p.diagnostics
       → Consumes a b header → Consumes c d more → Appends x y heading
       → RunState o a d x z heading front Reported state (length p.packets) more
-  progress_is_run_state a b c d x y z heading more Reported state asked whole number p reported
+  progress_is_run_state a b c d x y z heading more Reported state past whole number p reported
       first last begun =
       record {
         bytes = header ++ p.records;
         lines = flat_map lines_of_packet p.listings;
         diagnostics = p.diagnostics;
         is_whole = whole;
-        table = table_of b c y z state asked whole number p;
+        table = table_of b c y z state past whole number p;
         reached = refl;
         counted = refl;
         read = Consumes-trans a c d (header ++ p.records) more
@@ -162,13 +162,13 @@ module _ (o : Options) (front : List ℕ) (start : CaptureState) (header : List 
       → FailsAtWrite o a b x z heading front Reported
   fails_at_heading a b x z heading Reported none first sent rest split appended =
       fails_at_write_of_packets o a b x z heading front (header ++ []) [] [] Reported true
-      (table_of b b x x start [] true 1 (progress_begins o front start b x)) none
+      (table_of b b x x start no_requests true 1 (progress_begins o front start b x)) none
       (Consumes-trans a b b header [] first (Consumes-nil b)) sent rest (append-nil heading
       ∙ split) appended
 
   module _ (a b c x y z : Option (List ℕ)) (heading : List ℕ) (state : CaptureState)
-      (asked : List Query) (whole : Bool) (number : ℕ)
-      (p : Progress o front start b c y z state asked whole number)
+      (past : PastRequests) (whole : Bool) (number : ℕ)
+      (p : Progress o front start b c y z state past whole number)
       (first : Consumes a b header) (begun : Appends x y heading) where
     module _ (Reported : List ℕ → Type 0) (reported : Reported p.diagnostics) where
       -- The run failed because a packet could not be read.
@@ -181,7 +181,7 @@ module _ (o : Options) (front : List ℕ) (start : CaptureState) (header : List 
             state,
             length p.packets,
             part,
-            progress_is_run_state a b c d x y z heading part Reported state asked whole number p
+            progress_is_run_state a b c d x y z heading part Reported state past whole number p
                 reported first read begun,
             p.next,
             stop_implies d unread
@@ -197,7 +197,7 @@ module _ (o : Options) (front : List ℕ) (start : CaptureState) (header : List 
         state,
         length p.packets,
         [],
-        progress_is_run_state a b c c x y z heading [] Reported state asked whole number p reported
+        progress_is_run_state a b c c x y z heading [] Reported state past whole number p reported
             first (Consumes-nil c) begun,
         sym last ∙ p.next,
         stopped_at_once state c
@@ -218,7 +218,7 @@ module _ (o : Options) (front : List ℕ) (start : CaptureState) (header : List 
             bytes,
             packet,
             reads,
-            progress_is_run_state a b c d x y z heading bytes Reported state asked whole number p
+            progress_is_run_state a b c d x y z heading bytes Reported state past whole number p
                 reported first read begun,
           )
 
@@ -229,7 +229,7 @@ module _ (o : Options) (front : List ℕ) (start : CaptureState) (header : List 
       fails_at_flush d z' more end last kept =
           let lines = flat_map lines_of_packet p.listings in
           fails_at_write o a d x z' heading front (header ++ p.records) lines p.diagnostics
-          Reported whole (table_of b c y z state asked whole number p) reported more end
+          Reported whole (table_of b c y z state past whole number p) reported more end
           (Consumes-trans a c d (header ++ p.records) more
           (Consumes-trans a b c header p.records first p.read) last)
           (heading ++ lines) [] (sym (append-nil (heading ++ lines)))
@@ -239,15 +239,15 @@ module _ (o : Options) (front : List ℕ) (start : CaptureState) (header : List 
     -- The lines of a packet could not be written.
     pub fails_at_lines : (Reported : List ℕ → Type 0) (d z' : Option (List ℕ))
         (more lines added : List ℕ) (packet : CapturedPacket) (after : CaptureState)
-        (asked' : List Query) (one : Bool)
+        (past' : PastRequests) (one : Bool)
         → Reported (p.diagnostics ++ added)
-        → ReadsPacket state more packet after → asked' ≡ requests_after_packet asked packet.bytes
-        → IsListed o asked' packet (record { lines = lines; whole = one })
+        → ReadsPacket state more packet after → past' ≡ requests_after_packet past packet.bytes
+        → IsListed o past packet (record { lines = lines; whole = one })
         → DiagnosesPacket front number packet [] added
         → Consumes c d more
         → (sent rest : List ℕ) → lines ≡ sent ++ rest → Appends z z' sent
         → FailsAtWrite o a d x z' heading front Reported
-    fails_at_lines Reported d z' more lines added packet after asked' one reported reads next
+    fails_at_lines Reported d z' more lines added packet after past' one reported reads next
         listed diagnosed read sent rest split appended =
         let before = flat_map lines_of_packet p.listings in
         let new : ListedPacket = record { lines = lines; whole = one } in
@@ -268,16 +268,16 @@ module _ (o : Options) (front : List ℕ) (start : CaptureState) (header : List 
         (Consumes-trans b c d p.records more p.read read) in
         elim (bool_cases whole) [
           | inl t ↦ fails_at_write_of_packets o a d x z' heading front _ _ _ Reported one
-              (table_of b d y w after asked' one (number + 1)
+              (table_of b d y w after past' one (number + 1)
               (progress_continues_complete o front start b c d y z w state after more lines
-              added packet asked
-              asked' one whole number t p reads next listed diagnosed read wrote))
+              added packet past
+              past' one whole number t p reads next listed diagnosed read wrote))
               reported bytes ((heading ++ before) ++ sent) rest joined all
           | inr f ↦ fails_at_write_of_packets o a d x z' heading front _ _ _ Reported whole
-              (table_of b d y w after asked' whole (number + 1)
+              (table_of b d y w after past' whole (number + 1)
               (progress_continues_incomplete o front start b c d y z w state after more lines
-              added packet asked
-              asked' one whole number f p reads next listed diagnosed read wrote))
+              added packet past
+              past' one whole number f p reads next listed diagnosed read wrote))
               reported bytes ((heading ++ before) ++ sent) rest joined all
         ]
 

@@ -8,20 +8,20 @@ use Rattle.netlink_captures.specs.Cooked.{IsOfSockDiag}
 use Rattle.sslist_options.specs.declared.options.Options.{Options}
 use Rattle.sock_diag_captures.specs.Diagnostics.{DiagnosesContent, short_line_if_whole}
 use Rattle.sock_diag_captures.specs.Listing.{ListsPacket, ListsCapturedPacket}
-use Rattle.sock_diag_captures.specs.declared.requests.Query.{Query}
+use Rattle.sock_diag_captures.specs.Requests.{PastRequests}
 
 not_both : (b : Bool) → b ≡ false → b ≡ true → ⊥
 not_both b is_false is_true = cc
 
 -- A packet was listed completely if its bytes were, and it was not truncated.
-pub listed_without_errors : (o : Options) (asked : List Query) (packet : CapturedPacket)
+pub listed_without_errors : (o : Options) (past : PastRequests) (packet : CapturedPacket)
     (before after : List ℕ)
     (listed whole : Bool) → (IsTrue whole ↔ (packet.header.whole_length ≤ length packet.bytes))
-    → ListsPacket o asked packet before after listed
-    → ListsCapturedPacket o asked packet before after (listed && whole)
-listed_without_errors o asked packet before after true whole same lists =
+    → ListsPacket o past packet before after listed
+    → ListsCapturedPacket o past packet before after (listed && whole)
+listed_without_errors o past packet before after true whole same lists =
     (true, lists, (λ is. (refl, same.0 is), λ both. same.1 both.1))
-listed_without_errors o asked packet before after false whole same lists =
+listed_without_errors o past packet before after false whole same lists =
     (false, lists, (λ is. absurd (not_both false refl is), λ both. both.0))
 
 by_comparison : (whole complete : Bool) (m n : ℕ) → nat_le m n ≡ complete

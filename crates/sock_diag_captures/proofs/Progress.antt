@@ -15,7 +15,7 @@ use Rattle.sock_diag_captures.specs.Diagnostics.{AreDiagnosed, DiagnosesPacket}
 use Rattle.sock_diag_captures.specs.Listing.{requests_after_packet}
 use Rattle.sock_diag_captures.specs.Run.{AreListed, ArePackets, IsListed, IsListedCompletely}
 use Rattle.sock_diag_captures.specs.Run.{ListedPacket, lines_of_packet}
-use Rattle.sock_diag_captures.specs.declared.requests.Query.{Query}
+use Rattle.sock_diag_captures.specs.Requests.{PastRequests, no_requests}
 
 pub not_both : (b : Bool) → b ≡ false → b ≡ true → ⊥
 not_both b is_false is_true = cc
@@ -44,36 +44,35 @@ lines_push xs x = flat_map-append lines_of_packet xs (x ∷ [])
     ∙ ap (λ (t : List ℕ). flat_map lines_of_packet xs ++ t) (append-nil x.lines)
 
 -- the requests after these packets
-pub requests_after_packets : List Query → List CapturedPacket → List Query
-requests_after_packets asked [] = asked
-requests_after_packets asked (p ∷ ps) =
-    requests_after_packets (requests_after_packet asked p.bytes) ps
+pub requests_after_packets : PastRequests → List CapturedPacket → PastRequests
+requests_after_packets past [] = past
+requests_after_packets past (p ∷ ps) =
+    requests_after_packets (requests_after_packet past p.bytes) ps
 
 -- One more packet was listed.
-pub listed_push : (o : Options) (asked : List Query) (ps : List CapturedPacket)
+pub listed_push : (o : Options) (past : PastRequests) (ps : List CapturedPacket)
     (xs : List ListedPacket)
     (p : CapturedPacket) (x : ListedPacket)
-    → AreListed o asked ps xs → IsListed o
-    (requests_after_packet (requests_after_packets asked ps) p.bytes) p x
-    → AreListed o asked (ps ++ p ∷ []) (xs ++ x ∷ [])
+    → AreListed o past ps xs → IsListed o (requests_after_packets past ps) p x
+    → AreListed o past (ps ++ p ∷ []) (xs ++ x ∷ [])
 unfolding requests_after_packets
-listed_push o asked [] [] p x h is = (is, tt)
-listed_push o asked [] (y ∷ xs) p x h is = absurd h
-listed_push o asked (q ∷ ps) [] p x h is = absurd h
-listed_push o asked (q ∷ ps) (y ∷ xs) p x h is =
-    (h.0, listed_push o (requests_after_packet asked q.bytes) ps xs p x h.1 is)
+listed_push o past [] [] p x h is = (is, tt)
+listed_push o past [] (y ∷ xs) p x h is = absurd h
+listed_push o past (q ∷ ps) [] p x h is = absurd h
+listed_push o past (q ∷ ps) (y ∷ xs) p x h is =
+    (h.0, listed_push o (requests_after_packet past q.bytes) ps xs p x h.1 is)
 
 -- The requests after one more packet.
-pub requests_after_one_more : (asked : List Query) (ps : List CapturedPacket) (p : CapturedPacket)
-    → requests_after_packets asked (ps ++ p ∷ [])
-    ≡ requests_after_packet (requests_after_packets asked ps) p.bytes
+pub requests_after_one_more : (past : PastRequests) (ps : List CapturedPacket) (p : CapturedPacket)
+    → requests_after_packets past (ps ++ p ∷ [])
+    ≡ requests_after_packet (requests_after_packets past ps) p.bytes
 unfolding requests_after_packets
-requests_after_one_more asked [] p = refl
-requests_after_one_more asked (q ∷ ps) p =
-    requests_after_one_more (requests_after_packet asked q.bytes) ps p
+requests_after_one_more past [] p = refl
+requests_after_one_more past (q ∷ ps) p =
+    requests_after_one_more (requests_after_packet past q.bytes) ps p
 
 -- There are no requests before the first packet.
-pub no_requests_at_start : requests_after_packets [] [] ≡ []
+pub no_requests_at_start : requests_after_packets no_requests [] ≡ no_requests
 unfolding requests_after_packets
 no_requests_at_start = refl
 
@@ -120,26 +119,26 @@ packets_push s bytes (q ∷ ps) s' more p s'' (first, rest, mid, reads, split, l
 
 module _ (o : Options) (front : List ℕ) (start : CaptureState) where
   -- These packets were read, listed and diagnosed. They led to the state `state` of the reader.
-  -- `asked` are the requests so far, `number` is the number of the next packet, and `is_whole` is
+  -- `past` are the requests so far, `number` is the number of the next packet, and `is_whole` is
   -- true if and only if all were listed completely.
   pub record Progress (remaining remaining' contents contents' : Option (List ℕ))
-      (state : CaptureState) (asked : List Query) (is_whole : Bool) (number : ℕ) : Type 0 where
+      (state : CaptureState) (past : PastRequests) (is_whole : Bool) (number : ℕ) : Type 0 where
     pub records : List ℕ
     pub packets : List CapturedPacket
     pub listings : List ListedPacket
     pub diagnostics : List ℕ
     pub read : Consumes remaining remaining' records
     pub are_packets : ArePackets start records packets state
-    pub listed : AreListed o [] packets listings
+    pub listed : AreListed o no_requests packets listings
     pub diagnosed : AreDiagnosed front 1 packets diagnostics
-    pub seen : asked ≡ requests_after_packets [] packets
+    pub seen : past ≡ requests_after_packets no_requests packets
     pub appended : Appends contents contents' (flat_map lines_of_packet listings)
     pub flagged : IsTrue is_whole → AllByRecursion IsListedCompletely listings
     pub whole_only : AllByRecursion IsListedCompletely listings → IsTrue is_whole
     pub next : number ≡ length packets + 1
 
   abbrev pub progress_begins : (remaining contents : Option (List ℕ))
-      → Progress remaining remaining contents contents start [] true 1
+      → Progress remaining remaining contents contents start no_requests true 1
   progress_begins remaining contents = record {
     records = [];
     packets = [];
@@ -160,23 +159,23 @@ module _ (o : Options) (front : List ℕ) (start : CaptureState) where
   abbrev pub progress_continues : (a b c x y z : Option (List ℕ)) (s s' : CaptureState)
       (more lines added : List ℕ)
       (p : CapturedPacket)
-      (asked asked' : List Query) (one whole whole' : Bool) (number : ℕ)
-      → Progress a b x y s asked whole number
-      → ReadsPacket s more p s' → asked' ≡ requests_after_packet asked p.bytes
-      → IsListed o asked' p (record { lines = lines; whole = one })
+      (past past' : PastRequests) (one whole whole' : Bool) (number : ℕ)
+      → Progress a b x y s past whole number
+      → ReadsPacket s more p s' → past' ≡ requests_after_packet past p.bytes
+      → IsListed o past p (record { lines = lines; whole = one })
       → DiagnosesPacket front number p [] added
       → Consumes b c more
       → Appends y z lines
       → (IsTrue whole' → IsTrue whole) → (IsTrue whole' → IsTrue one)
       → (IsTrue whole → IsTrue one → IsTrue whole')
-      → Progress a c x z s' asked' whole' (number + 1)
-  progress_continues a b c x y z s s' more lines added p asked asked' one whole whole' number so_far
+      → Progress a c x z s' past' whole' (number + 1)
+  progress_continues a b c x y z s s' more lines added p past past' one whole whole' number so_far
       is
       next listed diagnosed read appended flagged last both =
       let new : ListedPacket = record { lines = lines; whole = one } in
-      let after : asked' ≡ requests_after_packet (requests_after_packets [] so_far.packets)
+      let after : past' ≡ requests_after_packet (requests_after_packets no_requests so_far.packets)
       p.bytes =
-      next ∙ ap (λ (q : List Query). requests_after_packet q p.bytes) so_far.seen in record {
+      next ∙ ap (λ (q : PastRequests). requests_after_packet q p.bytes) so_far.seen in record {
         records = so_far.records ++ more;
         packets = so_far.packets ++ p ∷ [];
         listings = so_far.listings ++ new ∷ [];
@@ -184,12 +183,12 @@ module _ (o : Options) (front : List ℕ) (start : CaptureState) where
         read = Consumes-trans a b c so_far.records more so_far.read read;
         are_packets = packets_push start so_far.records so_far.packets s more p s'
             so_far.are_packets is;
-        listed = listed_push o [] so_far.packets so_far.listings p new so_far.listed
-            (subst (λ (q : List Query). IsListed o q p new) after listed);
+        listed = listed_push o no_requests so_far.packets so_far.listings p new so_far.listed
+            (subst (λ (q : PastRequests). IsListed o q p new) so_far.seen listed);
         diagnosed = diagnosed_push front 1 so_far.packets p so_far.diagnostics added
             so_far.diagnosed
             (subst (λ (k : ℕ). DiagnosesPacket front k p [] added) so_far.next diagnosed);
-        seen = after ∙ sym (requests_after_one_more [] so_far.packets p);
+        seen = after ∙ sym (requests_after_one_more no_requests so_far.packets p);
         appended = subst (λ (t : List ℕ). Appends x z t) (sym (lines_push so_far.listings new))
             (Appends-trans x y z (flat_map lines_of_packet so_far.listings) lines so_far.appended
             appended);
@@ -203,17 +202,17 @@ module _ (o : Options) (front : List ℕ) (start : CaptureState) where
   abbrev pub progress_continues_complete : (a b c x y z : Option (List ℕ)) (s s' : CaptureState)
       (more lines added : List ℕ)
       (p : CapturedPacket)
-      (asked asked' : List Query) (one whole : Bool) (number : ℕ) → whole ≡ true
-      → Progress a b x y s asked whole number
-      → ReadsPacket s more p s' → asked' ≡ requests_after_packet asked p.bytes
-      → IsListed o asked' p (record { lines = lines; whole = one })
+      (past past' : PastRequests) (one whole : Bool) (number : ℕ) → whole ≡ true
+      → Progress a b x y s past whole number
+      → ReadsPacket s more p s' → past' ≡ requests_after_packet past p.bytes
+      → IsListed o past p (record { lines = lines; whole = one })
       → DiagnosesPacket front number p [] added
       → Consumes b c more
-      → Appends y z lines → Progress a c x z s' asked' one (number + 1)
-  progress_continues_complete a b c x y z s s' more lines added p asked asked' one whole number
+      → Appends y z lines → Progress a c x z s' past' one (number + 1)
+  progress_continues_complete a b c x y z s s' more lines added p past past' one whole number
       is_whole so_far is
       next listed diagnosed read appended =
-      progress_continues a b c x y z s s' more lines added p asked asked' one whole one number
+      progress_continues a b c x y z s s' more lines added p past past' one whole one number
       so_far is
       next listed diagnosed read appended (λ _. is_whole) (λ h. h) (λ _ h. h)
 
@@ -221,17 +220,17 @@ module _ (o : Options) (front : List ℕ) (start : CaptureState) where
   abbrev pub progress_continues_incomplete : (a b c x y z : Option (List ℕ)) (s s' : CaptureState)
       (more lines added : List ℕ)
       (p : CapturedPacket)
-      (asked asked' : List Query) (one whole : Bool) (number : ℕ) → whole ≡ false
-      → Progress a b x y s asked whole number
-      → ReadsPacket s more p s' → asked' ≡ requests_after_packet asked p.bytes
-      → IsListed o asked' p (record { lines = lines; whole = one })
+      (past past' : PastRequests) (one whole : Bool) (number : ℕ) → whole ≡ false
+      → Progress a b x y s past whole number
+      → ReadsPacket s more p s' → past' ≡ requests_after_packet past p.bytes
+      → IsListed o past p (record { lines = lines; whole = one })
       → DiagnosesPacket front number p [] added
       → Consumes b c more
-      → Appends y z lines → Progress a c x z s' asked' whole (number + 1)
-  progress_continues_incomplete a b c x y z s s' more lines added p asked asked' one whole number
+      → Appends y z lines → Progress a c x z s' past' whole (number + 1)
+  progress_continues_incomplete a b c x y z s s' more lines added p past past' one whole number
       is_part so_far is
       next listed diagnosed read appended =
-      progress_continues a b c x y z s s' more lines added p asked asked' one whole whole number
+      progress_continues a b c x y z s s' more lines added p past past' one whole whole number
       so_far
       is next listed diagnosed read appended
       (λ h. h) (λ h. absurd (not_both whole is_part h)) (λ h _. h)

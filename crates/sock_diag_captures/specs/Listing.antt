@@ -33,9 +33,12 @@ use Rattle.sock_diag_captures.specs.Pieces.{AttributeOrError, framing_error_of, 
 use Rattle.sock_diag_captures.specs.Table.{info_of_protocol}
 use Rattle.sock_diag_captures.specs.declared.attributes.Sockets.{Sockets}
 use Rattle.sock_diag_captures.specs.declared.attributes.Sockets.TheVariants.{Inet, Other, Unix}
+use Rattle.sock_diag_captures.specs.Headings.{list_heading}
+use Rattle.sock_diag_captures.specs.Lists.{is_repetition}
 use Rattle.sock_diag_captures.specs.RequestLine.{request_line_if_selected}
 use Rattle.sock_diag_captures.specs.Messages.{MessageParts, message_in, request_in}
-use Rattle.sock_diag_captures.specs.Requests.{protocol_of, with_optional_request}
+use Rattle.sock_diag_captures.specs.Requests.{PastRequests, protocol_of, with_optional_request}
+use Rattle.sock_diag_captures.specs.declared.line.TheConstants.{HEADING}
 use Rattle.sock_diag_captures.specs.declared.others.OtherSocket.{OtherSocket}
 use Rattle.sock_diag_captures.specs.declared.requests.Query.{Query}
 use Rattle.sock_diag_captures.specs.Details.{timer_in}
@@ -215,53 +218,61 @@ pub record ListsMessages (o : Options) (asked : List Query) (datagram before aft
   pub clean : is_clean
       ≡ (list_all (λ m. is_clean_message (message_in m)) messages && is_none end)
 
--- `ListsFirst request o asked header datagram before after is_clean`: the text `after` is the text
+-- `request_lines o past header request`: the lines of a request: if it repeats the first one of
+-- the requests `past`, which precede it, the text that begins another list of sockets; and its own
+-- line, if `--requests` is set. `header` is the packet header, with the time of capture.
+abbrev pub request_lines : Options → PastRequests → PacketHeader → MessageParts → List ℕ
+request_lines o past header request =
+    list_heading o header HEADING.now (is_repetition past.first request)
+    ++ request_line_if_selected o header request
+
+-- `ListsFirst request o past header datagram before after is_clean`: the text `after` is the text
 -- `before` and the lines of a datagram that begins with this request, or with none. A request has
--- its own line, if `--requests` is set, and is clean; any other datagram has the lines of its
--- messages. `header` is the packet header, with the time of capture.
-abbrev pub ListsFirst : Option MessageParts → Options → List Query → PacketHeader → List ℕ → List ℕ
-    → List ℕ → Bool → Type 0
-ListsFirst None o asked header datagram before after is_clean =
-    ListsMessages o asked datagram before after is_clean
-ListsFirst (Some request) o asked header datagram before after is_clean =
-    (after ≡ before ++ request_line_if_selected o header request) × (is_clean ≡ true)
+-- its lines, and is clean; any other datagram has the lines of its messages. `past` are the
+-- requests before the datagram.
+abbrev pub ListsFirst : Option MessageParts → Options → PastRequests → PacketHeader → List ℕ
+    → List ℕ → List ℕ → Bool → Type 0
+ListsFirst None o past header datagram before after is_clean =
+    ListsMessages o past.queries datagram before after is_clean
+ListsFirst (Some request) o past header datagram before after is_clean =
+    (after ≡ before ++ request_lines o past header request) × (is_clean ≡ true)
 
 -- the same for any datagram
-abbrev pub ListsDatagram : Options → List Query → PacketHeader → List ℕ → List ℕ → List ℕ → Bool
+abbrev pub ListsDatagram : Options → PastRequests → PacketHeader → List ℕ → List ℕ → List ℕ → Bool
     → Type 0
-ListsDatagram o asked header datagram before after is_clean =
-    ListsFirst (request_in datagram) o asked header datagram before after is_clean
+ListsDatagram o past header datagram before after is_clean =
+    ListsFirst (request_in datagram) o past header datagram before after is_clean
 
 -- the requests after a datagram: if it begins with a request this is added
-abbrev pub requests_after_datagram : List Query → List ℕ → List Query
-requests_after_datagram asked datagram = with_optional_request (request_in datagram) asked
+abbrev pub requests_after_datagram : PastRequests → List ℕ → PastRequests
+requests_after_datagram past datagram = with_optional_request (request_in datagram) past
 
--- `requests_after_packet asked packet`: the requests after a packet. If it has a cooked header of
+-- `requests_after_packet past packet`: the requests after a packet. If it has a cooked header of
 -- sock_diag(7) (the hardware type at 2 is 824 and the protocol at 14 is 4, both big-endian), the
 -- request that its datagram begins with is added, if there is one. The datagram is at 16.
-unfoldable pub requests_after_packet : List Query → List ℕ → List Query
-requests_after_packet asked packet =
-    if nat_lt (length packet) 16 then asked
+unfoldable pub requests_after_packet : PastRequests → List ℕ → PastRequests
+requests_after_packet past packet =
+    if nat_lt (length packet) 16 then past
     else if (big_number 2 (drop 2 packet) == 824) && (big_number 2 (drop 14 packet) == 4)
-    then requests_after_datagram asked (drop 16 packet) else asked
+    then requests_after_datagram past (drop 16 packet) else past
 
--- `ListsPacket o asked packet before after is_clean`: the text `after` is the text `before` and the
+-- `ListsPacket o past packet before after is_clean`: the text `after` is the text `before` and the
 -- lines of a packet: those of its datagram if it is one of sock_diag(7), or else none. A packet of
 -- another protocol is clean, and a packet with fewer than 16 bytes is not. Whether the packet was
--- truncated is not considered.
-abbrev pub ListsPacket : Options → List Query → CapturedPacket → List ℕ → List ℕ → Bool → Type 0
-ListsPacket o asked packet before after is_clean =
+-- truncated is not considered. `past` are the requests before the packet.
+abbrev pub ListsPacket : Options → PastRequests → CapturedPacket → List ℕ → List ℕ → Bool → Type 0
+ListsPacket o past packet before after is_clean =
     (IsSockDiag packet.bytes
-    × ListsDatagram o asked packet.header (drop 16 packet.bytes) before after is_clean)
+    × ListsDatagram o past packet.header (drop 16 packet.bytes) before after is_clean)
     ⊎ ((¬ IsSockDiag packet.bytes) × (after ≡ before)
     × (IsTrue is_clean ↔ (16 ≤ length packet.bytes)))
 
--- `ListsCapturedPacket o asked packet before after is_whole`: the text `after` is the text `before`
+-- `ListsCapturedPacket o past packet before after is_whole`: the text `after` is the text `before`
 -- and the lines of the packet. `is_whole` is true if and only if the packet was listed without
 -- errors: it is clean and was not truncated, so it has at least as many bytes as its original
 -- length.
-abbrev pub ListsCapturedPacket : Options → List Query → CapturedPacket → List ℕ → List ℕ → Bool
+abbrev pub ListsCapturedPacket : Options → PastRequests → CapturedPacket → List ℕ → List ℕ → Bool
     → Type 0
-ListsCapturedPacket o asked packet before after is_whole =
-    (is_clean : Bool) × ListsPacket o asked packet before after is_clean
+ListsCapturedPacket o past packet before after is_whole =
+    (is_clean : Bool) × ListsPacket o past packet before after is_clean
     × (IsTrue is_whole ↔ (IsTrue is_clean × (packet.header.whole_length ≤ length packet.bytes)))

@@ -1,5 +1,5 @@
--- What captured requests ask for. Those for IPv4 and IPv6 sockets contain the protocols of the
--- sockets in the replies.
+-- What captured requests ask for, and which of them are kept. Those for IPv4 and IPv6 sockets
+-- contain the protocols of the sockets in the replies.
 use Rattle.std.specs.Prelude.{ℕ, ◌==◌, ◌||◌, ◌&&◌, not, nat_le, if◌then◌else◌, Bool, List, []}
 use Rattle.std.specs.Prelude.{◌∷◌, take, drop, length, slice_index, Option, None, Some}
 use Rattle.byteorder.specs.Endian.{little_number}
@@ -9,12 +9,14 @@ use Rattle.sock_diag_records.specs.declared.inet.request.TheConstants.{INET_DIAG
 use Rattle.sock_diag_records.specs.declared.inet.request.TheConstants.{INET_REQUEST_LEN}
 use Rattle.sock_diag_records.specs.declared.unix.request.TheConstants.{UNIX_REQUEST_LEN}
 use Rattle.sslist_options.specs.declared.options.Family.{Family}
+use Rattle.sock_diag_captures.specs.Lists.{RequestContent, first_request, first_with}
 use Rattle.sock_diag_captures.specs.Messages.{MessageParts}
 use Rattle.sock_diag_captures.specs.Others.{family_numbered}
 use Rattle.sock_diag_captures.specs.Pieces.{first_of_kind, attributes_or_error}
 use Rattle.sock_diag_captures.specs.declared.requests.Query.{Query}
 use Rattle.sock_diag_captures.specs.declared.requests.Requested.{Requested}
 use Rattle.sock_diag_captures.specs.declared.requests.Requested.TheVariants as requests
+use Rattle.sock_diag_captures.specs.declared.requests.Requests.{Requests}
 
 -- `protocol_by byte attribute`: the protocol of a request. It is the little-endian value of its
 -- attribute INET_DIAG_REQ_PROTOCOL, if there is one and its value has four bytes, or else the byte
@@ -71,16 +73,39 @@ abbrev pub with_newest : Requested → List Query → List Query
 with_newest (requests.Inet newest) asked = newest ∷ take 15 asked
 with_newest what asked = asked
 
--- the requests after one more; one that closes sockets has no replies, and is not kept
-abbrev pub with_request : MessageParts → List Query → List Query
-with_request request asked =
+-- the requests for IPv4 and IPv6 sockets after one more request; one that closes sockets has no
+-- replies, and is not kept
+abbrev pub with_query : MessageParts → List Query → List Query
+with_query request asked =
     if request.header.message_type == c.SOCK_DIAG_BY_FAMILY
     then with_newest (requested request) asked else asked
 
+-- The requests that are kept.
+pub record PastRequests : Type 0 where
+  -- those for IPv4 and IPv6 sockets, at most 16, the newest first
+  pub queries : List Query
+  -- the first request of any kind
+  pub first : Option RequestContent
+
+-- what `Requests` keeps
+abbrev pub past_requests : Requests → PastRequests
+past_requests r = record { queries = r.asked.items; first = first_request r.first }
+
+-- before the first request
+abbrev pub no_requests : PastRequests
+no_requests = record { queries = []; first = None }
+
+-- the requests after one more
+abbrev pub with_request : MessageParts → PastRequests → PastRequests
+with_request request past = record {
+  queries = with_query request past.queries;
+  first = first_with request past.first;
+}
+
 -- the requests after a datagram that begins with this request, or with none
-abbrev pub with_optional_request : Option MessageParts → List Query → List Query
-with_optional_request None asked = asked
-with_optional_request (Some request) asked = with_request request asked
+abbrev pub with_optional_request : Option MessageParts → PastRequests → PastRequests
+with_optional_request None past = past
+with_optional_request (Some request) past = with_request request past
 
 -- `protocol_of asked sequence port`: the protocol of the newest request that a reply with this
 -- sequence number (`nlmsg_seq`) and this port number (`nlmsg_pid`) may answer: its sequence number

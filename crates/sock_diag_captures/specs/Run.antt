@@ -15,7 +15,7 @@ use Rattle.netlink_captures.specs.Reader.{IsCaptureStartStop, IsCaptureStop, Rea
 use Rattle.sslist_options.specs.declared.options.Options.{Options}
 use Rattle.sock_diag_captures.specs.Diagnostics.{AreDiagnosed}
 use Rattle.sock_diag_captures.specs.Listing.{ListsCapturedPacket, requests_after_packet}
-use Rattle.sock_diag_captures.specs.declared.requests.Query.{Query}
+use Rattle.sock_diag_captures.specs.Requests.{PastRequests, no_requests}
 
 -- the lines of a packet, and whether it was listed completely
 pub record ListedPacket : Type 0 where
@@ -32,20 +32,20 @@ lines_of_packet listing = listing.lines
 abbrev pub IsListedCompletely : ListedPacket → Type 0
 IsListedCompletely listing = IsTrue listing.whole
 
--- `IsListed o asked packet listing`: `listing` has the lines of the packet, and whether it was
--- listed completely. `asked` are the requests up to and including this packet.
-abbrev pub IsListed : Options → List Query → CapturedPacket → ListedPacket → Type 0
-IsListed o asked packet listing = ListsCapturedPacket o asked packet [] listing.lines listing.whole
+-- `IsListed o past packet listing`: `listing` has the lines of the packet, and whether it was
+-- listed completely. `past` are the requests before this packet.
+abbrev pub IsListed : Options → PastRequests → CapturedPacket → ListedPacket → Type 0
+IsListed o past packet listing = ListsCapturedPacket o past packet [] listing.lines listing.whole
 
--- `AreListed o asked packets listings`: one listing for each of these consecutive packets, in
--- order. `asked` are the requests before the first of them.
-abbrev pub AreListed : Options → List Query → List CapturedPacket → List ListedPacket → Type 0
-AreListed o asked [] [] = ⊤
-AreListed o asked [] (listing ∷ later) = ⊥
-AreListed o asked (packet ∷ packets) [] = ⊥
-AreListed o asked (packet ∷ packets) (listing ∷ later) =
-    IsListed o (requests_after_packet asked packet.bytes) packet listing
-    × AreListed o (requests_after_packet asked packet.bytes) packets later
+-- `AreListed o past packets listings`: one listing for each of these consecutive packets, in
+-- order. `past` are the requests before the first of them.
+abbrev pub AreListed : Options → PastRequests → List CapturedPacket → List ListedPacket → Type 0
+AreListed o past [] [] = ⊤
+AreListed o past [] (listing ∷ later) = ⊥
+AreListed o past (packet ∷ packets) [] = ⊥
+AreListed o past (packet ∷ packets) (listing ∷ later) =
+    IsListed o past packet listing
+    × AreListed o (requests_after_packet past packet.bytes) packets later
 
 -- `ArePackets s bytes packets s'`: the bytes lead from the state `s` of a reader to `s'`, over
 -- these packets, one after another (`ReadsPacket`)
@@ -77,7 +77,7 @@ pub record IsTableOfCapture (o : Options) (front bytes lines diagnostics : List 
   pub is_header : IsCaptureStart header start
   pub are_packets : ArePackets start records packets state
   -- no request precedes the first packet
-  pub listed : AreListed o [] packets listings
+  pub listed : AreListed o no_requests packets listings
   pub written : lines ≡ flat_map lines_of_packet listings
   -- the first packet has the number 1
   pub diagnosed : AreDiagnosed front 1 packets diagnostics

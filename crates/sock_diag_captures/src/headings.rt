@@ -1,10 +1,13 @@
-//! The text before a table: the caption with the name of a file, and the heading.
+//! The text before a table: the caption with the name of a file, and the heading; and the text
+//! between two lists of sockets in a table.
 
 ghost use Rattle.std.specs.Prelude.{◌≡◌, ◌++◌, IfOk, OnOk, option_map};
-ghost use Rattle.sock_diag_captures.specs.Headings.{caption, text_before_table};
+ghost use Rattle.sock_diag_captures.specs.Headings.{caption, list_heading, text_before_table};
 
 use crate::line::HEADING;
+use netlink_captures::PacketHeader;
 use sock_diag_listing::names::push_shown;
+use sock_diag_listing::times::push_time;
 use sslist_options::Options;
 use std::alloc::{AllocError, Global};
 
@@ -34,4 +37,25 @@ fn push_caption(text: &mut Vec<u8>, utf8: bool, name: Option<&str>) -> Result<()
     text.extend_from_slice(b"==> ")?;
     push_shown(text, utf8, name.as_bytes())?;
     text.extend_from_slice(b" <==\n")
+}
+
+/// Appends the text before another list of sockets: an empty line, a line with the time of the
+/// request that begins it, and the heading. Appends nothing if the request is not a repetition of
+/// the first one, and with `-H` and `--json`.
+pub(crate) fn push_list_heading(
+    text: &mut Vec<u8>,
+    options: Options,
+    header: &PacketHeader,
+    is_repetition: bool,
+) -> Result<(), AllocError>
+    ensures { OnOk result (text.new.items ≡ text.old.items
+        ++ list_heading options header.now HEADING.now is_repetition) }
+{
+    if !is_repetition || options.no_heading || options.json {
+        return Ok(());
+    }
+    text.extend_from_slice(b"\n==> ")?;
+    push_time(text, header)?;
+    text.extend_from_slice(b" <==\n")?;
+    text.extend_from_slice(HEADING)
 }

@@ -28,6 +28,7 @@ mod kinds;
 pub mod laws;
 mod line;
 mod list;
+mod lists;
 mod md5_keys;
 mod messages;
 mod name_cells;

@@ -17,10 +17,12 @@ ghost use Rattle.sock_diag_captures.specs.Listing.{is_informational_or_none, lin
 ghost use Rattle.sock_diag_captures.specs.Listing.{message_diagnostic, message_lines};
 ghost use Rattle.sock_diag_captures.specs.Listing.{requests_after_datagram};
 ghost use Rattle.sock_diag_captures.specs.Messages.{message_parts};
+ghost use Rattle.sock_diag_captures.specs.Requests.{past_requests};
 ghost use Rattle.sock_diag_captures.specs.declared.list.Diagnostic.TheVariants.{Refused};
 
 use crate::error_text::DecodeErrorText;
 use crate::explanation::push_explanation;
+use crate::headings::push_list_heading;
 use crate::line::push_reply;
 use crate::messages::Message;
 use crate::request_line::push_shown_request;
@@ -107,8 +109,10 @@ struct Position {
 /// checked.
 ///
 /// Stores a request for IPv4 or IPv6 sockets in `requests`, so that the protocol of its replies is
-/// known. Appends a line for a request if `--requests` is set. If it fails, an allocation failed,
-/// and the lines, diagnostics and requests are not specified.
+/// known, and the first request. A request that repeats the first one begins another list of
+/// sockets: appends a line with its time and the heading, unless `-H` or `--json` is set. Appends a
+/// line for a request if `--requests` is set. If it fails, an allocation failed, and the lines,
+/// diagnostics and requests are not specified.
 pub fn list_packet(
     written: &mut PacketOutput<'_>,
     requests: &mut Requests,
@@ -118,11 +122,11 @@ pub fn list_packet(
     header: &PacketHeader,
 ) -> Result<bool, AllocError>
     // The lines and the result. `captured_packet` is the packet with its header.
-    ensures lists { IfOk result (ListsCapturedPacket options requests.new.asked.items
+    ensures lists { IfOk result (ListsCapturedPacket options (past_requests requests.old)
         (captured_packet packet.now header.now) written.old.lines.items written.new.lines.items) }
     // The request in the packet, if there is one, was added.
-    ensures asked { OnOk result (requests.new.asked.items
-        ≡ requests_after_packet requests.old.asked.items packet.now) }
+    ensures asked { OnOk result (past_requests requests.new
+        ≡ requests_after_packet (past_requests requests.old) packet.now) }
     // The diagnostics.
     ensures diagnosed { OnOk result (DiagnosesPacket written.old.front.now number
         (captured_packet packet.now header.now) written.old.diagnostics.items
@@ -146,10 +150,10 @@ fn list_content(
     packet: &[u8],
     header: &PacketHeader,
 ) -> Result<bool, AllocError>
-    ensures lists { IfOk result (ListsPacket options requests.new.asked.items
+    ensures lists { IfOk result (ListsPacket options (past_requests requests.old)
         (captured_packet packet.now header.now) written.old.lines.items written.new.lines.items) }
-    ensures asked { OnOk result (requests.new.asked.items
-        ≡ requests_after_packet requests.old.asked.items packet.now) }
+    ensures asked { OnOk result (past_requests requests.new
+        ≡ requests_after_packet (past_requests requests.old) packet.now) }
     ensures diagnosed { OnOk result (DiagnosesContent written.old.front.now number is_whole
         packet.now written.old.diagnostics.items written.new.diagnostics.items) }
     ensures front { written.new.front ≡ written.old.front }
@@ -195,17 +199,19 @@ fn list_sock_diag(
     datagram: &[u8],
     header: &PacketHeader,
 ) -> Result<bool, AllocError>
-    ensures lists { IfOk result (ListsDatagram options requests.new.asked.items header.now
+    ensures lists { IfOk result (ListsDatagram options (past_requests requests.old) header.now
         datagram.now written.old.lines.items written.new.lines.items) }
-    ensures asked { OnOk result (requests.new.asked.items
-        ≡ requests_after_datagram requests.old.asked.items datagram.now) }
+    ensures asked { OnOk result (past_requests requests.new
+        ≡ requests_after_datagram (past_requests requests.old) datagram.now) }
     ensures diagnosed { OnOk result (DiagnosesDatagram written.old.front.now number is_whole
         datagram.now written.old.diagnostics.items written.new.diagnostics.items) }
     ensures front { written.new.front ≡ written.old.front }
 {
     match Message::request_in(datagram) {
         Some(request) => {
+            let is_repetition = requests.first.is_repeated_by(&request);
             requests.add(&request)?;
+            push_list_heading(&mut written.lines, options, header, is_repetition)?;
             push_shown_request(&mut written.lines, options, header, &request)?;
             Ok(true)
         }

@@ -1,13 +1,16 @@
-//! Captured requests. They contain the protocols of the sockets in the replies.
+//! Captured requests. They contain the protocols of the sockets in the replies, and separate lists
+//! of sockets.
 
-ghost use Rattle.std.specs.Prelude.{◌≡◌, ◌≤◌, [], length, OnOk, option_map};
+ghost use Rattle.std.specs.Prelude.{◌≡◌, ◌≤◌, length, OnOk, option_map};
 ghost use Rattle.std.proofs.Common.{rules};
 ghost use Rattle.netlink_core.specs.Walk.{buffered_attribute};
 ghost use Rattle.sock_diag_captures.specs.Messages.{message_parts};
 ghost use Rattle.sock_diag_captures.specs.Requests.{is_about_sockets, protocol_by, protocol_of};
-ghost use Rattle.sock_diag_captures.specs.Requests.{query_of, requested, requested_other};
+ghost use Rattle.sock_diag_captures.specs.Requests.{no_requests, past_requests, query_of};
+ghost use Rattle.sock_diag_captures.specs.Requests.{requested, requested_other, with_query};
 ghost use Rattle.sock_diag_captures.specs.Requests.{with_request};
 
+use crate::lists::FirstRequest;
 use crate::messages::Message;
 use crate::others::family_numbered;
 use crate::pieces::find_kind;
@@ -41,28 +44,41 @@ impl Exact for Query {
     ghost exact = { Prim.search rules };
 }
 
-/// The newest requests for IPv4 and IPv6 sockets, at most 16.
+/// The requests of a capture that are kept.
 #[derive(Drop)]
 pub struct Requests {
-    /// The requests, the newest first.
+    /// The newest requests for IPv4 and IPv6 sockets, at most 16, the newest first.
     pub asked: Vec<Query>,
+    /// The first request of any kind.
+    pub(crate) first: FirstRequest,
 }
 
 impl Requests {
-    /// Returns an empty list of requests.
+    /// Returns the state before the first packet: no requests.
     pub fn new(alloc: Global) -> Requests
-        ensures { result.asked.items ≡ [] }
+        ensures { past_requests result ≡ no_requests }
     {
         Requests {
             asked: Vec::new(alloc),
+            first: FirstRequest::new(alloc),
         }
     }
 
-    /// Adds a request if it is to list IPv4 or IPv6 sockets. Then at most 15 older requests are
-    /// kept. If it fails, an allocation failed, and the requests are not specified.
+    /// Adds a request. If it fails, an allocation failed, and the requests are not specified.
     pub(crate) fn add(&mut self, request: &Message<'_>) -> Result<(), AllocError>
-        ensures { OnOk result (self.new.asked.items
-            ≡ with_request (message_parts request.now) self.old.asked.items) }
+        ensures { OnOk result (past_requests self.new
+            ≡ with_request (message_parts request.now) (past_requests self.old)) }
+    {
+        self.first.add(request)?;
+        self.add_query(request)
+    }
+
+    /// Adds a request to `asked` if it is to list IPv4 or IPv6 sockets. Then at most 15 older
+    /// requests are kept.
+    fn add_query(&mut self, request: &Message<'_>) -> Result<(), AllocError>
+        ensures queries { OnOk result (self.new.asked.items
+            ≡ with_query (message_parts request.now) self.old.asked.items) }
+        ensures first { self.new.first ≡ self.old.first }
     {
         if request.header.message_type != SOCK_DIAG_BY_FAMILY {
             return Ok(());

@@ -2,6 +2,7 @@ use Rattle.std.proofs.Common.{inl, List, ℕ, subst, ◌∙◌}
 use Rattle.std.proofs.lemmas.Result.{IfOk-weaker, on_ok_weaker}
 use Rattle.sock_diag_captures.specs.Diagnostics.{DiagnosesDatagram}
 use Rattle.sock_diag_captures.specs.Listing.{ListsDatagram}
+use Rattle.sock_diag_captures.specs.Requests.{past_requests}
 use Rattle.sock_diag_captures.proofs.RequestsAfterPacket.{request_of_datagram}
 use Rattle.sock_diag_captures.proofs.Packets.{diagnosed_other, diagnosed_short}
 use Rattle.sock_diag_captures.proofs.list.list_content.Goals as goal
@@ -12,7 +13,7 @@ returns-in-SockDiag-clause-lists c =
     IfOk-weaker c.list_sock_diag.result _ _
     (λ is_clean lists. inl (
       (found.0, found.1),
-      subst (λ (d : List ℕ). ListsDatagram c.args.options c.list_sock_diag.new.requests.asked.items
+      subst (λ (d : List ℕ). ListsDatagram c.args.options (past_requests c.args.requests.now)
           c.args.header.now d c.args.written.now.lines.items
           c.list_sock_diag.new.written.lines.items is_clean) found.2 lists,
     ))
@@ -22,7 +23,7 @@ pub returns-in-SockDiag-clause-asked : goal.returns-in-SockDiag-clause-asked
 returns-in-SockDiag-clause-asked c =
     let found = c.in-SockDiag.ensures in
     on_ok_weaker c.list_sock_diag.result
-    (λ noted. noted ∙ request_of_datagram c.args.requests.now.asked.items c.args.packet.now
+    (λ noted. noted ∙ request_of_datagram (past_requests c.args.requests.now) c.args.packet.now
     c.in-SockDiag.datagram.now found.0 found.1 found.2)
     c.list_sock_diag.ensures.asked
 

@@ -14,7 +14,7 @@ use Rattle.sock_diag_listing.specs.Reports.{ReportsMore}
 use Rattle.sock_diag_captures.specs.Diagnostics.{DiagnosesPacket}
 use Rattle.sock_diag_captures.specs.Listing.{ListsCapturedPacket, requests_after_packet}
 use Rattle.sock_diag_captures.specs.Run.{IsListed, lines_of_packet}
-use Rattle.sock_diag_captures.specs.declared.requests.Query.{Query}
+use Rattle.sock_diag_captures.specs.Requests.{PastRequests, past_requests}
 use Rattle.sock_diag_captures.proofs.Failing.{fails_at_flush, fails_at_header, fails_at_heading}
 use Rattle.sock_diag_captures.proofs.Failing.{fails_at_lines, fails_at_memory, fails_at_packet}
 use Rattle.sock_diag_captures.proofs.Failing.{fails_past_numbers, no_memory, no_write, table_of}
@@ -36,23 +36,23 @@ of_some : {A : Type 0} (found : Option A) (x : A) (P : Type 0) (Q : A → Type 0
 of_some found x P Q is h = rw is at h
 
 -- What `list_packet` states of a packet, for its bytes and empty texts.
-told_of_packet : (o : Options) (front front' : List ℕ) (asked asked' : List Query) (number : ℕ)
+told_of_packet : (o : Options) (front front' : List ℕ) (past past' : PastRequests) (number : ℕ)
     (bytes bytes' : List ℕ) (header : PacketHeader) (before before' lines said : List ℕ)
     (one : Bool)
     → bytes ≡ bytes' → before ≡ [] → before' ≡ [] → front' ≡ front
-    → ListsCapturedPacket o asked' (captured_packet bytes header) before lines one
-    → asked' ≡ requests_after_packet asked bytes
+    → ListsCapturedPacket o past (captured_packet bytes header) before lines one
+    → past' ≡ requests_after_packet past bytes
     → DiagnosesPacket front' number (captured_packet bytes header) before' said
-    → IsListed o asked' (captured_packet bytes' header) (record { lines = lines; whole = one })
-    × (asked' ≡ requests_after_packet asked bytes')
+    → IsListed o past (captured_packet bytes' header) (record { lines = lines; whole = one })
+    × (past' ≡ requests_after_packet past bytes')
     × DiagnosesPacket front number (captured_packet bytes' header) [] said
-told_of_packet o front front' asked asked' number bytes bytes' header before before' lines said one
+told_of_packet o front front' past past' number bytes bytes' header before before' lines said one
     same empty empty' fronts listed next diagnosed = (
-      subst (λ (b : List ℕ). ListsCapturedPacket o asked' (captured_packet b header) [] lines one)
+      subst (λ (b : List ℕ). ListsCapturedPacket o past (captured_packet b header) [] lines one)
           same
-          (subst (λ (t : List ℕ). ListsCapturedPacket o asked' (captured_packet bytes header) t
+          (subst (λ (t : List ℕ). ListsCapturedPacket o past (captured_packet bytes header) t
           lines one) empty listed),
-      next ∙ ap (requests_after_packet asked) same,
+      next ∙ ap (requests_after_packet past) same,
       subst (λ (b : List ℕ). DiagnosesPacket front number (captured_packet b header) [] said) same
           (subst (λ (t : List ℕ). DiagnosesPacket front number (captured_packet bytes header) t
           said) empty'
@@ -64,28 +64,28 @@ told_of_packet o front front' asked asked' number bytes bytes' header before bef
 -- computed with the facts of the code, which takes longer.
 one_more_packet : (o : Options) (front : List ℕ) (start : CaptureState)
     (a b c x y z : Option (List ℕ)) (s s' : CaptureState) (more lines added : List ℕ)
-    (p : CapturedPacket) (asked asked' : List Query) (one whole whole' : Bool) (number : ℕ)
+    (p : CapturedPacket) (past past' : PastRequests) (one whole whole' : Bool) (number : ℕ)
     (f g h : Type 0) (on on' on'' : Bool) (held held' held'' : Option (List ℕ))
-    → (so_far : Progress o front start a b x y s asked whole number)
+    → (so_far : Progress o front start a b x y s past whole number)
     → ReportsMore held f on held' g on' so_far.diagnostics
     → ReportsMore held' g on' held'' h on'' added
-    → ReadsPacket s more p s' → asked' ≡ requests_after_packet asked p.bytes
-    → IsListed o asked' p (record { lines = lines; whole = one })
+    → ReadsPacket s more p s' → past' ≡ requests_after_packet past p.bytes
+    → IsListed o past p (record { lines = lines; whole = one })
     → DiagnosesPacket front number p [] added → Consumes b c more → Appends y z lines
     → ((whole ≡ true) × (whole' ≡ one)) ⊎ ((whole ≡ false) × (whole' ≡ whole))
-    → (after : Progress o front start a c x z s' asked' whole' (number + 1))
+    → (after : Progress o front start a c x z s' past' whole' (number + 1))
     × ReportsMore held f on held'' h on'' after.diagnostics
-one_more_packet o front start a b c x y z s s' more lines added p asked asked' one whole whole'
+one_more_packet o front start a b c x y z s s' more lines added p past past' one whole whole'
     number f g h on on' on'' held held' held'' so_far reported now is next listed diagnosed
     read appended (inl (is_whole, same)) = rw same (
-      progress_continues_complete o front start a b c x y z s s' more lines added p asked asked'
+      progress_continues_complete o front start a b c x y z s s' more lines added p past past'
           one whole number is_whole so_far is next listed diagnosed read appended,
       reports_then held held' held'' f g h on on' on'' so_far.diagnostics added reported now,
     )
-one_more_packet o front start a b c x y z s s' more lines added p asked asked' one whole whole'
+one_more_packet o front start a b c x y z s s' more lines added p past past' one whole whole'
     number f g h on on' on'' held held' held'' so_far reported now is next listed diagnosed
     read appended (inr (is_part, same)) = rw same (
-      progress_continues_incomplete o front start a b c x y z s s' more lines added p asked asked'
+      progress_continues_incomplete o front start a b c x y z s s' more lines added p past past'
           one whole number is_part so_far is next listed diagnosed read appended,
       reports_then held held' held'' f g h on on' on'' so_far.diagnostics added reported now,
     )
@@ -103,12 +103,12 @@ packets-preserved g c =
     let read = c.in_ok-header.ensures.read in
     let packet = c.read_packet.new.packet.items in
     let header = c.in-Some.header in
-    let asked = c.packets.requests.asked.items in
-    let now_asked = c.list_packet.new.requests.asked.items in
+    let past = (past_requests c.packets.requests) in
+    let now_past = (past_requests c.list_packet.new.requests) in
     let lines = c.list_packet.new.written.lines.items in
     let said = c.list_packet.new.written.diagnostics.items in
-    let told = told_of_packet c.args.options c.args.front.now c.packets.written.front.now asked
-    now_asked c.packets.number c.as_slice-bytes.result.now packet header _ _ lines said
+    let told = told_of_packet c.args.options c.args.front.now c.packets.written.front.now past
+    now_past c.packets.number c.as_slice-bytes.result.now packet header _ _ lines said
     c.in_ok-is_listed.is_listed c.as_slice-bytes.ensures.value c.clear.ensures.items
     c.clear-in-packets.ensures.items inv.front c.in_ok-is_listed.ensures.lists
     c.in_ok-is_listed.ensures.asked c.in_ok-is_listed.ensures.diagnosed in
@@ -117,7 +117,7 @@ packets-preserved g c =
     (g.R.Source.left c.read_packet.new.input) (g.W.Sink.held c.send.new.output)
     (g.W.Sink.held c.packets.output) (g.W.Sink.held c.send-in-packets.new.output)
     (state_of c.packets.reader) (state_of c.read_packet.new.reader) read.0 lines said
-    (captured_packet packet header) asked now_asked c.in_ok-is_listed.is_listed
+    (captured_packet packet header) past now_past c.in_ok-is_listed.is_listed
     c.packets.is_whole c.if-is_whole.is_whole c.packets.number _ _ _ _ _ _ _ _ _
     inv.listed inv.reported (rw c.as_slice.ensures.value at c.report.ensures)
     (of_some _ _ _ _ c.in-Some.is read.2) told.1 told.0 told.2 read.1
@@ -214,8 +214,8 @@ returns-in_err-send-2-clause-failed g c =
     let inv = c.packets.invariant in
     let got = c.in_ok-header.ensures.read in
     let (listed, next, diagnosed) = told_of_packet c.args.options c.args.front.now
-    c.packets.written.front.now c.packets.requests.asked.items
-    c.list_packet.new.requests.asked.items c.packets.number c.as_slice-bytes.result.now
+    c.packets.written.front.now (past_requests c.packets.requests)
+    (past_requests c.list_packet.new.requests) c.packets.number c.as_slice-bytes.result.now
     c.read_packet.new.packet.items c.in-Some.header _ _ c.list_packet.new.written.lines.items
     c.list_packet.new.written.diagnostics.items c.in_ok-is_listed.is_listed
     c.as_slice-bytes.ensures.value c.clear.ensures.items c.clear-in-packets.ensures.items inv.front

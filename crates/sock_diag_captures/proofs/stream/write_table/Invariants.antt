@@ -2,6 +2,7 @@ use Rattle.std.proofs.Common.{◌≡◌}
 use Rattle.netlink_captures.specs.Reader.{state_of}
 use Rattle.sock_diag_listing.specs.Reports.{ReportsMore}
 use Rattle.program_streams.specs.declared.streams.WriteError.{WriteError}
+use Rattle.sock_diag_captures.specs.Requests.{past_requests}
 use Rattle.sock_diag_captures.proofs.Progress.{Progress}
 use Rattle.sock_diag_captures.proofs.stream.write_table.Given as goal
 
@@ -11,7 +12,7 @@ invariant-packets g l = record {
   listed : Progress l.options l.front (state_of l.initial.reader)
       (g.R.Source.left l.initial.input) (g.R.Source.left l.input)
       (g.W.Sink.held l.initial.output) (g.W.Sink.held l.output) (state_of l.reader)
-      l.requests.asked.items l.is_whole l.number;
+      (past_requests l.requests) l.is_whole l.number;
   reported : ReportsMore (g.E.Sink.held l.initial.errors)
       ((e : WriteError) × g.E.Sink.failed l.initial.errors e) l.initial.is_open
       (g.E.Sink.held l.errors) ((e : WriteError) × g.E.Sink.failed l.errors e) l.is_open
