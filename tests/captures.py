@@ -553,8 +553,8 @@ def lists_requests(sslist):
 
 def separates_lists(sslist):
     """A request with the type and the bytes of the first one begins another list, whatever its flags
-    and numbers are. Other requests do not, also if they are repeated. -H and --json omit the
-    heading."""
+    and numbers are. Other requests do not, also if they are repeated. -H omits the heading, and
+    JSON has the number of the list."""
     again = REQUEST[:12] + "0503" + "22222222" * 2 + REQUEST[32:]
     destroy = REQUEST[:8] + "1500" + REQUEST[12:]
     packets = [(SOCK_DIAG, it) for it in (
@@ -562,7 +562,8 @@ def separates_lists(sslist):
     capture, heading = pcap(HEADERS[0], *packets), list_heading(SEVEN)
     sslist.run(capture, lines=[UNIX_LINE, UNIX_LINE, heading, UNIX_LINE, heading])
     sslist.run(capture, ["-H"], [UNIX_LINE] * 3)
-    sslist.run(capture, ["--json"], [OBJECTS[0][1], "\n"] * 3)
+    first, second = OBJECTS[0][1] + "\n", OBJECTS[0][1][:-1] + ',"list":2}\n'
+    sslist.run(capture, ["--json"], [first, first, second])
     unix, tcp, closed = (f"-- {SEVEN} {it}\n" for it in (
         "unix states:0xffffffff", "tcp family:inet states:0xffffffff",
         "destroy unix states:0xffffffff"))

@@ -1,14 +1,14 @@
 -- JSON of the attributes of a reply. Names of members are the kernel's names in lowercase, without
 -- the prefix that all names of a struct or an enum have.
 use Rattle.std.specs.Prelude.{ℕ, List, [], ◌∷◌, ◌++◌, codes, flat_map, length, map, Result, Ok, Err}
-use Rattle.std.specs.Prelude.{Bool, false, None, Option, Some}
+use Rattle.std.specs.Prelude.{Bool, false, None, Option, Some, if◌then◌else◌, nat_lt}
 use Rattle.json.specs.Json.{Json}
 use Rattle.netlink_core.specs.Attribute.{Attribute, attribute_kind}
 use Rattle.netlink_core.specs.declared.error.DecodeError.{DecodeError}
 use Rattle.sock_diag_captures.specs.Collected.{Summary}
 use Rattle.sock_diag_captures.specs.Details.{error_reason}
 use Rattle.sock_diag_listing.specs.JsonData.{JsonMember, array_member, number_members, object_of}
-use Rattle.sock_diag_listing.specs.JsonData.{json_line, text_member}
+use Rattle.sock_diag_listing.specs.JsonData.{json_line, optional_member, text_member}
 use Rattle.sock_diag_captures.specs.AttributeFacts.{attribute_facts}
 use Rattle.sock_diag_captures.specs.Facts.{facts_in}
 use Rattle.sock_diag_captures.specs.declared.attributes.Sockets.{Sockets}
@@ -46,6 +46,18 @@ attributes_members s =
     flat_map (valid_members s.sockets) s.first
     ++ array_member (codes "other_attributes") (map other_item s.others)
 
--- the line of a socket whose header has the members `header`
-abbrev pub socket_json : List JsonMember → Summary → List ℕ
-socket_json header s = json_line (header ++ attributes_members s)
+-- ---- sockets
+
+-- the number of a list, if it is not the first one
+abbrev pub later_list : ℕ → Option ℕ
+later_list list = if nat_lt 1 list then Some list else None
+
+-- `socket_members list header s`: the members of a socket in the list of this number: those of its
+-- header, those of its attributes, and `list` if the list is not the first one
+abbrev pub socket_members : ℕ → List JsonMember → Summary → List JsonMember
+socket_members list header s =
+    header ++ attributes_members s ++ optional_member (codes "list") (later_list list)
+
+-- the line of a socket
+abbrev pub socket_json : ℕ → List JsonMember → Summary → List ℕ
+socket_json list header s = json_line (socket_members list header s)

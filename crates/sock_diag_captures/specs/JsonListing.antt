@@ -1,5 +1,6 @@
 -- What is written for a socket: the lines of the table, or with `--json` a line of JSON, if the
--- options select the socket. `s` is what the reply has in its attributes.
+-- options select the socket. `list` is the number of the list of the socket, and `s` is what the
+-- reply has in its attributes.
 use Rattle.std.specs.Prelude.{ℕ, if◌then◌else◌, List, [], Option}
 use Rattle.sock_diag_records.specs.declared.inet.response.InetResponseHeader.{InetResponseHeader}
 use Rattle.sock_diag_records.specs.declared.unix.response.UnixResponseHeader.{UnixResponseHeader}
@@ -16,20 +17,21 @@ use Rattle.sock_diag_captures.specs.Table.{inet_lines, unix_lines}
 use Rattle.sock_diag_captures.specs.declared.others.OtherSocket.{OtherSocket}
 
 -- what is written for a UNIX socket with the header `h`
-abbrev pub unix_output : Options → UnixResponseHeader → Summary → List ℕ
-unix_output o h s =
+abbrev pub unix_output : Options → ℕ → UnixResponseHeader → Summary → List ℕ
+unix_output o list h s =
     if lists_unix o h.state
-    then (if o.json then socket_json (unix_header_members h) s else unix_lines o h s) else []
+    then (if o.json then socket_json list (unix_header_members h) s else unix_lines o h s) else []
 
 -- what is written for an IPv4 or IPv6 socket with the header `h`, whose request has this protocol
-abbrev pub inet_output : Options → Option ℕ → TimerFields → InetResponseHeader → Summary → List ℕ
-inet_output o protocol timer h s =
+abbrev pub inet_output : Options → ℕ → Option ℕ → TimerFields → InetResponseHeader → Summary
+    → List ℕ
+inet_output o list protocol timer h s =
     if lists_inet o protocol h
-    then (if o.json then socket_json (inet_header_members protocol timer h) s
+    then (if o.json then socket_json list (inet_header_members protocol timer h) s
     else inet_lines o protocol timer h s) else []
 
 -- what is written for a netlink, packet, vsock or XDP socket, whose header has the members `header`
-abbrev pub other_output : Options → OtherSocket → List JsonMember → Summary → List ℕ
-other_output o socket header s =
+abbrev pub other_output : Options → ℕ → OtherSocket → List JsonMember → Summary → List ℕ
+other_output o list socket header s =
     if lists_family o socket.family socket.state
-    then (if o.json then socket_json header s else other_lines o socket s) else []
+    then (if o.json then socket_json list header s else other_lines o socket s) else []

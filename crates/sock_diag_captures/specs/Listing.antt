@@ -40,7 +40,6 @@ use Rattle.sock_diag_captures.specs.Messages.{MessageParts, message_in, request_
 use Rattle.sock_diag_captures.specs.Requests.{PastRequests, protocol_of, with_optional_request}
 use Rattle.sock_diag_captures.specs.declared.line.TheConstants.{HEADING}
 use Rattle.sock_diag_captures.specs.declared.others.OtherSocket.{OtherSocket}
-use Rattle.sock_diag_captures.specs.declared.requests.Query.{Query}
 use Rattle.sock_diag_captures.specs.Details.{timer_in}
 use Rattle.sock_diag_captures.specs.Others.{family_numbered, netlink_socket}
 use Rattle.sock_diag_captures.specs.Others.{packet_socket, vsock_socket, xdp_socket}
@@ -70,14 +69,14 @@ abbrev pub error_after_reply_header : {H : Type 0} → Result H DecodeError → 
 error_after_reply_header (Ok h) given = framing_error_of given
 error_after_reply_header (Err e) given = Some e
 
--- `other_reply_lines o header socket family members b`: the lines of a reply about a netlink,
--- packet, vsock or XDP socket. `header` is the layout of its header, which has `header.least`
--- bytes, `socket h s` are the values that a line of the table shows, and `members h` are the
--- members of the header in a line of JSON.
-abbrev pub other_reply_lines : {T H : Type 0} → Options → Layout (Unit {0}) T H
+-- `other_reply_lines o list header socket family members b`: the lines of a reply about a netlink,
+-- packet, vsock or XDP socket in the list of this number. `header` is the layout of its header,
+-- which has `header.least` bytes, `socket h s` are the values that a line of the table shows, and
+-- `members h` are the members of the header in a line of JSON.
+abbrev pub other_reply_lines : {T H : Type 0} → Options → ℕ → Layout (Unit {0}) T H
     → (H → Summary → OtherSocket) → Family → (H → List JsonMember) → List ℕ → List ℕ
-other_reply_lines o header socket family members b =
-    lines_after_header (λ h s. other_output o (socket h s) (members h) s) (Other family)
+other_reply_lines o list header socket family members b =
+    lines_after_header (λ h s. other_output o list (socket h s) (members h) s) (Other family)
     (parse_record header tt b) (attributes_or_error 0 (drop header.least b))
 
 -- `other_reply_error header b`: the decode error of a reply with this layout of its header, or None
@@ -85,18 +84,18 @@ abbrev pub other_reply_error : {T H : Type 0} → Layout (Unit {0}) T H → List
 other_reply_error header b = error_after_reply_header (parse_record header tt b)
     (attributes_or_error 0 (drop header.least b))
 
--- `family_lines o family b`: the lines of a reply about a socket of this family; none for an
+-- `family_lines o list family b`: the lines of a reply about a socket of this family; none for an
 -- unknown family (None)
-abbrev pub family_lines : Options → Option Family → List ℕ → List ℕ
-family_lines o (Some Netlink) b =
-    other_reply_lines o netlink_header netlink_socket Netlink netlink_header_members b
-family_lines o (Some Packet) b =
-    other_reply_lines o packet_header packet_socket Packet packet_header_members b
-family_lines o (Some Vsock) b =
-    other_reply_lines o vsock_header vsock_socket Vsock vsock_header_members b
-family_lines o (Some Xdp) b =
-    other_reply_lines o xdp_header xdp_socket Xdp xdp_header_members b
-family_lines o None b = []
+abbrev pub family_lines : Options → ℕ → Option Family → List ℕ → List ℕ
+family_lines o list (Some Netlink) b =
+    other_reply_lines o list netlink_header netlink_socket Netlink netlink_header_members b
+family_lines o list (Some Packet) b =
+    other_reply_lines o list packet_header packet_socket Packet packet_header_members b
+family_lines o list (Some Vsock) b =
+    other_reply_lines o list vsock_header vsock_socket Vsock vsock_header_members b
+family_lines o list (Some Xdp) b =
+    other_reply_lines o list xdp_header xdp_socket Xdp xdp_header_members b
+family_lines o list None b = []
 
 -- `family_error family b`: the decode error of a reply about a socket of this family, if there is
 -- one; None for an unknown family
@@ -107,20 +106,21 @@ family_error (Some Vsock) b = other_reply_error vsock_header b
 family_error (Some Xdp) b = other_reply_error xdp_header b
 family_error None b = None
 
--- `payload_lines o protocol kind b`: the lines of the payload `b`. `kind` is the kind of the reply,
--- or the reason why it is not one. Attributes follow a `struct unix_diag_msg` of 16 bytes, or a
--- `struct inet_diag_msg` of 72 bytes. `protocol` is the protocol of the request. A payload that is
--- not a reply has no lines, except for one about a netlink, packet, vsock or XDP socket
--- (`family_lines`).
-abbrev pub payload_lines : Options → Option ℕ → Result MessageKind DecodeError → List ℕ → List ℕ
-payload_lines o protocol (Ok unix_response) b =
-    lines_after_header (unix_output o) Unix (parse_record unix_response_header tt b)
+-- `payload_lines o list protocol kind b`: the lines of the payload `b`. `kind` is the kind of the
+-- reply, or the reason why it is not one. Attributes follow a `struct unix_diag_msg` of 16 bytes,
+-- or a `struct inet_diag_msg` of 72 bytes. `list` is the number of the list, and `protocol` is the
+-- protocol of the request. A payload that is not a reply has no lines, except for one about a
+-- netlink, packet, vsock or XDP socket (`family_lines`).
+abbrev pub payload_lines : Options → ℕ → Option ℕ → Result MessageKind DecodeError → List ℕ
+    → List ℕ
+payload_lines o list protocol (Ok unix_response) b =
+    lines_after_header (unix_output o list) Unix (parse_record unix_response_header tt b)
     (attributes_or_error 0 (drop 16 b))
-payload_lines o protocol (Ok inet_response) b =
-    lines_after_header (inet_output o protocol (timer_in b)) (Inet (info_of_protocol protocol))
+payload_lines o list protocol (Ok inet_response) b =
+    lines_after_header (inet_output o list protocol (timer_in b)) (Inet (info_of_protocol protocol))
     (parse_record inet_response_header tt b) (attributes_or_error 0 (drop 72 b))
-payload_lines o protocol (Err (UnknownFamily n)) b = family_lines o (family_numbered n) b
-payload_lines o protocol _ b = []
+payload_lines o list protocol (Err (UnknownFamily n)) b = family_lines o list (family_numbered n) b
+payload_lines o list protocol _ b = []
 
 -- `payload_error kind b`: the decode error of the payload `b`: of the reply, or the reason why it
 -- is not a reply. An invalid value of an attribute is not considered. A reply about a socket of an
@@ -143,17 +143,19 @@ payload_error _ b = None
 abbrev pub is_control : ℕ → Bool
 is_control t = nat_le NLMSG_NOOP t && nat_le t NLMSG_OVERRUN
 
--- `lines_by_type o protocol t payload`: the lines of a message with the type `t` and this payload.
--- A control message has none. `protocol` is the protocol of the request.
-abbrev pub lines_by_type : Options → Option ℕ → ℕ → List ℕ → List ℕ
-lines_by_type o protocol t payload =
-    if is_control t then [] else payload_lines o protocol (response_kind payload t) payload
+-- `lines_by_type o list protocol t payload`: the lines of a message with the type `t` and this
+-- payload. A control message has none. `list` is the number of the list, and `protocol` is the
+-- protocol of the request.
+abbrev pub lines_by_type : Options → ℕ → Option ℕ → ℕ → List ℕ → List ℕ
+lines_by_type o list protocol t payload =
+    if is_control t then [] else payload_lines o list protocol (response_kind payload t) payload
 
--- `message_lines o asked m`: the lines of the message `m`, which may answer one of the requests
--- `asked`
-abbrev pub message_lines : Options → List Query → MessageParts → List ℕ
-message_lines o asked m =
-    lines_by_type o (protocol_of asked m.header.sequence_number m.header.port_number)
+-- `message_lines o past m`: the lines of the message `m`, which may answer one of the requests
+-- `past`
+abbrev pub message_lines : Options → PastRequests → MessageParts → List ℕ
+message_lines o past m =
+    lines_by_type o past.list
+    (protocol_of past.queries m.header.sequence_number m.header.port_number)
     m.header.message_type m.payload
 
 -- the diagnostic of an error number of errno(3): a note for ENOENT (2) and EINVAL (22), or else an
@@ -203,18 +205,18 @@ is_clean_message m = (bit_and m.header.flags NLM_F_DUMP_INTR == 0)
 abbrev pub IsSockDiag : List ℕ → Type 0
 IsSockDiag packet = (16 ≤ length packet) × IsOfSockDiag packet
 
--- `ListsMessages o asked datagram before after is_clean`: the text `after` is the text `before` and
+-- `ListsMessages o past datagram before after is_clean`: the text `after` is the text `before` and
 -- the lines of each message of a datagram, in order. `is_clean` is true if each message is clean
--- and nothing follows the last one, or else false. `asked` are the requests that the messages may
+-- and nothing follows the last one, or else false. `past` are the requests that the messages may
 -- answer.
-pub record ListsMessages (o : Options) (asked : List Query) (datagram before after : List ℕ)
+pub record ListsMessages (o : Options) (past : PastRequests) (datagram before after : List ℕ)
     (is_clean : Bool) : Type 0 where
   -- the messages of the datagram, without the padding between them
   pub messages : List (List ℕ)
   -- the error of the bytes after the last message, if there are any
   pub end : Option DecodeError
   pub cut : SplitsIntoMessages datagram messages end
-  pub lines : after ≡ before ++ flat_map (λ m. message_lines o asked (message_in m)) messages
+  pub lines : after ≡ before ++ flat_map (λ m. message_lines o past (message_in m)) messages
   pub clean : is_clean
       ≡ (list_all (λ m. is_clean_message (message_in m)) messages && is_none end)
 
@@ -233,7 +235,7 @@ request_lines o past header request =
 abbrev pub ListsFirst : Option MessageParts → Options → PastRequests → PacketHeader → List ℕ
     → List ℕ → List ℕ → Bool → Type 0
 ListsFirst None o past header datagram before after is_clean =
-    ListsMessages o past.queries datagram before after is_clean
+    ListsMessages o past datagram before after is_clean
 ListsFirst (Some request) o past header datagram before after is_clean =
     (after ≡ before ++ request_lines o past header request) × (is_clean ≡ true)
 

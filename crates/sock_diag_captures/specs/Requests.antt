@@ -1,7 +1,8 @@
 -- What captured requests ask for, and which of them are kept. Those for IPv4 and IPv6 sockets
 -- contain the protocols of the sockets in the replies.
 use Rattle.std.specs.Prelude.{ℕ, ◌==◌, ◌||◌, ◌&&◌, not, nat_le, if◌then◌else◌, Bool, List, []}
-use Rattle.std.specs.Prelude.{◌∷◌, take, drop, length, slice_index, Option, None, Some}
+use Rattle.std.specs.Prelude.{◌∷◌, ◌+◌, ◌-◌, ◌^◌, take, drop, length, min, slice_index, Option}
+use Rattle.std.specs.Prelude.{None, Some}
 use Rattle.byteorder.specs.Endian.{little_number}
 use Rattle.netlink_core.specs.Attribute.{Attribute}
 use Rattle.sock_diag_records.specs.declared.constants.TheConstants as c
@@ -10,6 +11,7 @@ use Rattle.sock_diag_records.specs.declared.inet.request.TheConstants.{INET_REQU
 use Rattle.sock_diag_records.specs.declared.unix.request.TheConstants.{UNIX_REQUEST_LEN}
 use Rattle.sslist_options.specs.declared.options.Family.{Family}
 use Rattle.sock_diag_captures.specs.Lists.{RequestContent, first_request, first_with}
+use Rattle.sock_diag_captures.specs.Lists.{is_repetition}
 use Rattle.sock_diag_captures.specs.Messages.{MessageParts}
 use Rattle.sock_diag_captures.specs.Others.{family_numbered}
 use Rattle.sock_diag_captures.specs.Pieces.{first_of_kind, attributes_or_error}
@@ -80,26 +82,39 @@ with_query request asked =
     if request.header.message_type == c.SOCK_DIAG_BY_FAMILY
     then with_newest (requested request) asked else asked
 
--- The requests that are kept.
+-- The requests that are kept, and the number of the list of sockets after them.
 pub record PastRequests : Type 0 where
   -- those for IPv4 and IPv6 sockets, at most 16, the newest first
   pub queries : List Query
   -- the first request of any kind
   pub first : Option RequestContent
+  -- the number of the list; the first list is 1
+  pub list : ℕ
 
 -- what `Requests` keeps
 abbrev pub past_requests : Requests → PastRequests
-past_requests r = record { queries = r.asked.items; first = first_request r.first }
+past_requests r = record {
+  queries = r.asked.items;
+  first = first_request r.first;
+  list = r.list;
+}
 
 -- before the first request
 abbrev pub no_requests : PastRequests
-no_requests = record { queries = []; first = None }
+no_requests = record { queries = []; first = None; list = 1 }
+
+-- the number of the list after one more request: a repetition of the first request begins the next
+-- list, with a number of at most 2 ^ 64 - 1
+abbrev pub list_with : MessageParts → PastRequests → ℕ
+list_with request past =
+    if is_repetition past.first request then min (past.list + 1) (2 ^ 64 - 1) else past.list
 
 -- the requests after one more
 abbrev pub with_request : MessageParts → PastRequests → PastRequests
 with_request request past = record {
   queries = with_query request past.queries;
   first = first_with request past.first;
+  list = list_with request past;
 }
 
 -- the requests after a datagram that begins with this request, or with none

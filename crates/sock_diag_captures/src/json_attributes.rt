@@ -1,5 +1,6 @@
-//! JSON of a socket: the members of its header, and those of its attributes. If a function of this
-//! module fails, an allocation failed, and the content of the text or the writer is not specified.
+//! JSON of a socket: the members of its header, those of its attributes, and the number of its
+//! list. If a function of this module fails, an allocation failed, and the content of the text or
+//! the writer is not specified.
 
 ghost use Rattle.std.specs.Prelude.{◌≡◌, ◌++◌, List, OnOk, codes, flat_map, map};
 ghost use Rattle.json.specs.Lex.{tokens};
@@ -7,9 +8,11 @@ ghost use Rattle.json.specs.Tree.{json_tokens};
 ghost use Rattle.netlink_core.specs.Walk.{buffered_attribute};
 ghost use Rattle.sock_diag_captures.specs.Collected.{collected, other_model, slot_attribute};
 ghost use Rattle.sock_diag_captures.specs.JsonAttributes.{attribute_members, attributes_members};
-ghost use Rattle.sock_diag_captures.specs.JsonAttributes.{item_members, other_item, socket_json};
+ghost use Rattle.sock_diag_captures.specs.JsonAttributes.{item_members, later_list, other_item};
+ghost use Rattle.sock_diag_captures.specs.JsonAttributes.{socket_json, socket_members};
 ghost use Rattle.sock_diag_captures.specs.JsonAttributes.{valid_members};
 ghost use Rattle.sock_diag_listing.specs.JsonData.{JsonMember, array_member, json_text, object_of};
+ghost use Rattle.sock_diag_listing.specs.JsonData.{optional_member};
 ghost use Rattle.sock_diag_listing.specs.JsonWriting.{AddsMembers, AddsTokens, KeepsText};
 ghost use Rattle.sock_diag_listing.specs.JsonWriting.{members_tokens};
 
@@ -19,7 +22,7 @@ use crate::facts::Status;
 use crate::kinds::reason_of;
 use json::Writer;
 use netlink_core::NlaBuffer;
-use sock_diag_listing::json_writing::{write_numbers, write_text};
+use sock_diag_listing::json_writing::{write_numbers, write_optional, write_text};
 use std::alloc::{AllocError, Global};
 use std::mem;
 
@@ -34,44 +37,54 @@ pub(crate) trait JsonHeader {
         ensures members { AddsMembers result writer.old writer.new (json_members self.now) };
 }
 
-/// Appends the line of a socket with this header and these attributes: a JSON object without
-/// spaces, and a line feed.
+/// Appends the line of a socket with this header and these attributes, in the list of this number:
+/// a JSON object without spaces, and a line feed.
 pub(crate) fn push_json<H: JsonHeader>(
     text: &mut Vec<u8>,
+    list: u64,
     header: &H,
     found: &Attributes<'_>,
 ) -> Result<(), AllocError>
     ensures line { OnOk result (text.new.items ≡ text.old.items
-        ++ socket_json (H.json_members header.now) (collected found.now)) }
+        ++ socket_json list (H.json_members header.now) (collected found.now)) }
     // The text can be parsed: its tokens are those of the object.
     ensures reads_back { OnOk result (tokens (json_text (object_of
-        (H.json_members header.now ++ attributes_members (collected found.now))))
+        (socket_members list (H.json_members header.now) (collected found.now))))
         ≡ json_tokens (object_of
-        (H.json_members header.now ++ attributes_members (collected found.now)))) }
+        (socket_members list (H.json_members header.now) (collected found.now)))) }
 {
     let alloc = *text.allocator();
     let mut writer = Writer::new(mem::replace(text, Vec::new(alloc)));
-    write_object(alloc, &mut writer, header, found)?;
+    write_object(alloc, &mut writer, list, header, found)?;
     *text = writer.into_inner();
     Ok(text.push(b'\n')?)
 }
 
-/// Writes the object of a socket with this header and these attributes.
+/// Writes the object of a socket with this header and these attributes, in the list of this number.
 #[tactic(auto, using(sock_diag_listing::proofs::JsonWriting::json_rules, sock_diag_listing::proofs::JsonWriting::object_tokens))]
 fn write_object<H: JsonHeader>(
     alloc: Global,
     writer: &mut Writer,
+    list: u64,
     header: &H,
     found: &Attributes<'_>,
 ) -> Result<(), AllocError>
     ensures before { KeepsText result writer.old writer.new }
     ensures tokens { AddsTokens result writer.old writer.new (json_tokens (object_of
-        (H.json_members header.now ++ attributes_members (collected found.now)))) }
+        (socket_members list (H.json_members header.now) (collected found.now)))) }
 {
     writer.begin_object()?;
     header.write_json(alloc, writer)?;
     write_attributes(alloc, writer, found)?;
+    write_optional(writer, "list", later_list(list))?;
     writer.end_object()
+}
+
+/// Returns the number of a list, unless it is the first one.
+fn later_list(list: u64) -> Option<u64>
+    ensures { result ≡ later_list list }
+{
+    if list > 1 { Some(list) } else { None }
 }
 
 /// Writes the members of the attributes of a reply, and then those that are unknown or invalid.

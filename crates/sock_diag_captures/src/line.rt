@@ -55,19 +55,21 @@ pub const HEADING: &[u8] =
 pub(crate) const LOCAL: usize = 30;
 
 /// Appends the lines of a message of this type. Returns its decode error, if it has one: it is not
-/// a reply, or its header is invalid, or bytes after the header are not an attribute.
+/// a reply, or its header is invalid, or bytes after the header are not an attribute. `list` is the
+/// number of the list of the socket.
 ///
 /// An attribute with an invalid value is not such an error. A reply about a socket of an unknown
 /// family has no lines and no error.
 pub(crate) fn push_reply(
     text: &mut Vec<u8>,
     options: Options,
+    list: u64,
     protocol: Option<u32>,
     message_type: u16,
     payload: &[u8],
 ) -> Result<Option<DecodeError>, AllocError>
-    ensures lines { OnOk result (text.new.items ≡ text.old.items
-        ++ payload_lines options protocol (response_kind payload.now message_type) payload.now) }
+    ensures lines { OnOk result (text.new.items ≡ text.old.items ++ payload_lines options list
+        protocol (response_kind payload.now message_type) payload.now) }
     ensures error { IfOk result (λ error.
         error ≡ payload_error (response_kind payload.now message_type) payload.now) }
 {
@@ -79,9 +81,9 @@ pub(crate) fn push_reply(
         return Ok(Some(DecodeError::UnknownMessageType { message_type }));
     }
     match payload[0] {
-        AF_UNIX => push_unix(text, options, payload),
-        AF_INET | AF_INET6 => push_inet(text, options, protocol, payload),
-        family => push_other(text, options, family, payload),
+        AF_UNIX => push_unix(text, options, list, payload),
+        AF_INET | AF_INET6 => push_inet(text, options, list, protocol, payload),
+        family => push_other(text, options, list, family, payload),
     }
 }
 
@@ -89,10 +91,11 @@ pub(crate) fn push_reply(
 fn push_unix(
     text: &mut Vec<u8>,
     options: Options,
+    list: u64,
     payload: &[u8],
 ) -> Result<Option<DecodeError>, AllocError>
     ensures lines { OnOk result (text.new.items ≡ text.old.items
-        ++ lines_after_header (unix_output options) Unix
+        ++ lines_after_header (unix_output options list) Unix
         (parse_record unix_response_header tt payload.now)
         (attributes_or_error 0 (drop 16 payload.now))) }
     ensures error { IfOk result (λ error. error
@@ -102,7 +105,7 @@ fn push_unix(
     match UnixResponseHeader::from_prefix(payload) {
         Ok(header) => {
             let attributes = &payload[UNIX_RESPONSE_HEADER_LEN..];
-            push_unix_socket(text, options, &header, attributes)
+            push_unix_socket(text, options, list, &header, attributes)
         }
         Err(error) => Ok(Some(error)),
     }
@@ -113,11 +116,12 @@ fn push_unix(
 fn push_unix_socket(
     text: &mut Vec<u8>,
     options: Options,
+    list: u64,
     header: &UnixResponseHeader,
     bytes: &[u8],
 ) -> Result<Option<DecodeError>, AllocError>
-    ensures lines { OnOk result (text.new.items ≡ text.old.items ++ unix_output options header.now
-        (summary_of Unix (attributes_or_error 0 bytes.now))) }
+    ensures lines { OnOk result (text.new.items ≡ text.old.items ++ unix_output options list
+        header.now (summary_of Unix (attributes_or_error 0 bytes.now))) }
     ensures error { IfOk result
         (λ error. error ≡ framing_error_of (attributes_or_error 0 bytes.now)) }
 {
@@ -126,7 +130,7 @@ fn push_unix_socket(
     }
     let mut found = Attributes::new(*text.allocator(), Sockets::Unix);
     found.collect(bytes)?;
-    push_unix_lines(text, options, header, &found)?;
+    push_unix_lines(text, options, list, header, &found)?;
     Ok(found.end)
 }
 
@@ -135,15 +139,17 @@ fn push_unix_socket(
 fn push_unix_lines(
     text: &mut Vec<u8>,
     options: Options,
+    list: u64,
     header: &UnixResponseHeader,
     found: &Attributes<'_>,
 ) -> Result<(), AllocError>
     ensures { OnOk result (text.new.items ≡ text.old.items
-        ++ (if options.json then socket_json (unix_header_members header.now) (collected found.now)
+        ++ (if options.json
+        then socket_json list (unix_header_members header.now) (collected found.now)
         else unix_lines options header.now (collected found.now))) }
 {
     if options.json {
-        return push_json(text, header, found);
+        return push_json(text, list, header, found);
     }
     push_unix_line(text, options, header, found)?;
     push_details(text, options, &NO_TIMER, &header.cookie, found)?;
@@ -248,11 +254,12 @@ pub(crate) struct InetSocket {
 fn push_inet(
     text: &mut Vec<u8>,
     options: Options,
+    list: u64,
     protocol: Option<u32>,
     payload: &[u8],
 ) -> Result<Option<DecodeError>, AllocError>
     ensures lines { OnOk result (text.new.items ≡ text.old.items
-        ++ lines_after_header (inet_output options protocol (timer_in payload.now))
+        ++ lines_after_header (inet_output options list protocol (timer_in payload.now))
         (Inet (info_of_protocol protocol)) (parse_record inet_response_header tt payload.now)
         (attributes_or_error 0 (drop 72 payload.now))) }
     ensures error { IfOk result (λ error. error
@@ -268,7 +275,7 @@ fn push_inet(
                 timer,
                 header,
             };
-            push_inet_socket(text, options, &socket, attributes)
+            push_inet_socket(text, options, list, &socket, attributes)
         }
         Err(error) => Ok(Some(error)),
     }
@@ -279,10 +286,11 @@ fn push_inet(
 fn push_inet_socket(
     text: &mut Vec<u8>,
     options: Options,
+    list: u64,
     socket: &InetSocket,
     bytes: &[u8],
 ) -> Result<Option<DecodeError>, AllocError>
-    ensures lines { OnOk result (text.new.items ≡ text.old.items ++ inet_output options
+    ensures lines { OnOk result (text.new.items ≡ text.old.items ++ inet_output options list
         socket.now.protocol socket.now.timer socket.now.header
         (summary_of (Inet (info_of_protocol socket.now.protocol))
         (attributes_or_error 0 bytes.now))) }
@@ -295,7 +303,7 @@ fn push_inet_socket(
     let sockets = Sockets::Inet(info_of(socket.protocol));
     let mut found = Attributes::new(*text.allocator(), sockets);
     found.collect(bytes)?;
-    push_inet_lines(text, options, socket, &found)?;
+    push_inet_lines(text, options, list, socket, &found)?;
     Ok(found.end)
 }
 
@@ -304,17 +312,18 @@ fn push_inet_socket(
 fn push_inet_lines(
     text: &mut Vec<u8>,
     options: Options,
+    list: u64,
     socket: &InetSocket,
     found: &Attributes<'_>,
 ) -> Result<(), AllocError>
     ensures { OnOk result (text.new.items ≡ text.old.items ++ (if options.json
-        then socket_json (inet_header_members socket.now.protocol socket.now.timer
+        then socket_json list (inet_header_members socket.now.protocol socket.now.timer
         socket.now.header) (collected found.now)
         else inet_lines options socket.now.protocol socket.now.timer socket.now.header
         (collected found.now))) }
 {
     if options.json {
-        return push_json(text, socket, found);
+        return push_json(text, list, socket, found);
     }
     push_inet_line(text, socket.protocol, &socket.header)?;
     let cookie = &socket.header.socket_id.cookie;

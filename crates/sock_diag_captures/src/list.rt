@@ -230,7 +230,7 @@ fn list_datagram(
     is_whole: bool,
     datagram: &[u8],
 ) -> Result<bool, AllocError>
-    ensures lists { IfOk result (ListsMessages options requests.now.asked.items datagram.now
+    ensures lists { IfOk result (ListsMessages options (past_requests requests.now) datagram.now
         written.old.lines.items written.new.lines.items) }
     ensures diagnosed { OnOk result (DiagnosesMessages written.old.front.now number is_whole
         datagram.now written.old.diagnostics.items written.new.diagnostics.items) }
@@ -307,7 +307,7 @@ fn list_message(
     message: &Message<'_>,
 ) -> Result<bool, AllocError>
     ensures lines { OnOk result (written.new.lines.items ≡ written.old.lines.items
-        ++ message_lines options requests.now.asked.items (message_parts message.now)) }
+        ++ message_lines options (past_requests requests.now) (message_parts message.now)) }
     ensures clean { IfOk result (λ is_clean. is_clean
         ≡ is_clean_message (message_parts message.now)) }
     ensures diagnosed { OnOk result (written.new.diagnostics.items ≡ written.old.diagnostics.items
@@ -352,7 +352,7 @@ fn push_message(
     message: &Message<'_>,
 ) -> Result<Option<Diagnostic>, AllocError>
     ensures lines { OnOk result (lines.new.items ≡ lines.old.items
-        ++ message_lines options requests.now.asked.items (message_parts message.now)) }
+        ++ message_lines options (past_requests requests.now) (message_parts message.now)) }
     ensures diagnostic { IfOk result (λ diagnostic. diagnostic
         ≡ message_diagnostic message.now.header.message_type message.now.payload.now) }
 {
@@ -361,30 +361,33 @@ fn push_message(
     push_payload(
         lines,
         options,
+        requests.list,
         protocol,
         header.message_type,
         message.payload,
     )
 }
 
-/// Appends the lines of the payload of a message, whose header has this type. `protocol` is the
-/// protocol of the request. Returns the diagnostic of the message, except for `Interrupted`.
+/// Appends the lines of the payload of a message, whose header has this type. `list` is the number
+/// of the list, and `protocol` is the protocol of the request. Returns the diagnostic of the
+/// message, except for `Interrupted`.
 fn push_payload(
     lines: &mut Vec<u8>,
     options: Options,
+    list: u64,
     protocol: Option<u32>,
     message_type: u16,
     payload: &[u8],
 ) -> Result<Option<Diagnostic>, AllocError>
     ensures lines { OnOk result (lines.new.items ≡ lines.old.items
-        ++ lines_by_type options protocol message_type payload.now) }
+        ++ lines_by_type options list protocol message_type payload.now) }
     ensures diagnostic { IfOk result (λ diagnostic. diagnostic
         ≡ message_diagnostic message_type payload.now) }
 {
     if (NLMSG_NOOP..=NLMSG_OVERRUN).contains(&message_type) {
         return Ok(diagnostic_of_control(message_type, payload));
     }
-    let error = push_reply(lines, options, protocol, message_type, payload)?;
+    let error = push_reply(lines, options, list, protocol, message_type, payload)?;
     Ok(diagnostic_of_rejection(error))
 }
 

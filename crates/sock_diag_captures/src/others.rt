@@ -98,19 +98,20 @@ pub(crate) fn family_numbered(number: u8) -> Option<Family>
 pub(crate) fn push_other(
     text: &mut Vec<u8>,
     options: Options,
+    list: u64,
     number: u8,
     payload: &[u8],
 ) -> Result<Option<DecodeError>, AllocError>
     ensures lines { OnOk result (text.new.items ≡ text.old.items
-        ++ family_lines options (family_numbered number) payload.now) }
+        ++ family_lines options list (family_numbered number) payload.now) }
     ensures error { IfOk result
         (λ error. error ≡ family_error (family_numbered number) payload.now) }
 {
     match family_numbered(number) {
-        Some(Family::Netlink) => push_listed::<NetlinkResponseHeader>(text, options, payload),
-        Some(Family::Packet) => push_listed::<PacketResponseHeader>(text, options, payload),
-        Some(Family::Vsock) => push_listed::<VsockResponseHeader>(text, options, payload),
-        Some(Family::Xdp) => push_listed::<XdpResponseHeader>(text, options, payload),
+        Some(Family::Netlink) => push_listed::<NetlinkResponseHeader>(text, options, list, payload),
+        Some(Family::Packet) => push_listed::<PacketResponseHeader>(text, options, list, payload),
+        Some(Family::Vsock) => push_listed::<VsockResponseHeader>(text, options, list, payload),
+        Some(Family::Xdp) => push_listed::<XdpResponseHeader>(text, options, list, payload),
         None => Ok(None),
     }
 }
@@ -119,15 +120,16 @@ pub(crate) fn push_other(
 fn push_listed<H: Listed>(
     text: &mut Vec<u8>,
     options: Options,
+    list: u64,
     payload: &[u8],
 ) -> Result<Option<DecodeError>, AllocError>
     ensures lines { OnOk result (text.new.items ≡ text.old.items
-        ++ other_reply_lines options H.layout H.listed H.listed_family H.json_members
+        ++ other_reply_lines options list H.layout H.listed H.listed_family H.json_members
         payload.now) }
     ensures error { IfOk result (λ error. error ≡ other_reply_error H.layout payload.now) }
 {
     match read_record::<H>(payload, ()) {
-        Ok(header) => push_socket(text, options, &header, attributes_of::<H>(payload)),
+        Ok(header) => push_socket(text, options, list, &header, attributes_of::<H>(payload)),
         Err(error) => Ok(Some(error)),
     }
 }
@@ -137,11 +139,12 @@ fn push_listed<H: Listed>(
 fn push_socket<H: Listed>(
     text: &mut Vec<u8>,
     options: Options,
+    list: u64,
     header: &H,
     bytes: &[u8],
 ) -> Result<Option<DecodeError>, AllocError>
     ensures lines { OnOk result (text.new.items ≡ text.old.items
-        ++ other_output options (H.listed header.now (summary_of (Other H.listed_family)
+        ++ other_output options list (H.listed header.now (summary_of (Other H.listed_family)
         (attributes_or_error 0 bytes.now))) (H.json_members header.now)
         (summary_of (Other H.listed_family) (attributes_or_error 0 bytes.now))) }
     ensures error { IfOk result
@@ -150,7 +153,7 @@ fn push_socket<H: Listed>(
     let mut found = Attributes::new(*text.allocator(), Sockets::Other(H::family()));
     found.collect(bytes)?;
     let socket = header.socket(&found);
-    push_output(text, options, header, &socket, &found)?;
+    push_output(text, options, list, header, &socket, &found)?;
     Ok(found.end)
 }
 
@@ -159,18 +162,19 @@ fn push_socket<H: Listed>(
 fn push_output<H: Listed>(
     text: &mut Vec<u8>,
     options: Options,
+    list: u64,
     header: &H,
     socket: &OtherSocket,
     found: &Attributes<'_>,
 ) -> Result<(), AllocError>
-    ensures { OnOk result (text.new.items ≡ text.old.items ++ other_output options socket.now
+    ensures { OnOk result (text.new.items ≡ text.old.items ++ other_output options list socket.now
         (H.json_members header.now) (collected found.now)) }
 {
     if !options.lists_family(socket.family, socket.state) {
         return Ok(());
     }
     if options.json {
-        return push_json(text, header, found);
+        return push_json(text, list, header, found);
     }
     push_lines(text, options, socket, found)
 }

@@ -6,7 +6,8 @@ ghost use Rattle.std.proofs.Common.{rules};
 ghost use Rattle.netlink_core.specs.Walk.{buffered_attribute};
 ghost use Rattle.sock_diag_captures.specs.Messages.{message_parts};
 ghost use Rattle.sock_diag_captures.specs.Requests.{is_about_sockets, protocol_by, protocol_of};
-ghost use Rattle.sock_diag_captures.specs.Requests.{no_requests, past_requests, query_of};
+ghost use Rattle.sock_diag_captures.specs.Requests.{list_with, no_requests, past_requests};
+ghost use Rattle.sock_diag_captures.specs.Requests.{query_of};
 ghost use Rattle.sock_diag_captures.specs.Requests.{requested, requested_other, with_query};
 ghost use Rattle.sock_diag_captures.specs.Requests.{with_request};
 
@@ -51,6 +52,9 @@ pub struct Requests {
     pub asked: Vec<Query>,
     /// The first request of any kind.
     pub(crate) first: FirstRequest,
+    /// Number of the list of sockets. The first is 1, and each repetition of the first request
+    /// begins the next one.
+    pub(crate) list: u64,
 }
 
 impl Requests {
@@ -61,6 +65,7 @@ impl Requests {
         Requests {
             asked: Vec::new(alloc),
             first: FirstRequest::new(alloc),
+            list: 1,
         }
     }
 
@@ -69,8 +74,20 @@ impl Requests {
         ensures { OnOk result (past_requests self.new
             ≡ with_request (message_parts request.now) (past_requests self.old)) }
     {
+        self.list = self.list_with(request);
         self.first.add(request)?;
         self.add_query(request)
+    }
+
+    /// Returns the number of the list after one more request.
+    fn list_with(&self, request: &Message<'_>) -> u64
+        ensures { result ≡ list_with (message_parts request.now) (past_requests self.now) }
+    {
+        if self.first.is_repeated_by(request) {
+            self.list.saturating_add(1)
+        } else {
+            self.list
+        }
     }
 
     /// Adds a request to `asked` if it is to list IPv4 or IPv6 sockets. Then at most 15 older
@@ -79,6 +96,7 @@ impl Requests {
         ensures queries { OnOk result (self.new.asked.items
             ≡ with_query (message_parts request.now) self.old.asked.items) }
         ensures first { self.new.first ≡ self.old.first }
+        ensures list { self.new.list ≡ self.old.list }
     {
         if request.header.message_type != SOCK_DIAG_BY_FAMILY {
             return Ok(());

@@ -2,6 +2,7 @@ use Rattle.std.proofs.Common.{None, Some, [], ◌∷◌, ◌++◌, ◌∙◌, ap
 use Rattle.std.proofs.lemmas.List.{append-nil, length-append}
 use Rattle.netlink_core.proofs.Datagrams.{shorter-rest}
 use Rattle.sock_diag_captures.specs.Listing.{is_clean_message, message_lines}
+use Rattle.sock_diag_captures.specs.Requests.{past_requests}
 use Rattle.sock_diag_captures.proofs.MessageWalk.{all_read, counted_on, has_bytes, none_read}
 use Rattle.sock_diag_captures.proofs.MessageWalk.{one_more_clean, one_more_diagnosed}
 use Rattle.sock_diag_captures.proofs.MessageWalk.{one_more_listed, one_more_read}
@@ -30,7 +31,7 @@ loop-item-preserved c =
     (omega (arith, shorter-rest _ _ _ starts.0)) c.next_number-count.ensures in record {
       passed = inv.passed ++ m ∷ [];
       read = one_more_read _ _ _ inv.passed m inv.read starts.0;
-      lines = one_more_listed (message_lines c.args.options c.args.requests.now.asked.items)
+      lines = one_more_listed (message_lines c.args.options (past_requests c.args.requests.now))
           inv.passed m _ _ _ _ same inv.lines list.lines;
       clean = one_more_clean is_clean_message inv.passed m _ _ _ same inv.clean list.clean;
       diagnosed = one_more_diagnosed c.args.written.now.front.now c.args.number inv.passed m _ _ _ _

@@ -4,6 +4,7 @@ use Rattle.netlink_core.specs.DatagramWalk.{unread_messages}
 use Rattle.sock_diag_captures.specs.Diagnostics.{lines_about}
 use Rattle.sock_diag_captures.specs.Listing.{is_clean_message, message_lines}
 use Rattle.sock_diag_captures.specs.Messages.{message_in}
+use Rattle.sock_diag_captures.specs.Requests.{past_requests}
 use Rattle.sock_diag_captures.proofs.MessageWalk.{ReadSoFar}
 use Rattle.sock_diag_captures.proofs.list.list_datagram.Given as goal
 
@@ -13,7 +14,7 @@ invariant-loop-item l = record {
   passed : List (List ℕ);
   read : ReadSoFar l.datagram (unread_messages l.item-iterator) passed;
   lines : l.written.lines.items ≡ l.fn.written.lines.items
-      ++ flat_map (λ m. message_lines l.options l.requests.asked.items (message_in m)) passed;
+      ++ flat_map (λ m. message_lines l.options (past_requests l.requests) (message_in m)) passed;
   clean : l.is_clean ≡ list_all (λ m. is_clean_message (message_in m)) passed;
   diagnosed : l.written.diagnostics.items ≡ l.fn.written.diagnostics.items
       ++ lines_about l.fn.written.front.now l.number 1 passed;
