@@ -463,8 +463,8 @@ def test_long_inputs(program):
         name = length.to_bytes(2, "little") + bytes(2) + path + bytes(1 + -length % 4)
         shown = run(program, [], file_header + packet(reply + name))
         assert shown[0] == 0 and b" %s " % path in shown[1], (size, shown[0], shown[2])
-    request = packet([2, 6, 0, 0, 0xFE, *bytes(51)], 0x301)
-    check(program, [], file_header + request * 300 + packet(reply), 0, table, errors)
+    requests = (packet([2, 6, 0, 0, *it.to_bytes(52, "little")], 0x301) for it in range(300))
+    check(program, [], file_header + b"".join(requests) + packet(reply), 0, table, errors)
 
 
 def test_letters(program):
