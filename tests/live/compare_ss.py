@@ -145,9 +145,9 @@ def timer(milliseconds):
 def listed(capture, options=()):
     """Returns the sockets that sslist lists with these options, by key and in order, its standard
     error and its exit status."""
-    run = subprocess.run([LISTER, *options, capture], capture_output=True, check=False)
+    run = subprocess.run([LISTER, "-H", *options, capture], capture_output=True, check=False)
     sockets, last = {}, None
-    for line in run.stdout.decode("ascii").splitlines()[1:]:
+    for line in run.stdout.decode("ascii").splitlines():
         if not line.startswith("\t"):
             netid, state, received, sent, inode, user, local, peer = line.split()
             last = {"netid": netid, "state": state, "recv": received, "send": sent, "ino": inode,
