@@ -1,8 +1,8 @@
 #!/bin/sh
 # processes.sh: copies the table of sslist from standard input to standard output, and adds to the
-# line of each socket the processes of this machine that have it open, as ss -p shows them. To see
-# those of other users takes root. In the name of a process, a byte that could control a terminal,
-# and a quotation mark, are shown as question marks.
+# line of each socket the processes of this machine that have it open as the script starts, as ss -p
+# shows them. To see those of other users takes root. In the name of a process, a byte that could
+# control a terminal, and a quotation mark, are shown as question marks.
 {
     find /proc/[0-9]*/fd -lname 'socket:*' -printf '%l %p\n' 2>/dev/null
     echo # An empty line, after which the table follows.

@@ -59,9 +59,10 @@ RELEASE = "sockdiag-VERSION-x86_64-linux"
 MANUAL = "man"
 PROMPT = "$ "
 # The commands that are run, and words that begin a command of the shell.
-RUN = set("""./sockdiag ./sockdump ./sslist bin/sockdiag bin/sslist sockdiag sslist sockdump
-    examples/processes.sh examples/sockdump tests/believed.py tools/install awk cc cd cp done echo
-    export for head jq make mkdir pkg-config printf python3 sed sha256sum sort tar uniq""".split())
+RUN = set("""./sockdiag ./sockdump ./sslist bin/sockdiag bin/sslist sockdiag sslist
+    sockdump examples/processes.sh examples/sockdump tests/believed.py tools/install
+    awk cc cd cp done echo export for grep head jq make mkdir pkg-config printf
+    python3 sed sha256sum sort tar uniq""".split())
 # Those of them that need a compiler, and those that are never missing.
 COMPILING = {"cc", "make", "pkg-config", "sockdump", "./sockdump", "examples/sockdump"}
 BUILTIN = {"cd", "done", "echo", "export", "for", "printf", *PROGRAMS}
@@ -78,6 +79,7 @@ NOT_RUN = {
     r"tests/(captures|pages|programs|tables)\.py": "the gate runs them",
     r"tests/edits\.py": "it needs what the gate builds, which runs it later",
     r"bench/": "it needs valgrind, and takes minutes",
+    r"watch ": "it does not end",
     r"ldconfig": "it needs root",
     r"apt install": "it needs root; tests/release.sh installs the packages in another root",
     r"(modprobe|ip link|tcpdump) ": "it needs root and the kernel module nlmon",

@@ -12,7 +12,7 @@ mod dump;
 use dump::dump_replies;
 use sockdiag::constants::{AF_INET, AF_INET6, IPPROTO_MPTCP, IPPROTO_TCP, IPPROTO_UDP};
 use sockdiag::constants::{INET_DIAG_INFO, NLM_F_DUMP, NLM_F_REQUEST};
-use sockdiag::inet::{ExtensionFlags, InetReply, InetRequest, SocketId, TcpField};
+use sockdiag::inet::{ExtensionFlags, InetReply, InetRequest, RequestBytes, SocketId, TcpField};
 use sockdiag::netlink::{NetlinkReply, NetlinkRequest, NDIAG_PROTO_ALL, NDIAG_SHOW_GROUPS};
 use sockdiag::packet::{PacketReply, PacketRequest, PACKET_SHOW_INFO};
 use sockdiag::unix::{ShowFlags, UnixDiagName, UnixReply, UnixRequest};
@@ -231,8 +231,8 @@ fn dump_header() -> NetlinkHeader {
 }
 
 /// Returns the message of a request.
-fn inet_message(request: &InetRequest) -> Vec<u8> {
-    let mut bytes = request.to_message(&dump_header()).to_vec();
+fn inet_message(request: &InetRequest) -> RequestBytes {
+    let mut bytes = request.to_message(&dump_header());
     // The protocol is also an attribute, which kernels without MPTCP ignore. By the low byte in the
     // record, `IPPROTO_TCP`, they list TCP sockets again. For 0 they answer with `ENOENT`.
     if request.protocol > u8::MAX.into() {

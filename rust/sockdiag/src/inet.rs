@@ -185,6 +185,12 @@ impl core::ops::Deref for RequestBytes {
     }
 }
 
+impl core::ops::DerefMut for RequestBytes {
+    fn deref_mut(&mut self) -> &mut [u8] {
+        &mut self.bytes[..self.len]
+    }
+}
+
 impl InetRequest {
     /// Returns the netlink message that requests the sockets.
     ///
