@@ -1,9 +1,14 @@
 -- A text that is appended to.
-use Rattle.std.proofs.Common.{arith}
-use Rattle.std.proofs.Common.{◌≡◌, ℕ, List, ◌++◌, append_assoc}
+use Rattle.std.proofs.Common.{◌≡◌, ℕ, List, ◌++◌, append_assoc, arith, refl}
 
 -- Two texts that are appended are their concatenation.
 pub appended_texts_concatenate : (old mid new x y : List ℕ) → mid ≡ old ++ x → new ≡ mid ++ y
     → new ≡ old ++ (x ++ y)
 appended_texts_concatenate old mid new x y first second =
     grind (arith, append_assoc old x y)
+
+-- Three texts that are appended are their concatenation.
+pub three_texts_concatenate : (old a b new x y z : List ℕ) → a ≡ old ++ x → b ≡ a ++ y
+    → new ≡ b ++ z → new ≡ old ++ (x ++ (y ++ z))
+three_texts_concatenate old a b new x y z first second third =
+    rw (third, second, first, append_assoc (old ++ x) y z, append_assoc old x (y ++ z)) refl

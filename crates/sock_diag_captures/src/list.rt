@@ -299,6 +299,7 @@ fn next_number(count: u64, most: usize) -> u64
 
 /// Appends the lines and the diagnostics of a message. Returns whether it has no diagnostic, or
 /// only a note.
+#[tactic(auto, using(crate::proofs::Adding::appended_texts_concatenate))]
 fn list_message(
     written: &mut PacketOutput<'_>,
     requests: &Requests,

@@ -191,6 +191,7 @@ fn attributes_of<H: Listed>(payload: &[u8]) -> &[u8]
 }
 
 /// Appends the lines of the table for a socket with these attributes.
+#[tactic(auto, using(crate::proofs::Adding::three_texts_concatenate))]
 fn push_lines(
     text: &mut Vec<u8>,
     options: Options,

@@ -54,6 +54,7 @@ fn push_request_line(
 
 /// Appends, in parentheses, what the request that the bytes begin with asks for. Appends `unknown`
 /// if they begin with none, or if this is not known.
+#[tactic(auto, using(crate::proofs::Adding::appended_texts_concatenate))]
 pub(crate) fn push_request_note(
     text: &mut Vec<u8>,
     unknown: &[u8],
