@@ -154,7 +154,7 @@ def are_rejected(groups, files):
         tries = [pool.submit(try_in_turn, names) for names in groups]
         turns.release(2)
         rejected = [each for it in tries for each in it.result()]
-    print(f"tests/edits.py: {len(rejected)} edits tried, {sum(rejected)} rejected")
+    print(f"tests/edits.py: {len(rejected)} edits, {sum(rejected)} rejected")
     return bool(rejected) and all(rejected)
 
 
