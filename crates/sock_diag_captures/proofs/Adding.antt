@@ -12,3 +12,15 @@ pub three_texts_concatenate : (old a b new x y z : List ℕ) → a ≡ old ++ x 
     → new ≡ b ++ z → new ≡ old ++ (x ++ (y ++ z))
 three_texts_concatenate old a b new x y z first second third =
     rw (third, second, first, append_assoc (old ++ x) y z, append_assoc old x (y ++ z)) refl
+
+-- A text that is appended after three others is their concatenation.
+pub sentence_continues : (old mid new x y z more : List ℕ) → mid ≡ old ++ (x ++ (y ++ z))
+    → new ≡ mid ++ more → new ≡ old ++ (x ++ (y ++ (z ++ more)))
+sentence_continues old mid new x y z more first second =
+    rw (
+      second,
+      first,
+      append_assoc old (x ++ (y ++ z)) more,
+      append_assoc x (y ++ z) more,
+      append_assoc y z more,
+    ) refl

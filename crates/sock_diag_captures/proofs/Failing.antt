@@ -374,8 +374,3 @@ run_outcome o left left' held held' heading front P Q unread (Ok whole) implies 
 run_outcome o left left' held held' heading front P Q unread (Err e) implies finishes fails =
     fails_implies o left left' held held' heading front P
     (λ diagnostics. Q (diagnostics ++ closing_line front e)) implies unread e fails
-
--- If a run listed the whole capture completely, the clause of its success holds.
-pub complete_outcome : (P : Bool → Type 0) (Q : ListError → Type 0) (r : Result Bool ListError)
-    → r ≡ Ok true → MatchResult r P Q → P true
-complete_outcome P Q r is h = subst (λ (r : Result Bool ListError). MatchResult r P Q) is h

@@ -5,7 +5,6 @@ pub mod MessageWalk
 pub mod Packets
 pub mod Progress
 pub mod Failing
-pub mod DiagnosticEquality
 pub mod Adding
 pub mod Slots
 pub mod FactItems

@@ -13,13 +13,13 @@ use Rattle.sock_diag_captures.specs.Facts.{status_of}
 use Rattle.sock_diag_captures.specs.Pieces.{AttributeOrError, framing_error_of}
 use Rattle.sock_diag_captures.specs.declared.attributes.Sockets.{Sockets}
 use Rattle.sock_diag_captures.specs.declared.collected.Attributes.{Attributes}
+use Rattle.sock_diag_captures.specs.declared.collected.TheConstants.{KINDS}
 
 -- What a reply has in its attributes.
 pub record Summary : Type 0 where
   -- the kind of sockets that the reply is about
   pub sockets : Sockets
-  -- for each kind from 0 to 22 (INET_DIAG_SOCKOPT, the greatest one with facts), the first valid
-  -- attribute
+  -- for each kind below KINDS, the first valid attribute
   pub first : List (Option Attribute)
   -- each unknown or invalid attribute, in the order of the bytes, and its status (`status_of`):
   -- `Ok false` if its kind is unknown, or the error of its value
@@ -55,7 +55,7 @@ other_in_piece sockets (Err e) = []
 unfoldable pub summary_of : Sockets → List AttributeOrError → Summary
 summary_of sockets given = record {
   sockets = sockets;
-  first = map (first_valid sockets given) (range_with_len 0 23);
+  first = map (first_valid sockets given) (range_with_len 0 KINDS);
   others = flat_map (other_in_piece sockets) given;
   end = framing_error_of given;
 }
@@ -82,7 +82,7 @@ collected found = record {
 -- nothing is collected yet
 abbrev pub HasNone : Attributes → Type 0
 HasNone found =
-    (length found.first.slots ≡ 23)
+    (length found.first.slots ≡ KINDS)
     × ((k : ℕ) → slice_index_or found.first.slots k None ≡ None)
     × (found.others.items ≡ []) × (found.end ≡ None)
 

@@ -112,19 +112,23 @@ diagnostic_text NoNumber = codes "the kernel's answer has no error number"
 
 -- ---- lines of messages
 
--- `message_line front packet message diagnostic`: the line of a diagnostic about the message with
--- the number `message` in the packet with the number `packet`
-abbrev pub message_line : List ℕ → ℕ → ℕ → Diagnostic → List ℕ
-message_line front packet message diagnostic =
+-- the start of a line about the message with the number `message` in the packet with the number
+-- `packet`
+abbrev pub line_start : List ℕ → ℕ → ℕ → List ℕ
+line_start front packet message =
     front ++ codes "packet " ++ decimal packet ++ codes ", message " ++ decimal message
-    ++ codes ": " ++ diagnostic_text diagnostic ++ 10 ∷ []
+    ++ codes ": "
+
+-- `message_line front packet message text`: the line with this text about this message
+abbrev pub message_line : List ℕ → ℕ → ℕ → List ℕ → List ℕ
+message_line front packet message text = line_start front packet message ++ text ++ 10 ∷ []
 
 -- `diagnostic_line front packet message diagnostic`: the line of a diagnostic about this message,
 -- or nothing if there is none (None)
 abbrev pub diagnostic_line : List ℕ → ℕ → ℕ → Option Diagnostic → List ℕ
 diagnostic_line front packet message None = []
-diagnostic_line front packet message
-    (Some diagnostic) = message_line front packet message diagnostic
+diagnostic_line front packet message (Some diagnostic) =
+    message_line front packet message (diagnostic_text diagnostic)
 
 -- Interrupted if the flags of a message have NLM_F_DUMP_INTR, else None
 abbrev pub interrupted_diagnostic : ℕ → Option Diagnostic
@@ -136,8 +140,7 @@ interrupted_diagnostic flags =
 abbrev pub explained_line : List ℕ → ℕ → ℕ → Option Diagnostic → List ℕ → List ℕ
 explained_line front packet message None more = []
 explained_line front packet message (Some diagnostic) more =
-    front ++ codes "packet " ++ decimal packet ++ codes ", message " ++ decimal message
-    ++ codes ": " ++ diagnostic_text diagnostic ++ more ++ 10 ∷ []
+    message_line front packet message (diagnostic_text diagnostic ++ more)
 
 -- `lines_about_message front packet message m`: the lines about the message `m`, whose number is
 -- `message`. The first is about an interrupted dump, the second about its other diagnostic, with
@@ -169,7 +172,8 @@ is_cut error = false
 abbrev pub end_line : List ℕ → ℕ → ℕ → Bool → Option DecodeError → List ℕ
 end_line front packet message whole None = []
 end_line front packet message whole (Some error) =
-    if whole || not (is_cut error) then message_line front packet message (Refused error) else []
+    if whole || not (is_cut error)
+    then diagnostic_line front packet message (Some (Refused error)) else []
 
 -- ---- datagrams and packets
 

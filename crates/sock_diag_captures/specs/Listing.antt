@@ -39,6 +39,7 @@ use Rattle.sock_diag_captures.specs.RequestLine.{request_line_if_selected}
 use Rattle.sock_diag_captures.specs.Messages.{MessageParts, message_in, request_in}
 use Rattle.sock_diag_captures.specs.Requests.{PastRequests, protocol_of, with_optional_request}
 use Rattle.sock_diag_captures.specs.declared.line.TheConstants.{HEADING}
+use Rattle.sock_diag_captures.specs.declared.list.TheConstants.{EINVAL, ENOENT}
 use Rattle.sock_diag_captures.specs.declared.others.OtherSocket.{OtherSocket}
 use Rattle.sock_diag_captures.specs.Details.{timer_in}
 use Rattle.sock_diag_captures.specs.Others.{family_numbered, netlink_socket}
@@ -158,11 +159,10 @@ message_lines o past m =
     (protocol_of past.queries m.header.sequence_number m.header.port_number)
     m.header.message_type m.payload
 
--- the diagnostic of an error number of errno(3): a note for ENOENT (2) and EINVAL (22), or else an
--- error
+-- the diagnostic of an error number of errno(3): a note for ENOENT and EINVAL, or else an error
 abbrev pub errno_diagnostic : ℕ → Diagnostic
 errno_diagnostic errno =
-    if errno == 2 then NoEntry else if errno == 22 then Invalid else Answered errno
+    if errno == ENOENT then NoEntry else if errno == EINVAL then Invalid else Answered errno
 
 -- the diagnostic of an NLMSG_ERROR or NLMSG_DONE with this number: a negated number of errno(3), or
 -- else no error; None is too short for a number. `negsuc n` is the number -(n + 1).

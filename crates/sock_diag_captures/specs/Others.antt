@@ -1,10 +1,9 @@
--- Lines of netlink, packet, vsock and XDP sockets. `s` is what a
--- reply has in its attributes.
+-- Lines of netlink, packet, vsock and XDP sockets. `s` is what a reply has in its attributes.
 use Rattle.std.specs.Prelude.{ℕ, ◌+◌, ◌==◌, nat_lt, if◌then◌else◌, List, [], ◌∷◌, ◌++◌, length}
 use Rattle.std.specs.Prelude.{drop, codes, Option, None, Some, option_and_then}
 use Rattle.byteorder.specs.Endian.{little_bytes, little_number}
 use Rattle.sock_diag_listing.specs.Parts.{no_timer, details_after_separator}
-use Rattle.sock_diag_listing.specs.Cells.{FirstColumns, table_line, peer_cell}
+use Rattle.sock_diag_listing.specs.Cells.{FirstColumns, table_line, number_or_star}
 use Rattle.sslist_options.specs.declared.options.Family.{Family}
 use Rattle.sslist_options.specs.declared.options.Family.TheVariants.{Netlink, Packet, Vsock}
 use Rattle.sslist_options.specs.declared.options.Family.TheVariants.{Xdp}
@@ -21,6 +20,7 @@ use Rattle.sock_diag_families.specs.declared.vsock.response.VsockResponseHeader.
 }
 use Rattle.sock_diag_families.specs.declared.xdp.response.XdpResponseHeader.{XdpResponseHeader}
 use Rattle.sock_diag_records.specs.declared.constants.TheConstants.{AF_NETLINK, AF_PACKET}
+use Rattle.sock_diag_records.specs.declared.constants.TheConstants.{TCP_CLOSE}
 use Rattle.sock_diag_families.specs.declared.packet.TheConstants.{PACKET_DIAG_INFO, PACKET_DIAG_UID}
 use Rattle.sock_diag_families.specs.declared.vsock.TheConstants.{AF_VSOCK}
 use Rattle.sock_diag_families.specs.declared.xdp.TheConstants.{AF_XDP, XDP_DIAG_INFO, XDP_DIAG_UID}
@@ -28,6 +28,7 @@ use Rattle.sock_diag_captures.specs.Details.{details}
 use Rattle.sock_diag_captures.specs.AttributeFacts.{memory_kind}
 use Rattle.sock_diag_captures.specs.Collected.{Summary, first_in}
 use Rattle.sock_diag_captures.specs.declared.others.OtherSocket.{OtherSocket}
+use Rattle.sock_diag_captures.specs.declared.others.TheConstants.{ANY, NETLINK_CONNECTED}
 
 -- ---- families
 
@@ -71,34 +72,34 @@ user_kind _ = None
 
 -- ---- sockets of each family
 
--- A netlink socket. Local: protocol and port. Peer: group and port, if the state is 1
--- (NETLINK_CONNECTED). The column State has UNCONN (7) in any case, as in ss(8).
+-- A netlink socket. Local: protocol and port. Peer: group and port, if the socket is connected.
+-- The column State has UNCONN (TCP_CLOSE) in any case, as in ss(8).
 abbrev pub netlink_socket : NetlinkResponseHeader → Summary → OtherSocket
 netlink_socket h s = record {
   family = Netlink;
   kind = h.kind;
-  state = 7;
+  state = TCP_CLOSE;
   inode = h.inode;
   cookie = h.cookie;
   local = (Some h.protocol, Some h.port);
-  peer = if h.state == 1 then Some (Some h.destination_group, Some h.destination_port) else None;
+  peer = if h.state == NETLINK_CONNECTED
+      then Some (Some h.destination_group, Some h.destination_port) else None;
 }
 
 -- A packet socket. Local: protocol, and interface number at 0 of the attribute PACKET_DIAG_INFO.
--- The column State has UNCONN (7).
+-- The column State has UNCONN (TCP_CLOSE).
 abbrev pub packet_socket : PacketResponseHeader → Summary → OtherSocket
 packet_socket h s = record {
   family = Packet;
   kind = h.kind;
-  state = 7;
+  state = TCP_CLOSE;
   inode = h.inode;
   cookie = h.cookie;
   local = (Some h.protocol, interface_number PACKET_DIAG_INFO s);
   peer = None;
 }
 
--- A vsock socket. Local and peer: context and port, None for 2 ^ 32 - 1 (VMADDR_CID_ANY,
--- VMADDR_PORT_ANY).
+-- A vsock socket. Local and peer: context and port, None for ANY (VMADDR_CID_ANY, VMADDR_PORT_ANY).
 abbrev pub vsock_socket : VsockResponseHeader → Summary → OtherSocket
 vsock_socket h s = record {
   family = Vsock;
@@ -106,20 +107,20 @@ vsock_socket h s = record {
   state = h.state;
   inode = h.inode;
   cookie = h.cookie;
-  local = (none_if_equal 4294967295 h.source_context, none_if_equal 4294967295 h.source_port);
+  local = (none_if_equal ANY h.source_context, none_if_equal ANY h.source_port);
   peer = Some (
-    none_if_equal 4294967295 h.destination_context,
-    none_if_equal 4294967295 h.destination_port,
+    none_if_equal ANY h.destination_context,
+    none_if_equal ANY h.destination_port,
   );
 }
 
 -- An XDP socket. Local: interface number at 0 and queue at 4 of the attribute XDP_DIAG_INFO.
--- The column State has UNCONN (7).
+-- The column State has UNCONN (TCP_CLOSE).
 abbrev pub xdp_socket : XdpResponseHeader → Summary → OtherSocket
 xdp_socket h s = record {
   family = Xdp;
   kind = h.kind;
-  state = 7;
+  state = TCP_CLOSE;
   inode = h.inode;
   cookie = h.cookie;
   local = (
@@ -161,7 +162,7 @@ other_columns socket s = record {
 -- `numbers_text end`: both numbers of an address, separated by a colon (58); a number that is None
 -- is shown as `*`
 abbrev pub numbers_text : Option ℕ × Option ℕ → List ℕ
-numbers_text end = peer_cell end.0 ++ 58 ∷ peer_cell end.1
+numbers_text end = number_or_star end.0 ++ 58 ∷ number_or_star end.1
 
 -- `optional_numbers_text end`: an address, or `*` if there is none (None)
 abbrev pub optional_numbers_text : Option (Option ℕ × Option ℕ) → List ℕ

@@ -8,11 +8,13 @@ use Rattle.netlink_core.specs.Attribute.{Attribute}
 use Rattle.netlink_core.specs.AttributeSet.{AttributeValue, ValueOfKind, decode_attribute}
 use Rattle.netlink_core.specs.AttributeSet.{value_of_kind}
 use Rattle.netlink_core.specs.declared.error.DecodeError.{DecodeError}
-use Rattle.sock_diag_listing.specs.Cells.{endpoint, named_line, peer_cell, table_line}
+use Rattle.sock_diag_listing.specs.Cells.{endpoint, named_line, number_or_star, table_line}
 use Rattle.sock_diag_listing.specs.Parts.{no_timer, details_after_separator}
 use Rattle.sock_diag_listing.specs.Escapes.{byte_digits, unescaped_bytes, shown_name}
 use Rattle.sock_diag_listing.specs.declared.parts.TimerFields.{TimerFields}
 use Rattle.sslist_options.specs.declared.options.Options.{Options}
+use Rattle.sslist_options.specs.declared.options.TheConstants.{IPPROTO_MPTCP, IPPROTO_TCP}
+use Rattle.sslist_options.specs.declared.options.TheConstants.{IPPROTO_UDP}
 use Rattle.sock_diag_records.specs.declared.inet.response.InetResponseHeader.{InetResponseHeader}
 use Rattle.sock_diag_records.specs.declared.unix.response.UnixResponseHeader.{UnixResponseHeader}
 use Rattle.sock_diag_records.specs.declared.constants.TheConstants.{AF_INET6, UNIX_DIAG_NAME}
@@ -21,6 +23,7 @@ use Rattle.sock_diag_attributes.specs.declared.unix.name.SocketName.{SocketName}
 use Rattle.sock_diag_attributes.specs.declared.unix.name.SocketName.TheVariants.{Abstract, Pathname}
 use Rattle.sock_diag_attributes.specs.UnixAttributes.{unix_attribute_set}
 use Rattle.sock_diag_captures.specs.Details.{details}
+use Rattle.sock_diag_captures.specs.declared.line.TheConstants.{NO_INTERFACE}
 use Rattle.sock_diag_captures.specs.declared.attributes.Info.{Info}
 use Rattle.sock_diag_captures.specs.declared.attributes.Info.TheVariants.{Mptcp, Tcp, Unknown}
 use Rattle.sock_diag_captures.specs.Collected.{Summary, first_in}
@@ -76,10 +79,10 @@ family_name family = if family == AF_INET6 then codes "inet6" else codes "inet"
 abbrev pub inet_kind : Option ℕ → ℕ → List ℕ
 inet_kind None family = family_name family
 inet_kind (Some protocol) family =
-    if protocol == 6 then codes "tcp" else if protocol == 17 then codes "udp"
+    if protocol == IPPROTO_TCP then codes "tcp" else if protocol == IPPROTO_UDP then codes "udp"
     else if protocol == 33 then codes "dccp" else if protocol == 132 then codes "sctp"
     else if protocol == 136 then codes "udplite" else if protocol == 255 then codes "raw"
-    else if protocol == 262 then codes "mptcp" else family_name family
+    else if protocol == IPPROTO_MPTCP then codes "mptcp" else family_name family
 
 -- ---- lines
 
@@ -112,11 +115,11 @@ unix_line o h s =
       send_queue = option_map (λ ns. ns.1) queues;
       inode = h.inode;
       uid = option_and_then user_id (first_in UNIX_DIAG_UID s);
-    }) (name_cell o.utf8 (unix_value UNIX_DIAG_NAME s)) (peer_cell (unix_value UNIX_DIAG_PEER s))
+    }) (name_cell o.utf8 (unix_value UNIX_DIAG_NAME s))
+    (number_or_star (unix_value UNIX_DIAG_PEER s))
 
 -- `inet_line protocol h`: the columns of an IPv4 or IPv6 socket, whose header is `h`. `protocol` is
--- the protocol of the request. The interface number is shown after the local address only, so that
--- of the peer is 0.
+-- the protocol of the request. The interface is shown after the local address only.
 abbrev pub inet_line : Option ℕ → InetResponseHeader → List ℕ
 inet_line protocol h =
     let id = h.socket_id in
@@ -128,19 +131,19 @@ inet_line protocol h =
       inode = h.inode;
       uid = Some h.uid;
     }) (endpoint id.source_address id.interface_id id.source_port)
-    (endpoint id.destination_address 0 id.destination_port)
+    (endpoint id.destination_address NO_INTERFACE id.destination_port)
 
 -- `unix_lines o h s`: the lines of a UNIX socket: the columns, the details and a line feed (10)
 abbrev pub unix_lines : Options → UnixResponseHeader → Summary → List ℕ
 unix_lines o h s =
     unix_line o h s ++ details_after_separator o (details o no_timer h.cookie s) ++ 10 ∷ []
 
--- the meaning of INET_DIAG_INFO, by the protocol of the request: 6 is IPPROTO_TCP, and 262
--- IPPROTO_MPTCP
+-- the meaning of INET_DIAG_INFO, by the protocol of the request
 abbrev pub info_of_protocol : Option ℕ → Info
 info_of_protocol None = Unknown
 info_of_protocol (Some protocol) =
-    if protocol == 6 then Tcp else if protocol == 262 then Mptcp else Unknown
+    if protocol == IPPROTO_TCP then Tcp
+    else if protocol == IPPROTO_MPTCP then Mptcp else Unknown
 
 -- `inet_lines o protocol timer h s`: the lines of an IPv4 or IPv6 socket: the columns, the details
 -- and a line feed (10). `timer` are the timer fields of the reply's header (`timer_in`).

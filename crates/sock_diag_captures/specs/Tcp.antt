@@ -12,7 +12,8 @@ use Rattle.sock_diag_extras.specs.declared.mptcp_info.MptcpField.{MptcpField}
 use Rattle.sock_diag_extras.specs.declared.mptcp_info.MptcpField.TheVariants as mptcp
 use Rattle.sock_diag_extras.specs.declared.tcp_info.TcpField.{TcpField}
 use Rattle.sock_diag_extras.specs.declared.tcp_info.TcpField.TheVariants as field
-use Rattle.sock_diag_captures.specs.Facts.{Facts, facts_of_each, group, no_facts, number_facts}
+use Rattle.sock_diag_captures.specs.Facts.{Facts, both, facts_of_each, group, no_facts}
+use Rattle.sock_diag_captures.specs.Facts.{number_facts}
 use Rattle.sock_diag_captures.specs.declared.facts.Shown.{Shown}
 use Rattle.sock_diag_captures.specs.declared.facts.Shown.TheVariants.{Bits, Halves, Never, Nonzero}
 use Rattle.sock_diag_captures.specs.declared.facts.Shown.TheVariants.{NonzeroHex, Threshold}
@@ -55,11 +56,12 @@ hidden f member = row_of (span_of f) Never [] (Some member)
 abbrev pub option_row : ℕ → List ℕ → FieldRow
 option_row bit text = (offset_of field.Options, Byte, Bits bit, text, None)
 
--- The rows, in the order of the members. The bits of `tcpi_options` are TCPI_OPT_TIMESTAMPS (1),
--- TCPI_OPT_SACK (2), TCPI_OPT_ECN (8), TCPI_OPT_ECN_SEEN (16) and TCPI_OPT_SYN_DATA (32). With
--- TCPI_OPT_WSCALE (4) the table shows both window scales.
-unfoldable pub tcp_rows : List FieldRow
-tcp_rows =
+-- The rows of the first eight bytes: the state, the options and the window scales. The bits of
+-- `tcpi_options` are TCPI_OPT_TIMESTAMPS (1), TCPI_OPT_SACK (2), TCPI_OPT_ECN (8),
+-- TCPI_OPT_ECN_SEEN (16) and TCPI_OPT_SYN_DATA (32). With TCPI_OPT_WSCALE (4) the table shows both
+-- window scales.
+unfoldable pub tcp_state_rows : List FieldRow
+tcp_state_rows =
     hidden field.State (codes "state") ∷
     hidden field.CaState (codes "ca_state") ∷
     hidden field.Retransmits (codes "retransmits") ∷
@@ -80,7 +82,11 @@ tcp_rows =
       codes " app_limited",
       Some (codes "delivery_rate_app_limited"),
     ) ∷
-    hidden_part field.DeliveryRateAppLimited NextTwo (codes "fastopen_client_fail") ∷
+    hidden_part field.DeliveryRateAppLimited NextTwo (codes "fastopen_client_fail") ∷ []
+
+-- the rows of the times and metrics, from `tcpi_rto` to `tcpi_total_retrans`
+unfoldable pub tcp_metric_rows : List FieldRow
+tcp_metric_rows =
     shown field.Rto (codes " rto:") (codes "rto") ∷
     shown field.Ato (codes " ato:") (codes "ato") ∷
     shown field.SndMss (codes " mss:") (codes "snd_mss") ∷
@@ -109,7 +115,11 @@ tcp_rows =
     shown field.Reordering (codes " reordering:") (codes "reordering") ∷
     shown field.RcvRtt (codes " rcv_rtt:") (codes "rcv_rtt") ∷
     shown field.RcvSpace (codes " rcv_space:") (codes "rcv_space") ∷
-    shown field.TotalRetrans (codes " retrans:") (codes "total_retrans") ∷
+    shown field.TotalRetrans (codes " retrans:") (codes "total_retrans") ∷ []
+
+-- the rows of the rates and counters, from `tcpi_pacing_rate` on
+unfoldable pub tcp_rate_rows : List FieldRow
+tcp_rate_rows =
     shown field.PacingRate (codes " pacing_rate:") (codes "pacing_rate") ∷
     shown field.MaxPacingRate (codes " max_pacing_rate:") (codes "max_pacing_rate") ∷
     shown field.BytesAcked (codes " bytes_acked:") (codes "bytes_acked") ∷
@@ -235,14 +245,16 @@ row_facts bytes row =
 unfoldable pub field_facts : List ℕ → List FieldRow → Facts
 field_facts bytes rows = facts_of_each (row_facts bytes) rows
 
--- the same, as the group `info`
-unfoldable pub info_of : List ℕ → List FieldRow → Facts
-info_of bytes rows = group [] [] (codes "info") (field_facts bytes rows)
-
 -- the fields of `struct tcp_info` that the bytes contain
-unfoldable pub tcp_info : List ℕ → Facts
-tcp_info bytes = info_of bytes tcp_rows
+unfoldable pub tcp_fields : List ℕ → Facts
+tcp_fields bytes =
+    both (field_facts bytes tcp_state_rows)
+    (both (field_facts bytes tcp_metric_rows) (field_facts bytes tcp_rate_rows))
 
--- the fields of `struct mptcp_info` that the bytes contain
+-- the same, as the group `info`
+unfoldable pub tcp_info : List ℕ → Facts
+tcp_info bytes = group [] [] (codes "info") (tcp_fields bytes)
+
+-- the fields of `struct mptcp_info` that the bytes contain, as the group `info`
 unfoldable pub mptcp_info : List ℕ → Facts
-mptcp_info bytes = info_of bytes mptcp_rows
+mptcp_info bytes = group [] [] (codes "info") (field_facts bytes mptcp_rows)

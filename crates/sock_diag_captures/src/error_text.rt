@@ -1,95 +1,221 @@
-//! Texts of decode errors.
+//! Texts of diagnostics and of decode errors. A function of this module allocates only to grow the
+//! text. If it fails, an allocation failed, and the content of the text is not specified.
 
-ghost use Rattle.std.specs.Prelude.{Some};
-ghost use Rattle.sock_diag_captures.specs.Diagnostics.{decode_error_text, record_text};
+ghost use Rattle.std.specs.Prelude.{◌≡◌, ◌++◌, OnOk, decimal};
+ghost use Rattle.sock_diag_captures.specs.Diagnostics.{decode_error_text, diagnostic_text};
+ghost use Rattle.sock_diag_captures.specs.Diagnostics.{record_text};
+ghost use Rattle.sock_diag_captures.specs.private.Sentence.{sentence_text, subject_text};
 
+use crate::list::Diagnostic;
 use netlink_core::{DecodeError, RecordName};
-use std::fmt;
+use sock_diag_listing::cells::push_number;
+use std::alloc::AllocError;
 
-/// A decode error that is shown as by its `Display`. Here the contract states the text.
-#[derive(Clone, Copy)]
-pub(crate) struct DecodeErrorText<'a>(pub(crate) &'a DecodeError);
-
-impl fmt::Display for DecodeErrorText<'_> {
-    ghost output = { λ it. Some (decode_error_text it.0.now) };
-
-    fn fmt<W: fmt::Write>(&self, f: &mut fmt::Formatter<W>) -> fmt::Result {
-        match self.0 {
-            DecodeError::Memory => write!(f, "out of memory"),
-            DecodeError::BufferTooSmall { which, got, need } => {
-                let record = RecordText(which);
-                write!(f, "{record}: buffer of {got} bytes, at least {need} needed")
-            }
-            DecodeError::UnsupportedFamily { family } => write!(
-                f,
-                "unsupported address family {family}: expected AF_INET (2) or AF_INET6 (10)"
-            ),
-            DecodeError::MessageTooShort { got } => write!(
-                f,
-                "invalid buffer: length is {got} but packets are at least 2 bytes"
-            ),
-            DecodeError::UnknownFamily { family } => write!(f, "unknown address family {family}"),
-            DecodeError::UnknownMessageType { message_type } => {
-                write!(f, "unknown message type {message_type}")
-            }
-            DecodeError::AttributeHeaderCut { left } => {
-                write!(f, "attribute header cut: {left} bytes left")
-            }
-            DecodeError::AttributeLengthUnder4 { length } => {
-                write!(f, "attribute length {length} is under 4")
-            }
-            DecodeError::AttributeLengthPast { length, left } => {
-                write!(f, "attribute length {length} is past the {left} bytes left")
-            }
-            DecodeError::WrongLength { got, need, .. } => {
-                write!(f, "value of {got} bytes, {need} needed")
-            }
-            DecodeError::NotMultipleOfFour { got } => {
-                write!(f, "value of {got} bytes is no multiple of 4")
-            }
-            DecodeError::NotUtf8 => write!(f, "text is not UTF-8"),
-            DecodeError::NameEmpty => write!(f, "name is empty"),
-            DecodeError::NameInnerZero { index } => write!(f, "pathname holds a zero at {index}"),
-            DecodeError::NameWithoutEnd => write!(f, "pathname is not null-terminated"),
-            DecodeError::EnvelopeCut { got } => write!(f, "message header cut: {got} bytes"),
-            DecodeError::EnvelopeLengthUnder16 { length } => {
-                write!(f, "message length {length} is under 16")
-            }
-            DecodeError::EnvelopeLengthPast { length, got } => {
-                write!(f, "message length {length} is past the {got} bytes given")
-            }
+/// Appends the text of a diagnostic.
+pub(crate) fn push_diagnostic_text(
+    text: &mut Vec<u8>,
+    diagnostic: &Diagnostic,
+) -> Result<(), AllocError>
+    ensures { OnOk result (text.new.items ≡ text.old.items ++ diagnostic_text diagnostic.now) }
+{
+    match diagnostic {
+        Diagnostic::Refused(error) => push_decode_error(text, error),
+        Diagnostic::Answered(errno) => {
+            push_between(text, b"the kernel returned error ", *errno as u64, b"")
+        }
+        Diagnostic::NoEntry => text.extend_from_slice(b"note: the kernel returned ENOENT"),
+        Diagnostic::Invalid => text.extend_from_slice(b"note: the kernel returned EINVAL"),
+        Diagnostic::Interrupted => text.extend_from_slice(b"dump interrupted (NLM_F_DUMP_INTR)"),
+        Diagnostic::Lost => text.extend_from_slice(b"the kernel lost data"),
+        Diagnostic::NoNumber => {
+            text.extend_from_slice(b"the kernel's answer has no error number")
         }
     }
 }
 
-/// The name of a record that is shown as by its `Display`.
+/// A text with up to two numbers.
 #[derive(Clone, Copy)]
-struct RecordText<'a>(&'a RecordName);
+enum Sentence {
+    /// A text.
+    Plain(&'static [u8]),
+    /// A number between two texts.
+    One(&'static [u8], u64, &'static [u8]),
+    /// Two numbers, with a text before, between and after them.
+    Two(&'static [u8], u64, &'static [u8], u64, &'static [u8]),
+}
 
-impl fmt::Display for RecordText<'_> {
-    ghost output = { λ it. Some (record_text it.0.now) };
+/// Appends the text of a decode error, which is that of its `Display`.
+pub fn push_decode_error(text: &mut Vec<u8>, error: &DecodeError) -> Result<(), AllocError>
+    ensures { OnOk result (text.new.items ≡ text.old.items ++ decode_error_text error.now) }
+{
+    push_subject(text, error)?;
+    push_sentence(text, sentence_of(error))
+}
 
-    fn fmt<W: fmt::Write>(&self, f: &mut fmt::Formatter<W>) -> fmt::Result {
-        match self.0 {
-            RecordName::SocketId => write!(f, "SocketId"),
-            RecordName::InetRequest => write!(f, "InetRequest"),
-            RecordName::InetResponseHeader => write!(f, "InetResponseHeader"),
-            RecordName::UnixRequest => write!(f, "UnixRequest"),
-            RecordName::UnixResponseHeader => write!(f, "UnixResponseHeader"),
-            RecordName::LegacyMemInfo => write!(f, "LegacyMemInfo"),
-            RecordName::MemInfo => write!(f, "MemInfo"),
-            RecordName::TcpInfo => write!(f, "TcpInfo"),
-            RecordName::Vfs => write!(f, "Vfs"),
-            RecordName::UnixMemInfo => write!(f, "UnixMemInfo"),
-            RecordName::FamilyRequest { family } => {
-                write!(f, "FamilyRequest {{ family: {family} }}")
-            }
-            RecordName::FamilyResponseHeader { family } => {
-                write!(f, "FamilyResponseHeader {{ family: {family} }}")
-            }
-            RecordName::FamilyAttribute { family, kind } => {
-                write!(f, "FamilyAttribute {{ family: {family}, kind: {kind} }}")
-            }
+/// Appends the name of the record that an error is about, if it names one.
+fn push_subject(text: &mut Vec<u8>, error: &DecodeError) -> Result<(), AllocError>
+    ensures { OnOk result (text.new.items ≡ text.old.items ++ subject_text error.now) }
+{
+    match error {
+        DecodeError::BufferTooSmall { which, .. } => push_sentence(text, name_of_record(which)),
+        _ => Ok(()),
+    }
+}
+
+/// Appends a sentence.
+fn push_sentence(text: &mut Vec<u8>, sentence: Sentence) -> Result<(), AllocError>
+    ensures { OnOk result (text.new.items ≡ text.old.items ++ sentence_text sentence) }
+{
+    match sentence {
+        Sentence::Plain(words) => text.extend_from_slice(words),
+        Sentence::One(before, number, after) => push_between(text, before, number, after),
+        Sentence::Two(before, first, between, second, after) => {
+            push_two(text, before, first, between, second, after)
         }
     }
+}
+
+/// Returns the text of a decode error, without the name of the record that it is about.
+fn sentence_of(error: &DecodeError) -> Sentence
+    ensures { subject_text error.now ++ sentence_text result ≡ decode_error_text error.now }
+{
+    match *error {
+        DecodeError::Memory => Sentence::Plain(b"out of memory"),
+        DecodeError::BufferTooSmall { got, need, .. } => Sentence::Two(
+            b": buffer of ",
+            got as u64,
+            b" bytes, at least ",
+            need as u64,
+            b" needed",
+        ),
+        DecodeError::UnsupportedFamily { family } => Sentence::One(
+            b"unsupported address family ",
+            family as u64,
+            b": expected AF_INET (2) or AF_INET6 (10)",
+        ),
+        DecodeError::MessageTooShort { got } => Sentence::One(
+            b"invalid buffer: length is ",
+            got as u64,
+            b" but packets are at least 2 bytes",
+        ),
+        DecodeError::UnknownFamily { family } => {
+            Sentence::One(b"unknown address family ", family as u64, b"")
+        }
+        DecodeError::UnknownMessageType { message_type } => {
+            Sentence::One(b"unknown message type ", message_type as u64, b"")
+        }
+        DecodeError::AttributeHeaderCut { left } => {
+            Sentence::One(b"attribute header cut: ", left as u64, b" bytes left")
+        }
+        DecodeError::AttributeLengthUnder4 { length } => {
+            Sentence::One(b"attribute length ", length as u64, b" is under 4")
+        }
+        DecodeError::AttributeLengthPast { length, left } => Sentence::Two(
+            b"attribute length ",
+            length as u64,
+            b" is past the ",
+            left as u64,
+            b" bytes left",
+        ),
+        DecodeError::WrongLength { got, need, .. } => Sentence::Two(
+            b"value of ",
+            got as u64,
+            b" bytes, ",
+            need as u64,
+            b" needed",
+        ),
+        DecodeError::NotMultipleOfFour { got } => {
+            Sentence::One(b"value of ", got as u64, b" bytes is no multiple of 4")
+        }
+        DecodeError::NotUtf8 => Sentence::Plain(b"text is not UTF-8"),
+        DecodeError::NameEmpty => Sentence::Plain(b"name is empty"),
+        DecodeError::NameInnerZero { index } => {
+            Sentence::One(b"pathname holds a zero at ", index as u64, b"")
+        }
+        DecodeError::NameWithoutEnd => Sentence::Plain(b"pathname is not null-terminated"),
+        DecodeError::EnvelopeCut { got } => {
+            Sentence::One(b"message header cut: ", got as u64, b" bytes")
+        }
+        DecodeError::EnvelopeLengthUnder16 { length } => {
+            Sentence::One(b"message length ", length as u64, b" is under 16")
+        }
+        DecodeError::EnvelopeLengthPast { length, got } => Sentence::Two(
+            b"message length ",
+            length as u64,
+            b" is past the ",
+            got as u64,
+            b" bytes given",
+        ),
+    }
+}
+
+/// Returns the name of a record.
+fn name_of_record(name: &RecordName) -> Sentence
+    ensures { sentence_text result ≡ record_text name.now }
+{
+    match *name {
+        RecordName::SocketId => Sentence::Plain(b"SocketId"),
+        RecordName::InetRequest => Sentence::Plain(b"InetRequest"),
+        RecordName::InetResponseHeader => Sentence::Plain(b"InetResponseHeader"),
+        RecordName::UnixRequest => Sentence::Plain(b"UnixRequest"),
+        RecordName::UnixResponseHeader => Sentence::Plain(b"UnixResponseHeader"),
+        RecordName::LegacyMemInfo => Sentence::Plain(b"LegacyMemInfo"),
+        RecordName::MemInfo => Sentence::Plain(b"MemInfo"),
+        RecordName::TcpInfo => Sentence::Plain(b"TcpInfo"),
+        RecordName::Vfs => Sentence::Plain(b"Vfs"),
+        RecordName::UnixMemInfo => Sentence::Plain(b"UnixMemInfo"),
+        RecordName::FamilyRequest { family } => {
+            Sentence::One(b"FamilyRequest { family: ", family as u64, b" }")
+        }
+        RecordName::FamilyResponseHeader { family } => {
+            Sentence::One(b"FamilyResponseHeader { family: ", family as u64, b" }")
+        }
+        RecordName::FamilyAttribute { family, kind } => Sentence::Two(
+            b"FamilyAttribute { family: ",
+            family as u64,
+            b", kind: ",
+            kind as u64,
+            b" }",
+        ),
+    }
+}
+
+/// Appends a number and then a text.
+fn push_ended(text: &mut Vec<u8>, number: u64, after: &[u8]) -> Result<(), AllocError>
+    ensures { OnOk result (text.new.items ≡ text.old.items ++ (decimal number ++ after.now)) }
+{
+    push_number(text, number)?;
+    text.extend_from_slice(after)
+}
+
+/// Appends a number between two texts.
+#[tactic(auto, using(crate::proofs::Adding::appended_texts_concatenate))]
+fn push_between(
+    text: &mut Vec<u8>,
+    before: &[u8],
+    number: u64,
+    after: &[u8],
+) -> Result<(), AllocError>
+    ensures { OnOk result (text.new.items
+        ≡ text.old.items ++ (before.now ++ (decimal number ++ after.now))) }
+{
+    text.extend_from_slice(before)?;
+    push_ended(text, number, after)
+}
+
+/// Appends two numbers, with a text before, between and after them.
+#[tactic(auto, using(crate::proofs::Adding::sentence_continues))]
+fn push_two(
+    text: &mut Vec<u8>,
+    before: &[u8],
+    first: u64,
+    between: &[u8],
+    second: u64,
+    after: &[u8],
+) -> Result<(), AllocError>
+    ensures { OnOk result (text.new.items ≡ text.old.items
+        ++ (before.now ++ (decimal first ++ (between.now ++ (decimal second ++ after.now))))) }
+{
+    push_between(text, before, first, between)?;
+    push_ended(text, second, after)
 }

@@ -8,7 +8,7 @@ ghost use Rattle.sock_diag_captures.specs.Table.{family_name, inet_kind, unix_ki
 
 use netlink_core::DecodeError;
 use sock_diag_records::constants::{AF_INET6, SOCK_DGRAM, SOCK_RAW, SOCK_SEQPACKET, SOCK_STREAM};
-use sslist_options::Family;
+use sslist_options::{Family, IPPROTO_MPTCP, IPPROTO_TCP, IPPROTO_UDP};
 
 /// Returns the kind of a UNIX socket, by its type `SOCK_..`, as ss(8) prints it.
 pub(crate) fn name_of_unix_kind(kind: u8) -> &'static str
@@ -28,13 +28,13 @@ pub(crate) fn name_of_inet_kind(protocol: Option<u32>, family: u8) -> &'static s
     ensures { result.now ≡ inet_kind protocol family }
 {
     match protocol {
-        Some(6) => "tcp",
-        Some(17) => "udp",
+        Some(IPPROTO_TCP) => "tcp",
+        Some(IPPROTO_UDP) => "udp",
         Some(33) => "dccp",
         Some(132) => "sctp",
         Some(136) => "udplite",
         Some(255) => "raw",
-        Some(262) => "mptcp",
+        Some(IPPROTO_MPTCP) => "mptcp",
         _ => name_of_inet_family(family),
     }
 }

@@ -1,11 +1,9 @@
 //! Lists the sockets in a capture of netlink traffic, as ss(8) lists those of a running system.
 #![tactic(auto)]
 
-ghost use Rattle.std.specs.Prelude.{◌≡◌, ◌↔◌, ◌++◌, Bool, true};
-ghost use Rattle.std.specs.Prelude.{MatchResult, Result, ⊤};
+ghost use Rattle.std.specs.Prelude.{◌≡◌, ◌↔◌, ◌++◌, Bool, MatchResult, Result, true};
 ghost use Rattle.std.specs.Process.{exit_status};
-ghost use Rattle.std.specs.Io.KnownBytes.{IsAtEnd};
-ghost use Rattle.sock_diag_listing.specs.Reports.{ReportsText, ReportsMore, WritesPrefix};
+ghost use Rattle.sock_diag_listing.specs.Reports.{ReportsText, ReportsMore};
 ghost use Rattle.sock_diag_listing.specs.Reports.{closing_line};
 ghost use Rattle.program_streams.specs.declared.streams.WriteError.{WriteError};
 ghost use Rattle.sock_diag_listing.specs.declared.list_error.ListError.{ListError};
@@ -41,14 +39,14 @@ mod tcp;
 mod ulp_info;
 mod ulp_names;
 
+pub use error_text::push_decode_error;
 pub use headings::heading;
 pub use line::HEADING;
-pub use list::{Diagnostic, list_packet};
+pub use list::list_packet;
 pub use netlink_captures::{
     ByteOrder, CaptureError, Compression, FileHeader, Packet, PacketHeader, TimeUnit,
 };
-use program_streams::Source;
-pub use program_streams::{ReadError, Sink, WriteError, send};
+pub use program_streams::{ReadError, Sink, Source, WriteError, send};
 pub use requests::{Query, Requests};
 use sock_diag_listing::reports::report_failure;
 pub use sock_diag_listing::{ListError, PacketOutput, escaped};
@@ -57,10 +55,8 @@ pub use sslist_options::{
     SocketFilter, choose, list_captures, names_several,
 };
 use std::alloc::Global;
-use std::io::{Read, Write};
 use std::process::ExitCode;
 pub use stream::run;
-use stream::write_table;
 
 /// Version of the program, equal to the file `VERSION` of the repository.
 pub const VERSION: &str = "1.0.0";
@@ -138,7 +134,7 @@ Exit status:
 /// the run fails. The line begins with `front` and names the failure. A closed output pipe has no
 /// line. Returns the exit status: 0 if the whole capture was listed completely, and 1 if the
 /// run failed or a packet had an error.
-pub fn run_to_status<R: Read, W: Write, E: Write>(
+pub fn run_to_status<R: Source, W: Sink, E: Sink>(
     alloc: Global,
     options: Options,
     front: &str,
@@ -147,42 +143,12 @@ pub fn run_to_status<R: Read, W: Write, E: Write>(
     output: &mut W,
     errors: &mut E,
 ) -> ExitCode
-    // R.remaining: the bytes that remain to be read, if known. Status 0: the input is at its end.
-    ensures ended { exit_status result ≡ 0 → IsAtEnd (R.remaining input.new) }
-    // Status 0: the whole capture was read, each packet was listed completely, and the table
-    // was written. W.contents, E.contents: the bytes written, if known.
-    ensures whole { exit_status result ≡ 0 → Finishes options (R.remaining input.old)
-        (R.remaining input.new) (W.contents output.old) (W.contents output.new) heading.now
-        front.now (WritesPrefix (E.contents errors.old) (E.contents errors.new)) true }
-    // The status is 0 if and only if the whole capture was listed completely. Otherwise it is
-    // 1. On `errors` are the diagnostics and the line that names the failure, or a prefix of this
-    // text. λ _. ⊤: a standard reader does not report failed reads, so `Read` is always possible.
-    ensures outcome { (outcome : Result Bool ListError)
-        × ((exit_status result ≡ 0) ↔ (outcome ≡ Ok true))
-        × ((exit_status result ≡ 1) ↔ ¬ (outcome ≡ Ok true))
-        × MatchResult outcome
-        (Finishes options (R.remaining input.old) (R.remaining input.new) (W.contents output.old)
-        (W.contents output.new) heading.now front.now
-        (WritesPrefix (E.contents errors.old) (E.contents errors.new)))
-        (λ e. Fails options (R.remaining input.old) (R.remaining input.new)
-        (W.contents output.old) (W.contents output.new) heading.now front.now
-        (λ diagnostics. WritesPrefix (E.contents errors.old) (E.contents errors.new)
-        (diagnostics ++ closing_line front.now e)) (λ _. ⊤) e) }
-{
-    list_to_status(alloc, options, front, heading, input, output, errors)
-}
-
-/// Does the same as `run_to_status`, for streams that report which calls failed.
-fn list_to_status<R: Source, W: Sink, E: Sink>(
-    alloc: Global,
-    options: Options,
-    front: &str,
-    heading: &[u8],
-    input: &mut R,
-    output: &mut W,
-    errors: &mut E,
-) -> ExitCode
-    ensures ended { exit_status result ≡ 0 → IsAtEnd (R.left input.new) }
+    // The status is 0 if and only if the whole capture was listed completely: `Finishes .. true`.
+    // Then the input is at its end, and the table was written. Otherwise the status is 1. On
+    // `errors` are the diagnostics and the line that names the failure, or a prefix of this text
+    // if a write failed there (`is_open` is false). R.left: the bytes that are left to read, if
+    // known. W.held, E.held: the bytes written, if known. R.failed, E.failed: a read or a write
+    // failed with this error.
     ensures outcome { (outcome : Result Bool ListError) × (is_open : Bool)
         × ((exit_status result ≡ 0) ↔ (outcome ≡ Ok true))
         × ((exit_status result ≡ 1) ↔ ¬ (outcome ≡ Ok true))
@@ -198,7 +164,7 @@ fn list_to_status<R: Source, W: Sink, E: Sink>(
         (diagnostics ++ closing_line front.now e) is_open) (R.failed input.new) e) }
 {
     let mut is_open = true;
-    let outcome = write_table(
+    let outcome = run(
         alloc,
         options,
         front,

@@ -35,7 +35,7 @@ use sock_diag_attributes::unix::nlas::{NameView, NlaView};
 use sock_diag_extras::constants::UNIX_DIAG_UID;
 use sock_diag_extras::parse_uid;
 use sock_diag_listing::cells::{
-    Cells, push_endpoint, push_endpoint_column, push_first_columns, push_peer,
+    Cells, push_endpoint, push_endpoint_column, push_first_columns, push_number_or_star,
 };
 use sock_diag_listing::parts::{NO_TIMER, TimerFields};
 use sock_diag_records::constants::{
@@ -44,7 +44,7 @@ use sock_diag_records::constants::{
 };
 use sock_diag_records::inet::{INET_RESPONSE_HEADER_LEN, InetResponseHeader};
 use sock_diag_records::unix::{UNIX_RESPONSE_HEADER_LEN, UnixResponseHeader};
-use sslist_options::Options;
+use sslist_options::{IPPROTO_MPTCP, IPPROTO_TCP, Options};
 use std::alloc::AllocError;
 
 /// Heading of the table.
@@ -53,6 +53,9 @@ pub const HEADING: &[u8] =
 
 /// Width of the column of the local address, in bytes.
 pub(crate) const LOCAL: usize = 30;
+
+/// No interface: an interface is shown after the local address only.
+const NO_INTERFACE: u32 = 0;
 
 /// Appends the lines of a message of this type. Returns its decode error, if it has one: it is not
 /// a reply, or its header is invalid, or bytes after the header are not an attribute. `list` is the
@@ -169,7 +172,7 @@ fn push_unix_line(
     let cells = unix_cells(header, queues_in(found), user_in(found));
     push_first_columns(text, &cells)?;
     push_name_column(text, LOCAL, options.utf8, name_in(found))?;
-    push_peer(text, peer_in(found))
+    push_number_or_star(text, peer_in(found))
 }
 
 /// Returns the first columns of a UNIX socket, whose queues have these lengths. For a listening
@@ -354,8 +357,8 @@ fn info_of(protocol: Option<u32>) -> Info
     ensures { result ≡ info_of_protocol protocol }
 {
     match protocol {
-        Some(6) => Info::Tcp,
-        Some(262) => Info::Mptcp,
+        Some(IPPROTO_TCP) => Info::Tcp,
+        Some(IPPROTO_MPTCP) => Info::Mptcp,
         _ => Info::Unknown,
     }
 }
@@ -377,7 +380,12 @@ fn push_inet_line(
         id.interface_id,
         id.source_port,
     )?;
-    push_endpoint(text, id.destination_address, 0, id.destination_port)
+    push_endpoint(
+        text,
+        id.destination_address,
+        NO_INTERFACE,
+        id.destination_port,
+    )
 }
 
 /// Returns the first columns of an IPv4 or IPv6 socket.

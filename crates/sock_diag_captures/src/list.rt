@@ -7,7 +7,7 @@ ghost use Rattle.sock_diag_captures.specs.Diagnostics.{DiagnosesMessages, Diagno
 ghost use Rattle.sock_diag_captures.specs.Diagnostics.{interrupted_diagnostic, diagnostic_line};
 ghost use Rattle.sock_diag_captures.specs.Diagnostics.{diagnostic_text, explained_line, end_line};
 ghost use Rattle.sock_diag_captures.specs.Diagnostics.{is_cut, lines_about_message};
-ghost use Rattle.sock_diag_captures.specs.Diagnostics.{message_line, short_line_if_whole};
+ghost use Rattle.sock_diag_captures.specs.Diagnostics.{line_start, short_line_if_whole};
 ghost use Rattle.sock_diag_captures.specs.Explanation.{explanation};
 ghost use Rattle.sock_diag_captures.specs.Listing.{ListsMessages, ListsDatagram, ListsPacket};
 ghost use Rattle.sock_diag_captures.specs.Listing.{ListsCapturedPacket, requests_after_packet};
@@ -20,7 +20,7 @@ ghost use Rattle.sock_diag_captures.specs.Messages.{message_parts};
 ghost use Rattle.sock_diag_captures.specs.Requests.{past_requests};
 ghost use Rattle.sock_diag_captures.specs.declared.list.Diagnostic.TheVariants.{Refused};
 
-use crate::error_text::DecodeErrorText;
+use crate::error_text::push_diagnostic_text;
 use crate::explanation::push_explanation;
 use crate::headings::push_list_heading;
 use crate::line::push_reply;
@@ -35,8 +35,6 @@ use sock_diag_listing::PacketOutput;
 use sock_diag_listing::output::{push_short, push_truncation};
 use sslist_options::Options;
 use std::alloc::AllocError;
-use std::error::Error;
-use std::fmt;
 use std::io::Write;
 
 /// `ENOENT` of errno(3).
@@ -46,8 +44,8 @@ const ENOENT: u32 = 2;
 const EINVAL: u32 = 22;
 
 /// A diagnostic of a message.
-#[derive(Debug, Drop, PartialEq, Eq)]
-pub enum Diagnostic {
+#[derive(Drop)]
+pub(crate) enum Diagnostic {
     /// The message is invalid, with this decode error.
     Refused(DecodeError),
     /// The kernel answered with an error or ended a dump with one. This is its number in errno(3).
@@ -67,30 +65,9 @@ pub enum Diagnostic {
     NoNumber,
 }
 
-impl fmt::Display for Diagnostic {
-    ghost output = { λ diagnostic. Some (diagnostic_text diagnostic) };
-
-    fn fmt<W: fmt::Write>(&self, f: &mut fmt::Formatter<W>) -> fmt::Result {
-        match self {
-            Diagnostic::Refused(error) => {
-                let text = DecodeErrorText(error);
-                write!(f, "{text}")
-            }
-            Diagnostic::Answered(errno) => write!(f, "the kernel returned error {errno}"),
-            Diagnostic::NoEntry => write!(f, "note: the kernel returned ENOENT"),
-            Diagnostic::Invalid => write!(f, "note: the kernel returned EINVAL"),
-            Diagnostic::Interrupted => write!(f, "dump interrupted (NLM_F_DUMP_INTR)"),
-            Diagnostic::Lost => write!(f, "the kernel lost data"),
-            Diagnostic::NoNumber => write!(f, "the kernel's answer has no error number"),
-        }
-    }
-}
-
-impl Error for Diagnostic {}
-
 /// Position of a diagnostic: the number of the packet in the capture, and of the message in the
 /// packet. Both start at 1.
-#[derive(Clone, Copy, Debug, PartialEq, Eq)]
+#[derive(Clone, Copy)]
 struct Position {
     packet: u64,
     message: u64,
@@ -475,6 +452,7 @@ fn push_explained_diagnostic(
 }
 
 /// Appends the line of a diagnostic, with what the message explains.
+#[tactic(auto, using(crate::proofs::Adding::three_texts_concatenate))]
 fn push_explained_line(
     written: &mut PacketOutput<'_>,
     position: Position,
@@ -487,20 +465,26 @@ fn push_explained_line(
         (Some diagnostic.now) (explanation (message_parts explained.now))) }
     ensures front { written.new.front ≡ written.old.front }
 {
-    let front = written.front;
-    let Position { packet, message } = position;
-    match write!(
-        written.diagnostics,
-        "{front}packet {packet}, message {message}: {diagnostic}"
-    ) {
-        Ok(()) => {}
-        Err(_) => return Err(AllocError),
-    }
-    push_explanation(&mut written.diagnostics, explained)?;
+    push_line_start(written, position)?;
+    push_explained_text(&mut written.diagnostics, diagnostic, explained)?;
     Ok(written.diagnostics.push(b'\n')?)
 }
 
+/// Appends the text of a diagnostic, and what the message explains.
+fn push_explained_text(
+    text: &mut Vec<u8>,
+    diagnostic: &Diagnostic,
+    explained: &Message<'_>,
+) -> Result<(), AllocError>
+    ensures { OnOk result (text.new.items ≡ text.old.items
+        ++ (diagnostic_text diagnostic.now ++ explanation (message_parts explained.now))) }
+{
+    push_diagnostic_text(text, diagnostic)?;
+    push_explanation(text, explained)
+}
+
 /// Appends the line of a diagnostic.
+#[tactic(auto, using(crate::proofs::Adding::three_texts_concatenate))]
 fn push_diagnostic(
     written: &mut PacketOutput<'_>,
     position: Position,
@@ -508,14 +492,27 @@ fn push_diagnostic(
 ) -> Result<(), AllocError>
     ensures lines { OnOk result (written.new.lines.items ≡ written.old.lines.items) }
     ensures diagnostics { OnOk result (written.new.diagnostics.items ≡ written.old.diagnostics.items
-        ++ message_line written.old.front.now position.packet position.message diagnostic.now) }
+        ++ diagnostic_line written.old.front.now position.packet position.message
+        (Some diagnostic.now)) }
+    ensures front { written.new.front ≡ written.old.front }
+{
+    push_line_start(written, position)?;
+    push_diagnostic_text(&mut written.diagnostics, diagnostic)?;
+    Ok(written.diagnostics.push(b'\n')?)
+}
+
+/// Appends the start of a line about a message.
+fn push_line_start(written: &mut PacketOutput<'_>, position: Position) -> Result<(), AllocError>
+    ensures lines { OnOk result (written.new.lines.items ≡ written.old.lines.items) }
+    ensures diagnostics { OnOk result (written.new.diagnostics.items ≡ written.old.diagnostics.items
+        ++ line_start written.old.front.now position.packet position.message) }
     ensures front { written.new.front ≡ written.old.front }
 {
     let front = written.front;
     let Position { packet, message } = position;
-    match writeln!(
+    match write!(
         written.diagnostics,
-        "{front}packet {packet}, message {message}: {diagnostic}"
+        "{front}packet {packet}, message {message}: "
     ) {
         Ok(()) => Ok(()),
         Err(_) => Err(AllocError),

@@ -34,7 +34,7 @@ use sock_diag_families::netlink::NetlinkResponseHeader;
 use sock_diag_families::packet::{PACKET_DIAG_INFO, PACKET_DIAG_UID, PacketResponseHeader};
 use sock_diag_families::vsock::{AF_VSOCK, VsockResponseHeader};
 use sock_diag_families::xdp::{AF_XDP, XDP_DIAG_INFO, XDP_DIAG_UID, XdpResponseHeader};
-use sock_diag_listing::cells::{Cells, end_column, push_first_columns, push_peer};
+use sock_diag_listing::cells::{Cells, end_column, push_first_columns, push_number_or_star};
 use sock_diag_listing::parts::NO_TIMER;
 use sock_diag_records::constants::{AF_NETLINK, AF_PACKET, TCP_CLOSE};
 use sslist_options::{Family, Options};
@@ -251,32 +251,33 @@ fn user_kind(family: Family) -> Option<u16>
 }
 
 /// Appends the column of the local address.
-fn push_local(text: &mut Vec<u8>, end: Numbers) -> Result<(), AllocError>
-    ensures { OnOk result (text.new.items ≡ text.old.items ++ column 30 (numbers_text end)) }
+fn push_local(text: &mut Vec<u8>, address: Numbers) -> Result<(), AllocError>
+    ensures { OnOk result (text.new.items ≡ text.old.items
+        ++ column LOCAL (numbers_text address)) }
 {
     let start = text.len();
-    push_numbers(text, end)?;
+    push_numbers(text, address)?;
     end_column(text, start, LOCAL)
 }
 
 /// Appends an address, or `*` for `None`.
-fn push_end(text: &mut Vec<u8>, end: Option<Numbers>) -> Result<(), AllocError>
-    ensures { OnOk result (text.new.items ≡ text.old.items ++ optional_numbers_text end) }
+fn push_end(text: &mut Vec<u8>, address: Option<Numbers>) -> Result<(), AllocError>
+    ensures { OnOk result (text.new.items ≡ text.old.items ++ optional_numbers_text address) }
 {
-    match end {
-        Some(end) => push_numbers(text, end),
+    match address {
+        Some(address) => push_numbers(text, address),
         None => Ok(text.push(b'*')?),
     }
 }
 
 /// Appends both numbers of an address, separated by a colon. A number that is `None` is `*`.
-fn push_numbers(text: &mut Vec<u8>, end: Numbers) -> Result<(), AllocError>
-    ensures { OnOk result (text.new.items ≡ text.old.items ++ numbers_text end) }
+fn push_numbers(text: &mut Vec<u8>, address: Numbers) -> Result<(), AllocError>
+    ensures { OnOk result (text.new.items ≡ text.old.items ++ numbers_text address) }
 {
-    let (first, second) = end;
-    push_peer(text, first)?;
+    let (first, second) = address;
+    push_number_or_star(text, first)?;
     text.push(b':')?;
-    push_peer(text, second)
+    push_number_or_star(text, second)
 }
 
 /// Returns the `u32` at an offset of the value of the first valid attribute of a kind. Returns

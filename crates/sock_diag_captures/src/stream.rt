@@ -1,8 +1,7 @@
 //! The table of a capture. Each packet is listed before the next one is read.
 
-ghost use Rattle.std.specs.Prelude.{◌≡◌, OnOk, IfErr, IfOk, ⊤};
-ghost use Rattle.std.specs.Io.KnownBytes.{IsAtEnd};
-ghost use Rattle.sock_diag_listing.specs.Reports.{ReportsMore, WritesPrefix};
+ghost use Rattle.std.specs.Prelude.{◌≡◌, OnOk, IfErr, IfOk};
+ghost use Rattle.sock_diag_listing.specs.Reports.{ReportsMore};
 ghost use Rattle.program_streams.specs.declared.streams.WriteError.{WriteError};
 ghost use Rattle.sock_diag_captures.specs.Run.{Fails, Finishes};
 
@@ -15,52 +14,20 @@ use sock_diag_listing::reports::report;
 use sock_diag_listing::{ListError, PacketOutput};
 use sslist_options::Options;
 use std::alloc::Global;
-use std::io::{Read, Write};
 
 /// Writes the table of a capture: `heading`, and the lines of each packet before the next one is
-/// read. Writes diagnostics on `errors`. Each begins with `front`. If a write on `errors` fails,
-/// nothing more is written there. Returns whether all packets were listed completely.
+/// read. Then flushes. Writes the diagnostics on `errors`, each line with the prefix `front`, as
+/// long as `is_open` is set. If a write on `errors` fails, clears `is_open`, and writes nothing
+/// more there. Returns whether all packets were listed completely.
 ///
 /// If it fails, nothing was written if the capture could not be opened (`Header`). If a packet
 /// could not be read (`Packet`) or an allocation failed (`Memory`), the packets before it were
 /// listed. If a write or the final flush failed (`Write`), a prefix of the table was
 /// written.
-pub fn run<R: Read, W: Write, E: Write>(
-    alloc: Global,
-    options: Options,
-    front: &str,
-    heading: &[u8],
-    input: &mut R,
-    output: &mut W,
-    errors: &mut E,
-) -> Result<bool, ListError>
-    // R.remaining: the bytes that remain to be read, if known.
-    ensures ended { OnOk result (IsAtEnd (R.remaining input.new)) }
-    // W.contents, E.contents: the bytes written, if known. A prefix of the diagnostics was written.
-    ensures table { IfOk result (Finishes options (R.remaining input.old) (R.remaining input.new)
-        (W.contents output.old) (W.contents output.new) heading.now front.now
-        (WritesPrefix (E.contents errors.old) (E.contents errors.new))) }
-    // λ _. ⊤: a standard reader does not report failed reads, so `Read` is always possible.
-    ensures failed { IfErr result (Fails options (R.remaining input.old) (R.remaining input.new)
-        (W.contents output.old) (W.contents output.new) heading.now front.now
-        (WritesPrefix (E.contents errors.old) (E.contents errors.new)) (λ _. ⊤)) }
-{
-    let mut is_open = true;
-    write_table(
-        alloc,
-        options,
-        front,
-        heading,
-        input,
-        output,
-        errors,
-        &mut is_open,
-    )
-}
-
-/// Does the same as `run`, for streams that report which calls failed. Writes diagnostics if
-/// `is_open` is set. If a write on `errors` fails, clears `is_open`.
-pub(crate) fn write_table<R: Source, W: Sink, E: Sink>(
+///
+/// The streams are those of std, or others that record their failed calls. Streams of std record
+/// none, so the clauses about failed calls say nothing of them.
+pub fn run<R: Source, W: Sink, E: Sink>(
     alloc: Global,
     options: Options,
     front: &str,
@@ -70,17 +37,20 @@ pub(crate) fn write_table<R: Source, W: Sink, E: Sink>(
     errors: &mut E,
     is_open: &mut bool,
 ) -> Result<bool, ListError>
-    ensures ended { OnOk result (IsAtEnd (R.left input.new)) }
-    ensures flushed { OnOk result (W.flushed output.new) }
+    // R.left: the bytes that are left to read, if known. W.held, E.held: the bytes written, if
+    // known. The type after it: a write failed.
     ensures table { IfOk result (Finishes options (R.left input.old) (R.left input.new)
         (W.held output.old) (W.held output.new) heading.now front.now
         (ReportsMore (E.held errors.old) ((e : WriteError) × E.failed errors.old e) is_open.old
         (E.held errors.new) ((e : WriteError) × E.failed errors.new e) is_open.new)) }
+    ensures flushed { OnOk result (W.flushed output.new) }
+    // R.failed: a read failed with this error.
     ensures failed { IfErr result (Fails options (R.left input.old) (R.left input.new)
         (W.held output.old) (W.held output.new) heading.now front.now
         (ReportsMore (E.held errors.old) ((e : WriteError) × E.failed errors.old e) is_open.old
         (E.held errors.new) ((e : WriteError) × E.failed errors.new e) is_open.new)
         (R.failed input.new)) }
+    // W.failed: a write or a flush failed with this error.
     ensures cause { IfErr result (λ e. (error : WriteError) → e ≡ ListError.Write error
         → W.failed output.new error) }
 {

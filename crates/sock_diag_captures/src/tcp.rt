@@ -4,8 +4,9 @@
 ghost use Rattle.std.specs.Prelude.{◌≡◌, ◌++◌, OnOk, flat_map, map, option_map};
 ghost use Rattle.sock_diag_captures.specs.Facts.{Shows};
 ghost use Rattle.sock_diag_captures.specs.Tcp.{bits_of, bytes_at, field_facts, field_in};
-ghost use Rattle.sock_diag_captures.specs.Tcp.{has_scales, info_of, mptcp_info, mptcp_rows};
-ghost use Rattle.sock_diag_captures.specs.Tcp.{number_in, row_facts, tcp_info, tcp_rows};
+ghost use Rattle.sock_diag_captures.specs.Tcp.{has_scales, mptcp_info, mptcp_rows, number_in};
+ghost use Rattle.sock_diag_captures.specs.Tcp.{row_facts, tcp_fields, tcp_info, tcp_metric_rows};
+ghost use Rattle.sock_diag_captures.specs.Tcp.{tcp_rate_rows, tcp_state_rows};
 
 use crate::facts::{FactSink, Shown};
 use byteorder::{ByteOrder, LittleEndian};
@@ -81,8 +82,9 @@ macro_rules! flag {
 /// Offset of `tcpi_options` in bytes.
 const OPTIONS: usize = 5;
 
-/// The facts of `struct tcp_info`, in the order of its members.
-static TCP_ROWS: [FieldRow; 76] = [
+/// The facts of the first eight bytes of `struct tcp_info`: the state, the options and the window
+/// scales.
+static TCP_STATE_ROWS: [FieldRow; 16] = [
     hidden!(0, Byte, "state"),
     hidden!(1, Byte, "ca_state"),
     hidden!(2, Byte, "retransmits"),
@@ -105,6 +107,10 @@ static TCP_ROWS: [FieldRow; 76] = [
         Some("delivery_rate_app_limited")
     ),
     hidden!(7, NextTwo, "fastopen_client_fail"),
+];
+
+/// The facts of the times and metrics in `struct tcp_info`, up to `tcpi_total_retrans`.
+static TCP_METRIC_ROWS: [FieldRow; 24] = [
     shown!(8, Four, b" rto:", "rto"),
     shown!(12, Four, b" ato:", "ato"),
     shown!(16, Four, b" mss:", "snd_mss"),
@@ -135,6 +141,10 @@ static TCP_ROWS: [FieldRow; 76] = [
     shown!(92, Four, b" rcv_rtt:", "rcv_rtt"),
     shown!(96, Four, b" rcv_space:", "rcv_space"),
     shown!(100, Four, b" retrans:", "total_retrans"),
+];
+
+/// The facts of the rates and counters in `struct tcp_info`, from `tcpi_pacing_rate` on.
+static TCP_RATE_ROWS: [FieldRow; 36] = [
     shown!(104, Eight, b" pacing_rate:", "pacing_rate"),
     shown!(112, Eight, b" max_pacing_rate:", "max_pacing_rate"),
     shown!(120, Eight, b" bytes_acked:", "bytes_acked"),
@@ -203,29 +213,58 @@ static MPTCP_ROWS: [FieldRow; 26] = [
     shown!(92, Four, b" last_ack_recv:", "last_ack_recv"),
 ];
 
-/// Shows the fields of `struct tcp_info` that the bytes contain.
-#[tactic(auto, unfolding(crate::specs::Tcp::tcp_info))]
+/// Shows the fields of `struct tcp_info` that the bytes contain, as the group `info`.
 pub(crate) fn show_tcp_info<S: FactSink>(sink: &mut S, bytes: &[u8]) -> Result<(), AllocError>
     ensures { Shows S.kept S.content S.items result sink.old sink.new (tcp_info bytes.now) }
 {
-    show_info(sink, bytes, tcp_rows())
+    sink.begin(b"", "info")?;
+    show_tcp_fields(sink, bytes)?;
+    sink.end(b"")
 }
 
-/// Shows the fields of `struct mptcp_info` that the bytes contain.
-#[tactic(auto, unfolding(crate::specs::Tcp::mptcp_info))]
+/// Shows the fields of `struct tcp_info` that the bytes contain.
+fn show_tcp_fields<S: FactSink>(sink: &mut S, bytes: &[u8]) -> Result<(), AllocError>
+    ensures { Shows S.kept S.content S.items result sink.old sink.new (tcp_fields bytes.now) }
+{
+    show_fields(sink, bytes, tcp_state_rows())?;
+    show_fields(sink, bytes, tcp_metric_rows())?;
+    show_fields(sink, bytes, tcp_rate_rows())
+}
+
+/// Shows the fields of `struct mptcp_info` that the bytes contain, as the group `info`.
 pub(crate) fn show_mptcp_info<S: FactSink>(sink: &mut S, bytes: &[u8]) -> Result<(), AllocError>
     ensures { Shows S.kept S.content S.items result sink.old sink.new (mptcp_info bytes.now) }
 {
-    show_info(sink, bytes, mptcp_rows())
+    sink.begin(b"", "info")?;
+    show_fields(sink, bytes, mptcp_rows())?;
+    sink.end(b"")
 }
 
-/// Returns the rows of `struct tcp_info`.
-#[tactic(auto, unfolding(crate::specs::Tcp::tcp_rows))]
-fn tcp_rows() -> &'static [FieldRow]
+/// Returns the rows of the first eight bytes of `struct tcp_info`.
+#[tactic(auto, unfolding(crate::specs::Tcp::tcp_state_rows))]
+fn tcp_state_rows() -> &'static [FieldRow]
     ensures { map (λ row. (row.0, row.1, row.2, row.3.now, option_map (λ m. m.now) row.4))
-        result.now ≡ tcp_rows }
+        result.now ≡ tcp_state_rows }
 {
-    &TCP_ROWS
+    &TCP_STATE_ROWS
+}
+
+/// Returns the rows of the times and metrics in `struct tcp_info`.
+#[tactic(auto, unfolding(crate::specs::Tcp::tcp_metric_rows))]
+fn tcp_metric_rows() -> &'static [FieldRow]
+    ensures { map (λ row. (row.0, row.1, row.2, row.3.now, option_map (λ m. m.now) row.4))
+        result.now ≡ tcp_metric_rows }
+{
+    &TCP_METRIC_ROWS
+}
+
+/// Returns the rows of the rates and counters in `struct tcp_info`.
+#[tactic(auto, unfolding(crate::specs::Tcp::tcp_rate_rows))]
+fn tcp_rate_rows() -> &'static [FieldRow]
+    ensures { map (λ row. (row.0, row.1, row.2, row.3.now, option_map (λ m. m.now) row.4))
+        result.now ≡ tcp_rate_rows }
+{
+    &TCP_RATE_ROWS
 }
 
 /// Returns the rows of `struct mptcp_info`.
@@ -235,16 +274,6 @@ fn mptcp_rows() -> &'static [FieldRow]
         result.now ≡ mptcp_rows }
 {
     &MPTCP_ROWS
-}
-
-/// Shows the group `info`: the facts of these rows.
-fn show_info<S: FactSink>(sink: &mut S, bytes: &[u8], rows: &[FieldRow]) -> Result<(), AllocError>
-    ensures { Shows S.kept S.content S.items result sink.old sink.new (info_of bytes.now
-        (map (λ row. (row.0, row.1, row.2, row.3.now, option_map (λ m. m.now) row.4)) rows.now)) }
-{
-    sink.begin(b"", "info")?;
-    show_fields(sink, bytes, rows)?;
-    sink.end(b"")
 }
 
 /// Shows the facts of these rows, in the order of the rows.

@@ -3,7 +3,7 @@
 
 use netlink_core::{DecodeError, RecordName};
 use sock_diag_captures::{
-    CaptureError, Diagnostic, HEADING, ListError, Options, ReadError, WriteError, run,
+    CaptureError, HEADING, ListError, Options, ReadError, WriteError, push_decode_error, run,
     run_to_status,
 };
 use std::alloc::Global;
@@ -77,12 +77,12 @@ unsupported pcap version 1, expected 2";
     assert!(rt; text.as_str() == want);
 }
 
-/// Checks that the diagnostic of a decode error has the text of its `Display`.
+/// Checks that `sslist` shows a decode error by the text of its `Display`.
 fn has_the_text_of(rt: &impl Abort, alloc: Global, error: DecodeError) {
     let text = format!(in alloc; "{error}").expect(rt, "memory");
-    let diagnostic = Diagnostic::Refused(error);
-    let shown = format!(in alloc; "{diagnostic}").expect(rt, "memory");
-    assert!(rt; shown.as_str() == text.as_str(), "{shown}");
+    let mut shown = Vec::new(alloc);
+    push_decode_error(&mut shown, &error).expect(rt, "memory");
+    assert!(rt; shown.as_slice() == text.as_bytes(), "{text}");
 }
 
 /// Each decode error, and each record that a decode error names.
@@ -144,7 +144,7 @@ fn ends_of_a_run(rt: HostRuntime) {
 07000000090000000000040000000400";
     let mut capture = hex::decode(alloc, headers).expect(&rt, "digits");
     capture.resize(40 + 262_144, 0).expect(&rt, "memory");
-    let (mut output, mut errors) = (taker(alloc), taker(alloc));
+    let (mut output, mut errors, mut is_open) = (taker(alloc), taker(alloc), true);
     let (options, mut input) = (Options::default(), capture.as_slice());
     let outcome = run(
         alloc,
@@ -154,6 +154,7 @@ fn ends_of_a_run(rt: HostRuntime) {
         &mut input,
         &mut output,
         &mut errors,
+        &mut is_open,
     );
     assert!(rt; outcome == Ok(true) && output.is_flushed && output.taken.as_slice() == HEADING);
     output.flush_fails = Some(ErrorKind::Other);
@@ -166,6 +167,7 @@ fn ends_of_a_run(rt: HostRuntime) {
         &mut input,
         &mut output,
         &mut errors,
+        &mut is_open,
     );
     assert!(rt; outcome == Err(ListError::Write(WriteError::Other)));
     // A closed output pipe is not reported.

@@ -5,4 +5,5 @@ pub mod ViewLine
 pub mod DumpLine
 pub mod Answer
 pub mod FailureLine
+pub mod Run
 pub mod private

@@ -2,14 +2,12 @@
 //! sock_diag(7) in hex, and is answered by one line. See docs/LINES.md.
 #![tactic(auto)]
 
-ghost use Rattle.std.specs.Prelude.{◌≡◌, ◌≢◌, ◌⊎◌, ◌-◌, ◌^◌, ◌&&◌, if◌then◌else◌, not, ℕ, Bool};
-ghost use Rattle.std.specs.Prelude.{List, Result, IfSome, IfErr, MatchResult};
+ghost use Rattle.std.specs.Prelude.{◌≡◌, ◌≢◌, ◌⊎◌, ◌-◌, ◌^◌, ◌&&◌, if◌then◌else◌, not, Bool};
+ghost use Rattle.std.specs.Prelude.{Result, IfErr, MatchResult};
 ghost use Rattle.std.specs.Process.{exit_status};
-ghost use Rattle.std.specs.Io.KnownBytes.{Appends, IsAtEnd, Keeps};
-ghost use Rattle.sock_diag_lines.specs.Answer.{IsAnswerOf, is_good};
+ghost use Rattle.std.specs.Io.KnownBytes.{IsAtEnd, Keeps};
 ghost use Rattle.sock_diag_lines.specs.FailureLine.{failure_line};
-ghost use Rattle.program_streams.specs.Lines.{SplitsIntoLines, all_lines};
-ghost use Rattle.program_streams.specs.LineRun.{AnswersInput, answer_lines};
+ghost use Rattle.sock_diag_lines.specs.Run.{Serves, WritesAllAnswers};
 ghost use Rattle.program_streams.specs.Streams.{WritesAllOrFails};
 ghost use Rattle.program_streams.specs.declared.lines.RunError.{RunError};
 ghost use Rattle.program_streams.specs.declared.streams.WriteError.{WriteError};
@@ -54,30 +52,23 @@ pub fn run_to_status<R: PromptRead, W: Sink, E: Sink>(
     requires start { R.reads input.old 0 }
     // If the status is not 1, no bytes of the reader are left, if these are known.
     ensures ended { exit_status result ≢ 1 → IsAtEnd (R.left input.new) }
-    // If the status is not 1, and the bytes of the reader were known at the start, the answers to
-    // all its lines have been written, each followed by a line feed. This holds for any function
-    // `answer` from lines to their answers; there is exactly one.
-    ensures complete { exit_status result ≢ 1 → IfSome (R.left input.old) (λ text.
-        (answer : List ℕ → List ℕ) (whole : List (List ℕ)) (rest : List ℕ)
-        → ((line : List ℕ) → IsAnswerOf line (answer line)) → SplitsIntoLines text whole rest
-        → Appends (W.held output.old) (W.held output.new)
-        (answer_lines answer (all_lines whole rest))) }
+    // If the status is not 1, the answers to all lines have been written.
+    ensures complete { exit_status result ≢ 1
+        → WritesAllAnswers (R.left input.old) (W.held output.old) (W.held output.new) }
     ensures flushed { exit_status result ≢ 1 → W.flushed output.new }
     // If the status is not 1, nothing was written on `errors`, if what had been written there is
     // known.
     ensures silent { exit_status result ≢ 1 → Keeps (E.held errors.old) (E.held errors.new) }
-    // The outcome of the run: whether each answer is good (`is_good`), or the failure.
-    // `AnswersInput` states what was read and written for each outcome. After a failure `errors`
-    // has the line that names it, or a prefix of that line if a write on `errors` failed. `Read`
-    // and `Write` have a cause: a call that failed, or 2^64 - 1 reads.
-    ensures answered { (answer : List ℕ → List ℕ)
-        → ((line : List ℕ) → IsAnswerOf line (answer line))
-        → (outcome : Result Bool RunError)
+    // The outcome of the run: whether each answer is good (`is_good`), or the failure. `Serves`
+    // states what was read and written for each outcome. After a failure `errors` has the line that
+    // names it, or a prefix of that line if a write on `errors` failed. `Read` and `Write` have a
+    // cause: a call that failed, or 2^64 - 1 reads.
+    ensures answered { (outcome : Result Bool RunError)
         × MatchResult outcome
         (λ good. exit_status result ≡ (if is_strict && not good then 3 else 0))
         (λ _. exit_status result ≡ 1)
-        × AnswersInput answer (R.left input.old) (R.left input.new)
-        (W.held output.old) (W.held output.new) is_good outcome
+        × Serves (R.left input.old) (R.left input.new) (W.held output.old) (W.held output.new)
+        outcome
         × IfErr outcome (λ e. WritesAllOrFails (E.held errors.old) (E.held errors.new)
         ((error : WriteError) × E.failed errors.new error) (failure_line e)
         × (e ≡ RunError.Read → R.failed input.new ⊎ R.reads input.new (2 ^ 64 - 1))

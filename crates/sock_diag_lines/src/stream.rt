@@ -1,15 +1,15 @@
 //! Reads lines, and writes their answers.
-ghost use Rattle.std.specs.Prelude.{◌≡◌, ◌⊎◌, ◌-◌, ◌^◌, ℕ, Bool, List, Result, Ok, Err, OnOk};
-ghost use Rattle.std.specs.Prelude.{IfErr, IfSome, MatchResult};
-ghost use Rattle.std.specs.Io.KnownBytes.{Appends, IsAtEnd, Keeps};
-ghost use Rattle.program_streams.specs.Lines.{SplitsIntoLines, all_lines};
-ghost use Rattle.program_streams.specs.LineRun.{AnswersInput, answer_lines};
+
+ghost use Rattle.std.specs.Prelude.{◌≡◌, ◌⊎◌, ◌-◌, ◌^◌, Bool, Result, Ok, Err, IfErr, MatchResult};
+ghost use Rattle.std.specs.Prelude.{OnOk};
+ghost use Rattle.std.specs.Io.KnownBytes.{IsAtEnd, Keeps};
 ghost use Rattle.program_streams.specs.Streams.{WritesAllOrFails};
 ghost use Rattle.program_streams.specs.declared.lines.RunError.{RunError};
 ghost use Rattle.program_streams.specs.declared.streams.WriteError.{WriteError};
 ghost use Rattle.sock_diag_lines.specs.Answer.{IsAnswerOf, is_good};
 ghost use Rattle.sock_diag_lines.specs.private.LineRequest.{IsParsedAs};
 ghost use Rattle.sock_diag_lines.specs.FailureLine.{failure_line};
+ghost use Rattle.sock_diag_lines.specs.Run.{Serves, WritesAllAnswers};
 
 use crate::answer_parts::OK;
 use crate::answers::{LineRequest, push_answer_text, read_request};
@@ -70,24 +70,16 @@ fn is_good(answer: &[u8]) -> bool
 /// have been written to `output`: for both see `program_streams::serve`. A call that failed is not
 /// repeated; no contract states this.
 pub fn run<R: Read, W: Write>(alloc: Global, input: &mut R, output: &mut W) -> Result<(), RunError>
-    // If the run succeeds, no bytes of the reader are left, if these are known.
+    // If the run succeeds, no bytes of the reader are left, if these are known, and the answers to
+    // all lines have been written.
     ensures ended { OnOk result (IsAtEnd (R.remaining input.new)) }
-    // If the run succeeds, and the bytes of the reader were known at the start, the answers to all
-    // its lines have been written, each followed by a line feed. This holds for any function
-    // `answer` from lines to their answers; there is exactly one.
-    ensures complete { OnOk result (IfSome (R.remaining input.old) (λ text.
-        (answer : List ℕ → List ℕ) (whole : List (List ℕ)) (rest : List ℕ)
-        → ((line : List ℕ) → IsAnswerOf line (answer line)) → SplitsIntoLines text whole rest
-        → Appends (W.contents output.old) (W.contents output.new)
-        (answer_lines answer (all_lines whole rest)))) }
-
-    // The bytes that were read and written, for each outcome: see `AnswersInput`. The result is the
-    // outcome, without the `bool` that says whether each answer is good.
-    ensures answered { (answer : List ℕ → List ℕ)
-        → ((line : List ℕ) → IsAnswerOf line (answer line))
-        → (outcome : Result Bool RunError)
-        × AnswersInput answer (R.remaining input.old) (R.remaining input.new)
-        (W.contents output.old) (W.contents output.new) is_good outcome
+    ensures complete { OnOk result (WritesAllAnswers (R.remaining input.old)
+        (W.contents output.old) (W.contents output.new)) }
+    // The bytes that were read and written, for each outcome. The result is the outcome, without
+    // the `bool` that says whether each answer is good.
+    ensures answered { (outcome : Result Bool RunError)
+        × Serves (R.remaining input.old) (R.remaining input.new) (W.contents output.old)
+        (W.contents output.new) outcome
         × MatchResult outcome (λ _. result ≡ Ok tt) (λ error. result ≡ Err error) }
 {
     let _is_good = answer_all(alloc, input, output)?;
@@ -106,18 +98,12 @@ pub(crate) fn answer_all<R: PromptRead, W: Sink>(
     // If the run succeeds, all input was read. The answers to all its lines are written, if the
     // bytes of the reader were known at the start.
     ensures ended { OnOk result (IsAtEnd (R.left input.new)) }
-    ensures complete { OnOk result (IfSome (R.left input.old) (λ text.
-        (answer : List ℕ → List ℕ) (whole : List (List ℕ)) (rest : List ℕ)
-        → ((line : List ℕ) → IsAnswerOf line (answer line)) → SplitsIntoLines text whole rest
-        → Appends (W.held output.old) (W.held output.new)
-        (answer_lines answer (all_lines whole rest)))) }
+    ensures complete { OnOk result
+        (WritesAllAnswers (R.left input.old) (W.held output.old) (W.held output.new)) }
     ensures flushed { OnOk result (W.flushed output.new) }
-
     // The bytes that were read and written, for each outcome.
-    ensures answered { (answer : List ℕ → List ℕ)
-        → ((line : List ℕ) → IsAnswerOf line (answer line))
-        → AnswersInput answer (R.left input.old) (R.left input.new)
-        (W.held output.old) (W.held output.new) is_good result }
+    ensures answered { Serves (R.left input.old) (R.left input.new) (W.held output.old)
+        (W.held output.new) result }
     ensures read_cause { IfErr result (λ e. e ≡ RunError.Read
         → R.failed input.new ⊎ R.reads input.new (2 ^ 64 - 1)) }
     ensures write_cause { IfErr result (λ e. e ≡ RunError.Write

@@ -28,9 +28,9 @@ abbrev pub state_name : ℕ → List ℕ
 state_name state = unwrap_or (slice_get state_names state) (codes "UNKNOWN")
 
 -- the inode of the peer in decimal, or `*` for None
-abbrev pub peer_cell : Option ℕ → List ℕ
-peer_cell None = codes "*"
-peer_cell (Some n) = decimal n
+abbrev pub number_or_star : Option ℕ → List ℕ
+number_or_star None = codes "*"
+number_or_star (Some n) = decimal n
 
 -- an address, in brackets (91 and 93) if it is an IPv6 address
 abbrev pub bracketed_address : IpAddr → List ℕ

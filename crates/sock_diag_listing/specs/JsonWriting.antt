@@ -14,15 +14,15 @@ members_tokens members = flat_map (λ m. key m.0 ∷ json_tokens m.1) members
 unfoldable pub items_tokens : List Json → List Token
 items_tokens items = flat_map json_tokens items
 
--- The text before the writer's is unchanged.
+-- Unless an allocation failed, what the buffer held before the first token is unchanged.
 abbrev pub KeepsText : {E : Type 0} → Result (Unit {0}) E → Written → Written → Type 0
 KeepsText r old new = OnOk r (new.before ≡ old.before)
 
--- These tokens were appended.
+-- Unless an allocation failed, these tokens were appended.
 abbrev pub AddsTokens : {E : Type 0} → Result (Unit {0}) E → Written → Written → List Token → Type 0
 AddsTokens r old new tokens = OnOk r (new.tokens ≡ old.tokens ++ tokens)
 
--- These members were appended.
+-- Unless an allocation failed, these members were appended.
 abbrev pub AddsMembers : {E : Type 0} → Result (Unit {0}) E → Written → Written → List JsonMember
     → Type 0
 AddsMembers r old new members = AddsTokens r old new (members_tokens members)

@@ -63,4 +63,4 @@ separator o = if o.one_line then [] else 10 ∷ 9 ∷ []
 -- the separator and the details, or nothing if there are no details
 abbrev pub details_after_separator : Options → List ℕ → List ℕ
 details_after_separator o [] = []
-details_after_separator o (c ∷ told) = separator o ++ c ∷ told
+details_after_separator o (first ∷ rest) = separator o ++ first ∷ rest

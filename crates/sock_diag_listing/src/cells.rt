@@ -7,7 +7,7 @@ ghost use Rattle.std.specs.Prelude.{vec_len, OnOk};
 ghost use Rattle.std.specs.Fmt.{digits};
 ghost use Rattle.sock_diag_listing.specs.Cells.{column, endpoint, first_columns};
 ghost use Rattle.sock_diag_listing.specs.Cells.{bracketed_address};
-ghost use Rattle.sock_diag_listing.specs.Cells.{number_cell, peer_cell, port_text};
+ghost use Rattle.sock_diag_listing.specs.Cells.{number_cell, number_or_star, port_text};
 ghost use Rattle.sock_diag_listing.specs.CellsModel.{cells_model};
 ghost use Rattle.sock_diag_listing.specs.Escapes.{byte_digits, escaped_byte};
 
@@ -154,13 +154,12 @@ pub fn push_digits(text: &mut Vec<u8>, byte: u8) -> Result<(), AllocError>
     text.extend_from_slice(&digits)
 }
 
-/// Appends a number that identifies a peer, such as the inode of a UNIX socket's peer, or `*` for
-/// `None`.
-pub fn push_peer(text: &mut Vec<u8>, inode: Option<u32>) -> Result<(), AllocError>
-    ensures { OnOk result (text.new.items ≡ text.old.items ++ peer_cell inode) }
+/// Appends a number, such as the inode of a UNIX socket's peer, or `*` for `None`.
+pub fn push_number_or_star(text: &mut Vec<u8>, number: Option<u32>) -> Result<(), AllocError>
+    ensures { OnOk result (text.new.items ≡ text.old.items ++ number_or_star number) }
 {
-    match inode {
-        Some(inode) => push_number(text, inode.into()),
+    match number {
+        Some(number) => push_number(text, number.into()),
         None => Ok(text.push(b'*')?),
     }
 }

@@ -7,6 +7,8 @@ use Rattle.sslist_options.specs.declared.options.Detail.TheVariants.{Connection}
 use Rattle.sslist_options.specs.declared.options.Family.{Family}
 use Rattle.sslist_options.specs.declared.options.Family.TheVariants.{Netlink, Packet, Vsock, Xdp}
 use Rattle.sslist_options.specs.declared.options.Options.{Options}
+use Rattle.sslist_options.specs.declared.options.TheConstants.{IPPROTO_MPTCP, IPPROTO_TCP}
+use Rattle.sslist_options.specs.declared.options.TheConstants.{IPPROTO_UDP}
 use Rattle.sslist_options.specs.Filter.{has_endpoint_condition, has_state}
 
 -- the option of this group of details is set
@@ -47,13 +49,13 @@ lists_unix o state =
     (o.unix || not (selects_sockets o)) && lists_state o state
     && not (has_endpoint_condition o.filter)
 
--- The option of this protocol is set: 6 is IPPROTO_TCP, 17 is IPPROTO_UDP, 262 is IPPROTO_MPTCP.
--- None is a protocol that is not known, which can be any of the three.
+-- The option of this protocol is set. None is a protocol that is not known, which can be any of the
+-- three.
 abbrev pub selects_protocol : Options → Option ℕ → Bool
 selects_protocol o None = o.tcp || o.udp || o.mptcp
 selects_protocol o (Some protocol) =
-    if protocol == 6 then o.tcp else if protocol == 17 then o.udp
-    else if protocol == 262 then o.mptcp else false
+    if protocol == IPPROTO_TCP then o.tcp else if protocol == IPPROTO_UDP then o.udp
+    else if protocol == IPPROTO_MPTCP then o.mptcp else false
 
 -- IPv4 and IPv6 sockets of a protocol are listed if its option is set; or if the option of no
 -- protocol is, and either `-4` or `-6` is, or no option of another family.

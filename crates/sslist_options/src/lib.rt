@@ -16,4 +16,4 @@ pub use addresses::AddressCondition;
 pub use choice::{Choice, Rejection, choose};
 pub use files::{ListCapture, list_captures, names_several};
 pub use filter::{PortCondition, SocketFilter};
-pub use options::{Detail, Family, Options};
+pub use options::{Detail, Family, IPPROTO_MPTCP, IPPROTO_TCP, IPPROTO_UDP, Options};

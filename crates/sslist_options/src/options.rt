@@ -10,14 +10,15 @@ ghost use Rattle.sslist_options.specs.Options.{shows_detail};
 
 use crate::filter::SocketFilter;
 
-/// `IPPROTO_TCP`.
-const TCP: u32 = 6;
+/// The number of TCP in a request, `IPPROTO_TCP` of linux/in.h.
+pub const IPPROTO_TCP: u32 = 6;
 
-/// `IPPROTO_UDP`.
-const UDP: u32 = 17;
+/// The number of UDP in a request, `IPPROTO_UDP` of linux/in.h.
+pub const IPPROTO_UDP: u32 = 17;
 
-/// `IPPROTO_MPTCP`.
-const MPTCP: u32 = 262;
+/// The number of MPTCP in a request, `IPPROTO_MPTCP` of linux/in.h. It does not fit a byte, so it
+/// is in the attribute `INET_DIAG_REQ_PROTOCOL`.
+pub const IPPROTO_MPTCP: u32 = 262;
 
 /// State `TCP_CLOSE`, which ss(8) prints as `UNCONN`.
 const UNCONNECTED: u8 = 7;
@@ -149,8 +150,8 @@ impl Options {
             && !self.filter.has_endpoint_condition()
     }
 
-    /// Returns whether IPv4 and IPv6 sockets of a protocol (6 TCP, 17 UDP, 262 MPTCP) are listed:
-    /// if the option of this protocol is set; or if no option of a protocol is, and one of these
+    /// Returns whether IPv4 and IPv6 sockets of a protocol, a number `IPPROTO_..`, are listed: if
+    /// the option of this protocol is set; or if no option of a protocol is, and one of these
     /// families is selected or no option that selects sockets is set. If the protocol is not known
     /// (`None`), any of the options of TCP, UDP and MPTCP counts.
     pub fn lists_protocol(self, protocol: Option<u32>) -> bool
@@ -166,9 +167,9 @@ impl Options {
         ensures { result ≡ selects_protocol self protocol }
     {
         match protocol {
-            Some(TCP) => self.tcp,
-            Some(UDP) => self.udp,
-            Some(MPTCP) => self.mptcp,
+            Some(IPPROTO_TCP) => self.tcp,
+            Some(IPPROTO_UDP) => self.udp,
+            Some(IPPROTO_MPTCP) => self.mptcp,
             Some(_) => false,
             None => self.tcp || self.udp || self.mptcp,
         }

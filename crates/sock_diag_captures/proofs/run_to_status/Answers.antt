@@ -1,37 +1,31 @@
-use Rattle.std.specs.Prelude.{⊤}
-use Rattle.std.proofs.Common.{◌++◌, true}
-use Rattle.std.proofs.lemmas.Result.{MatchResult-weaker}
-use Rattle.sock_diag_listing.proofs.Reporting.{reports_prefix}
-use Rattle.sock_diag_listing.specs.Reports.{ReportsText, WritesPrefix, closing_line}
+use Rattle.std.proofs.Common.{true, ◌++◌}
+use Rattle.sock_diag_listing.proofs.Reporting.{reports_from_start, reports_then}
+use Rattle.sock_diag_listing.specs.Reports.{ReportsText, ReportsMore}
 use Rattle.program_streams.specs.declared.streams.WriteError.{WriteError}
-use Rattle.sock_diag_captures.proofs.Failing.{fails_implies, finishes_implies, complete_outcome}
+use Rattle.sock_diag_captures.proofs.Failing.{run_outcome}
+use Rattle.sock_diag_captures.specs.private.Run.{closing_text}
 use Rattle.sock_diag_captures.proofs.run_to_status.Goals as goal
-
-pub returns-clause-whole : goal.returns-clause-whole
-returns-clause-whole g c =
-    let (outcome, is_open, success, failure, ends) = c.list_to_status.ensures.outcome in
-    let start = g.E.Write.contents c.args.errors.now in
-    let end = g.E.Write.contents c.list_to_status.new.errors in
-    let lost : Type 0 = (e : WriteError) × ⊤ in
-    λ zero. finishes_implies _ _ _ _ _ _ _ (λ d. ReportsText start end lost d is_open)
-    (WritesPrefix start end) (reports_prefix start end lost is_open) true
-    (complete_outcome _ _ outcome (success.0 zero) ends)
 
 pub returns-clause-outcome : goal.returns-clause-outcome
 returns-clause-outcome g c =
-    let (outcome, is_open, success, failure, ends) = c.list_to_status.ensures.outcome in
-    let start = g.E.Write.contents c.args.errors.now in
-    let end = g.E.Write.contents c.list_to_status.new.errors in
-    let lost : Type 0 = (e : WriteError) × ⊤ in (
+    let outcome = c.run-outcome.result in
+    let start = g.E.Sink.held c.args.errors.now in
+    let before = g.E.Sink.held c.run-outcome.new.errors in
+    let end = g.E.Sink.held c.report_outcome.new.errors in
+    let none : Type 0 = (e : WriteError) × g.E.Sink.failed c.args.errors.now e in
+    let some : Type 0 = (e : WriteError) × g.E.Sink.failed c.run-outcome.new.errors e in
+    let last : Type 0 = (e : WriteError) × g.E.Sink.failed c.report_outcome.new.errors e in
+    let opened = c.run-outcome.new.is_open in
+    let is_open = c.report_outcome.new.is_open in
+    let closing = closing_text c.args.front.now outcome in (
       outcome,
-      success,
-      failure,
-      MatchResult-weaker outcome ends
-          (λ whole. finishes_implies _ _ _ _ _ _ _ (λ d. ReportsText start end lost d is_open)
-          (WritesPrefix start end) (reports_prefix start end lost is_open) whole)
-          (λ e. fails_implies _ _ _ _ _ _ _
-          (λ d. ReportsText start end lost (d ++ closing_line c.args.front.now e) is_open)
-          (λ d. WritesPrefix start end (d ++ closing_line c.args.front.now e))
-          (λ d. reports_prefix start end lost is_open (d ++ closing_line c.args.front.now e))
-          _ e),
+      is_open,
+      c.exit_code.ensures.success,
+      c.exit_code.ensures.failure,
+      run_outcome _ _ _ _ _ _ _ (ReportsMore start none true before some opened)
+          (λ d. ReportsText start end last d is_open) _ outcome
+          (λ d first. reports_from_start start end none last is_open (d ++ closing)
+          (reports_then start before end none some last true opened is_open d closing first
+          c.report_outcome.ensures))
+          c.run-outcome.ensures.table c.run-outcome.ensures.failed,
     )

@@ -17,10 +17,10 @@ reported_with_cause c d r u w (Ok good) line read write = line
 reported_with_cause c d r u w (Err e) line read write = (line, read, write)
 
 pub returns-clause-answered : goal.returns-clause-answered
-returns-clause-answered g c = λ f right. (
+returns-clause-answered g c = (
   c.answer_all-outcome.result,
   c.exit_code.ensures,
-  c.answer_all-outcome.ensures.answered f right,
+  c.answer_all-outcome.ensures.answered,
   reported_with_cause _ _ _ _ _ c.answer_all-outcome.result
       c.report.ensures.reported c.answer_all-outcome.ensures.read_cause
       c.answer_all-outcome.ensures.write_cause,

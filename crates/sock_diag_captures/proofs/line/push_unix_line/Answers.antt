@@ -14,7 +14,7 @@ returns c =
       ← c.name_in.ensures,
       ← c.peer_in.ensures,
     )
-    (on_ok_weaker c.push_peer.result
+    (on_ok_weaker c.push_number_or_star.result
     (λ last. appended_texts_concatenate _ _ _ _ _
     (appended_texts_concatenate _ _ _ _ _ columns c.in_ok-push_name_column.ensures) last)
-    c.push_peer.ensures)
+    c.push_number_or_star.ensures)

@@ -4,7 +4,7 @@ use Rattle.sock_diag_listing.specs.Reports.{ReportsMore}
 use Rattle.program_streams.specs.declared.streams.WriteError.{WriteError}
 use Rattle.sock_diag_captures.specs.Requests.{past_requests}
 use Rattle.sock_diag_captures.proofs.Progress.{Progress}
-use Rattle.sock_diag_captures.proofs.stream.write_table.Given as goal
+use Rattle.sock_diag_captures.proofs.stream.run.Given as goal
 
 -- the packets so far were read and listed, and their diagnostics were reported
 abbrev pub invariant-packets : goal.invariant-packets
