@@ -1,7 +1,7 @@
 -- Lemmas about the messages of a datagram, which are listed one by one.
 use Rattle.std.proofs.Common.{◌≡◌, ◌≢◌, List, [], ◌∷◌, ◌++◌, ℕ, ◌+◌, ◌≤◌, ◌<◌, Bool, true, false}
 use Rattle.std.proofs.Common.{length, refl, sym, ap, subst, ◌∙◌, append_assoc, arith}
-use Rattle.std.specs.Prelude.{Option, ◌&&◌}
+use Rattle.std.specs.Prelude.{Option, None, Some, ◌&&◌, ◌==◌, bit_and, if◌then◌else◌}
 use Rattle.std.specs.List.{flat_map, list_all}
 use Rattle.std.proofs.lemmas.Bool.Decides.{leb_tells}
 use Rattle.std.proofs.lemmas.List.{append-nil, length-append}
@@ -14,7 +14,8 @@ use Rattle.netlink_core.specs.declared.error.DecodeError.{DecodeError}
 use Rattle.netlink_core.specs.declared.header.NetlinkHeader.{NetlinkHeader}
 use Rattle.sock_diag_captures.specs.Diagnostics.{lines_about, lines_about_message}
 use Rattle.sock_diag_captures.specs.Messages.{begins_with_message, header_in, header_with}
-use Rattle.sock_diag_captures.specs.Messages.{MessageParts, message_in}
+use Rattle.netlink_core.specs.declared.message.TheConstants.{NLM_F_REQUEST}
+use Rattle.sock_diag_captures.specs.Messages.{MessageParts, message_in, request_in}
 
 -- The header that bytes begin with.
 pub header_found : (bytes : List ℕ) (h : NetlinkHeader) → HasHeader bytes h → header_in bytes ≡ h
@@ -32,7 +33,17 @@ pub no_message_begins : (bytes : List ℕ) (e : DecodeError) → IsMessageError 
 unfolding header_in
 no_message_begins bytes e error = grind (arith, leb_tells, error)
 
-pub ruleset message_rules = (header_found, message_begins, no_message_begins)
+-- The request that bytes with a header begin with.
+pub request_found : (bytes : List ℕ) (h : NetlinkHeader) → HasHeader bytes h
+    → request_in bytes ≡ (if bit_and h.flags NLM_F_REQUEST == 0 then None
+    else Some (message_in bytes))
+request_found bytes h has =
+    rw (message_begins bytes h has, header_found bytes h has) (grind arith)
+
+-- Bytes with an error begin with no request.
+pub no_request_found : (bytes : List ℕ) (e : DecodeError) → IsMessageError bytes e
+    → request_in bytes ≡ None
+no_request_found bytes e error = rw (no_message_begins bytes e error) refl
 
 -- Some messages of a datagram were read. `rest` are the bytes after them.
 pub record ReadSoFar (datagram rest : List ℕ) (passed : List (List ℕ)) : Type 0 where

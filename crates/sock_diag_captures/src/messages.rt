@@ -28,7 +28,7 @@ impl<'a> Message<'a> {
 
     /// Returns the request that the bytes begin with. Returns `None` if they do not begin with a
     /// message, or if its flags do not have `NLM_F_REQUEST`.
-    #[tactic(auto, using(crate::proofs::MessageWalk::message_rules))]
+    #[tactic(auto, using(crate::proofs::MessageWalk::no_request_found))]
     pub(crate) fn request_in(bytes: &'a [u8]) -> Option<Message<'a>>
         ensures { option_map message_parts result ≡ request_in bytes.entry.now }
     {

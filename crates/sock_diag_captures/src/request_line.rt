@@ -1,6 +1,6 @@
 //! Lines of requests. They separate the dumps of a capture.
 
-ghost use Rattle.std.specs.Prelude.{◌≡◌, ◌++◌, OnOk};
+ghost use Rattle.std.specs.Prelude.{◌≡◌, ◌++◌, OnOk, Some};
 ghost use Rattle.sock_diag_captures.specs.Messages.{message_parts, request_in};
 ghost use Rattle.sock_diag_captures.specs.RequestLine.{inet_request_text, is_known};
 ghost use Rattle.sock_diag_captures.specs.RequestLine.{known_request_note};
@@ -54,7 +54,6 @@ fn push_request_line(
 
 /// Appends, in parentheses, what the request that the bytes begin with asks for. Appends `unknown`
 /// if they begin with none, or if this is not known.
-#[tactic(auto, using(crate::proofs::Adding::appended_texts_concatenate))]
 pub(crate) fn push_request_note(
     text: &mut Vec<u8>,
     unknown: &[u8],
@@ -64,8 +63,24 @@ pub(crate) fn push_request_note(
         (request_in bytes.now)) }
 {
     match Message::request_in(bytes) {
-        Some(request) if is_known(&requested_by(&request)) => push_note(text, &request),
-        _ => text.extend_from_slice(unknown),
+        Some(request) => push_note_if_known(text, unknown, &request),
+        None => text.extend_from_slice(unknown),
+    }
+}
+
+/// Appends, in parentheses, what a request asks for, or `unknown` if that is not known.
+fn push_note_if_known(
+    text: &mut Vec<u8>,
+    unknown: &[u8],
+    request: &Message<'_>,
+) -> Result<(), AllocError>
+    ensures { OnOk result (text.new.items ≡ text.old.items ++ request_note unknown.now
+        (Some (message_parts request.now))) }
+{
+    if is_known(&requested_by(request)) {
+        push_note(text, request)
+    } else {
+        text.extend_from_slice(unknown)
     }
 }
 
