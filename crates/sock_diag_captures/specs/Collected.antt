@@ -44,7 +44,7 @@ first_valid sockets (Ok a ∷ later) k =
     else first_valid sockets later k
 first_valid sockets (Err e ∷ later) k = first_valid sockets later k
 
--- a piece and its status, if it is an unknown or invalid attribute
+-- the attribute in a piece and its status, if it is unknown or invalid; a framing error is in `end`
 abbrev pub other_in_piece : Sockets → AttributeOrError
     → List (Attribute × Result Bool DecodeError)
 other_in_piece sockets (Ok a) =

@@ -1,5 +1,6 @@
 -- The lines and diagnostics of messages, datagrams and packets of a capture. `b` is the payload of
--- a message.
+-- a message. `list` is the number of the list of sockets that a reply belongs to (`PastRequests`),
+-- and `protocol` is the protocol of its request, None if that is not known.
 use Rattle.std.specs.Prelude.{◌≡◌, ◌↔◌, Bool, true, false, IsTrue, ℕ, ℤ, pos, negsuc, ◌+◌}
 use Rattle.std.specs.Prelude.{◌==◌, ◌&&◌, if◌then◌else◌, nat_le, nat_lt, List, [], ◌++◌, ◌≤◌, ◌⊎◌}
 use Rattle.std.specs.Prelude.{bit_and, drop, length, flat_map, is_none, Option, None, Some}
@@ -109,9 +110,8 @@ family_error None b = None
 
 -- `payload_lines o list protocol kind b`: the lines of the payload `b`. `kind` is the kind of the
 -- reply, or the reason why it is not one. Attributes follow a `struct unix_diag_msg` of 16 bytes,
--- or a `struct inet_diag_msg` of 72 bytes. `list` is the number of the list, and `protocol` is the
--- protocol of the request. A payload that is not a reply has no lines, except for one about a
--- netlink, packet, vsock or XDP socket (`family_lines`).
+-- or a `struct inet_diag_msg` of 72 bytes. A payload that is not a reply has no lines, except for
+-- one about a netlink, packet, vsock or XDP socket (`family_lines`).
 abbrev pub payload_lines : Options → ℕ → Option ℕ → Result MessageKind DecodeError → List ℕ
     → List ℕ
 payload_lines o list protocol (Ok unix_response) b =
@@ -145,8 +145,7 @@ abbrev pub is_control : ℕ → Bool
 is_control t = nat_le NLMSG_NOOP t && nat_le t NLMSG_OVERRUN
 
 -- `lines_by_type o list protocol t payload`: the lines of a message with the type `t` and this
--- payload. A control message has none. `list` is the number of the list, and `protocol` is the
--- protocol of the request.
+-- payload. A control message has none.
 abbrev pub lines_by_type : Options → ℕ → Option ℕ → ℕ → List ℕ → List ℕ
 lines_by_type o list protocol t payload =
     if is_control t then [] else payload_lines o list protocol (response_kind payload t) payload

@@ -202,10 +202,7 @@ fn rejection_text(alloc: Global, reason: Rejection, argument: &str) -> Result<St
             let value = name_of_value(argument);
             format!(in alloc; "{shown} needs a value: write {shown}={value}")
         }
-        Rejection::UnexpectedValue => {
-            let name = name_of_option(argument);
-            format!(in alloc; "{name} takes no value")
-        }
+        Rejection::UnexpectedValue => takes_no_value(alloc, argument),
         Rejection::UnknownFamily => format!(in alloc; "unknown family {shown} after -f"),
         Rejection::UnknownFamilyValue => format!(in alloc; "unknown family in {shown}"),
         Rejection::UnknownStateValue => {
@@ -227,18 +224,23 @@ fn rejection_text(alloc: Global, reason: Rejection, argument: &str) -> Result<St
 
 /// Returns the text about an argument of joined letters, of which this one is not an option.
 fn unknown_letter_text(alloc: Global, letter: u8, argument: &str) -> Result<String, AllocError> {
+    if letter == b'=' {
+        return takes_no_value(alloc, argument);
+    }
     let shown = escaped(alloc, argument.as_bytes())?;
     let reason = reason_of(letter);
-    if letter == b'=' {
-        let name = escaped(alloc, name_of_option(argument).as_bytes())?;
-        return format!(in alloc; "{name} takes no value");
-    }
     // A hyphen and one letter.
     if argument.len() == 2 {
         return format!(in alloc; "unknown option {shown}{reason}");
     }
     let letter = escaped(alloc, &[letter])?;
     format!(in alloc; "unknown option -{letter} in {shown}{reason}")
+}
+
+/// Returns the text about an option with a value that takes none.
+fn takes_no_value(alloc: Global, argument: &str) -> Result<String, AllocError> {
+    let name = escaped(alloc, name_of_option(argument).as_bytes())?;
+    format!(in alloc; "{name} takes no value")
 }
 
 /// Returns what follows the error about a letter that is an option of ss(8), and not of sslist.
