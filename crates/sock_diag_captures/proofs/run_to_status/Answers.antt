@@ -6,8 +6,8 @@ use Rattle.sock_diag_captures.proofs.Failing.{run_outcome}
 use Rattle.sock_diag_captures.specs.private.Run.{closing_text}
 use Rattle.sock_diag_captures.proofs.run_to_status.Goals as goal
 
-pub returns-clause-outcome : goal.returns-clause-outcome
-returns-clause-outcome g c =
+pub returns : goal.returns
+returns g c =
     let outcome = c.run-outcome.result in
     let start = g.E.Sink.held c.args.errors.now in
     let before = g.E.Sink.held c.run-outcome.new.errors in
