@@ -276,7 +276,6 @@ fn next_number(count: u64, most: usize) -> u64
 
 /// Appends the lines and the diagnostics of a message. Returns whether it has no diagnostic, or
 /// only a note.
-#[tactic(auto, using(crate::proofs::Adding::appended_texts_concatenate))]
 fn list_message(
     written: &mut PacketOutput<'_>,
     requests: &Requests,
@@ -297,7 +296,7 @@ fn list_message(
     push_optional_diagnostic(written, position, &interrupted)?;
     let diagnostic = push_message(&mut written.lines, requests, options, message)?;
     push_explained_diagnostic(written, position, &diagnostic, message)?;
-    Ok(interrupted.is_none() && is_informational(&diagnostic))
+    Ok(interrupted.is_none() & is_informational(&diagnostic))
 }
 
 /// Returns `Interrupted` if the flags of a message have `NLM_F_DUMP_INTR`.
