@@ -288,30 +288,18 @@ groups_outcome a =
     (number_facts Hex (codes " groups:0x") (Some (codes "groups")) (little_number 4 a.value)))
     else length_error a 4
 
--- what an attribute of a netlink socket says, other than its memory
-abbrev pub netlink_outcome : Attribute → Outcome
-netlink_outcome a =
+-- an attribute other than the memory of a netlink, packet, vsock or XDP socket
+abbrev pub family_outcome : Family → Attribute → Outcome
+family_outcome Netlink a =
     if attribute_kind a == NETLINK_DIAG_GROUPS then groups_outcome a else Ok None
-
--- what an attribute of a packet socket says, other than its memory
-abbrev pub packet_outcome : Attribute → Outcome
-packet_outcome a =
+family_outcome Packet a =
     if attribute_kind a == PACKET_DIAG_INFO
     then map_ok (λ p. Some (packet_facts p)) (packet_info a.value)
     else if attribute_kind a == PACKET_DIAG_UID then uid_outcome a else Ok None
-
--- what an attribute of an XDP socket says, other than its memory
-abbrev pub xdp_outcome : Attribute → Outcome
-xdp_outcome a =
+family_outcome Vsock a = Ok None
+family_outcome Xdp a =
     if attribute_kind a == XDP_DIAG_INFO then map_ok (λ x. Some (xdp_facts x)) (xdp_info a.value)
     else if attribute_kind a == XDP_DIAG_UID then uid_outcome a else Ok None
-
--- an attribute other than the memory of a netlink, packet, vsock or XDP socket
-abbrev pub family_outcome : Family → Attribute → Outcome
-family_outcome Netlink a = netlink_outcome a
-family_outcome Packet a = packet_outcome a
-family_outcome Vsock a = Ok None
-family_outcome Xdp a = xdp_outcome a
 
 -- what an attribute of a netlink, packet, vsock or XDP socket says
 abbrev pub family_facts : Family → Attribute → Outcome

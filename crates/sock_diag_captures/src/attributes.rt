@@ -24,9 +24,7 @@ ghost use Rattle.sock_diag_captures.specs.AttributeFacts.{memory_outcome, newer_
 ghost use Rattle.sock_diag_captures.specs.AttributeFacts.{newer_unix_outcome, option_facts};
 ghost use Rattle.sock_diag_captures.specs.AttributeFacts.{option_bits, packet_facts};
 ghost use Rattle.sock_diag_captures.specs.AttributeFacts.{port_inet_facts, queue_facts};
-ghost use Rattle.sock_diag_captures.specs.AttributeFacts.{netlink_outcome, packet_outcome};
 ghost use Rattle.sock_diag_captures.specs.AttributeFacts.{uid_outcome, unix_facts, unix_outcome};
-ghost use Rattle.sock_diag_captures.specs.AttributeFacts.{xdp_outcome};
 ghost use Rattle.sock_diag_captures.specs.AttributeFacts.{vegas_facts, vfs_facts, xdp_facts};
 ghost use Rattle.sock_diag_captures.specs.Facts.{Decodes, Shows, length_error, number_facts};
 ghost use Rattle.sock_diag_captures.specs.Facts.{number_outcome, record_outcome, status_of};
@@ -511,48 +509,16 @@ fn show_family<S: FactSink>(
     ensures { Decodes S.kept S.content S.items result sink.old sink.new
         (family_facts family (buffered_attribute nla.now)) }
 {
-    if memory_kind(family) == Some(nla.kind()) {
+    let kind = nla.kind();
+    if memory_kind(family) == Some(kind) {
         return show_memory_value(sink, "meminfo", nla);
     }
     match family {
-        Family::Netlink => show_netlink(sink, nla),
-        Family::Packet => show_packet(sink, nla),
-        Family::Vsock => Ok(Ok(false)),
-        Family::Xdp => show_xdp(sink, nla),
-    }
-}
-
-/// Shows the facts of an attribute of a netlink socket other than its memory, if it has any.
-fn show_netlink<S: FactSink>(sink: &mut S, nla: &NlaBuffer<'_>) -> Result<Status, AllocError>
-    ensures { Decodes S.kept S.content S.items result sink.old sink.new
-        (netlink_outcome (buffered_attribute nla.now)) }
-{
-    match nla.kind() {
-        NETLINK_DIAG_GROUPS => show_groups(sink, nla),
-        _ => Ok(Ok(false)),
-    }
-}
-
-/// Shows the facts of an attribute of a packet socket other than its memory, if it has any.
-fn show_packet<S: FactSink>(sink: &mut S, nla: &NlaBuffer<'_>) -> Result<Status, AllocError>
-    ensures { Decodes S.kept S.content S.items result sink.old sink.new
-        (packet_outcome (buffered_attribute nla.now)) }
-{
-    match nla.kind() {
-        PACKET_DIAG_INFO => show_packet_value(sink, nla.value()),
-        PACKET_DIAG_UID => show_uid(sink, nla),
-        _ => Ok(Ok(false)),
-    }
-}
-
-/// Shows the facts of an attribute of an XDP socket other than its memory, if it has any.
-fn show_xdp<S: FactSink>(sink: &mut S, nla: &NlaBuffer<'_>) -> Result<Status, AllocError>
-    ensures { Decodes S.kept S.content S.items result sink.old sink.new
-        (xdp_outcome (buffered_attribute nla.now)) }
-{
-    match nla.kind() {
-        XDP_DIAG_INFO => show_xdp_value(sink, nla.value()),
-        XDP_DIAG_UID => show_uid(sink, nla),
+        Family::Netlink if kind == NETLINK_DIAG_GROUPS => show_groups(sink, nla),
+        Family::Packet if kind == PACKET_DIAG_INFO => show_packet(sink, nla.value()),
+        Family::Packet if kind == PACKET_DIAG_UID => show_uid(sink, nla),
+        Family::Xdp if kind == XDP_DIAG_INFO => show_xdp(sink, nla.value()),
+        Family::Xdp if kind == XDP_DIAG_UID => show_uid(sink, nla),
         _ => Ok(Ok(false)),
     }
 }
@@ -619,7 +585,7 @@ fn widened(number: Option<u32>) -> Option<u64>
 }
 
 /// Shows the settings of a packet socket.
-fn show_packet_value<S: FactSink>(sink: &mut S, value: &[u8]) -> Result<Status, AllocError>
+fn show_packet<S: FactSink>(sink: &mut S, value: &[u8]) -> Result<Status, AllocError>
     ensures { Decodes S.kept S.content S.items result sink.old sink.new
         (map_ok (λ p. Some (packet_facts p)) (packet_info value.now)) }
 {
@@ -652,7 +618,7 @@ fn show_packet_info<S: FactSink>(sink: &mut S, info: &PacketInfo) -> Result<(), 
 }
 
 /// Shows the interface and the queue of an XDP socket, for which the table has a column.
-fn show_xdp_value<S: FactSink>(sink: &mut S, value: &[u8]) -> Result<Status, AllocError>
+fn show_xdp<S: FactSink>(sink: &mut S, value: &[u8]) -> Result<Status, AllocError>
     ensures { Decodes S.kept S.content S.items result sink.old sink.new
         (map_ok (λ x. Some (xdp_facts x)) (xdp_info value.now)) }
 {

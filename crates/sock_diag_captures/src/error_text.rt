@@ -11,28 +11,6 @@ use netlink_core::{DecodeError, RecordName};
 use sock_diag_listing::cells::push_number;
 use std::alloc::AllocError;
 
-/// Appends the text of a diagnostic.
-pub(crate) fn push_diagnostic_text(
-    text: &mut Vec<u8>,
-    diagnostic: &Diagnostic,
-) -> Result<(), AllocError>
-    ensures { OnOk result (text.new.items ≡ text.old.items ++ diagnostic_text diagnostic.now) }
-{
-    match diagnostic {
-        Diagnostic::Refused(error) => push_decode_error(text, error),
-        Diagnostic::Answered(errno) => {
-            push_between(text, b"the kernel returned error ", *errno as u64, b"")
-        }
-        Diagnostic::NoEntry => text.extend_from_slice(b"note: the kernel returned ENOENT"),
-        Diagnostic::Invalid => text.extend_from_slice(b"note: the kernel returned EINVAL"),
-        Diagnostic::Interrupted => text.extend_from_slice(b"dump interrupted (NLM_F_DUMP_INTR)"),
-        Diagnostic::Lost => text.extend_from_slice(b"the kernel lost data"),
-        Diagnostic::NoNumber => {
-            text.extend_from_slice(b"the kernel's answer has no error number")
-        }
-    }
-}
-
 /// A text with up to two numbers.
 #[derive(Clone, Copy)]
 enum Sentence {
@@ -42,6 +20,39 @@ enum Sentence {
     One(&'static [u8], u64, &'static [u8]),
     /// Two numbers, with a text before, between and after them.
     Two(&'static [u8], u64, &'static [u8], u64, &'static [u8]),
+}
+
+/// A number between two texts.
+macro_rules! one {
+    ($before:literal, $number:expr, $after:literal) => {
+        Sentence::One($before, $number as u64, $after)
+    };
+}
+
+/// Two numbers, with a text before, between and after them.
+macro_rules! two {
+    ($before:literal, $first:expr, $between:literal, $second:expr, $after:literal) => {
+        Sentence::Two($before, $first as u64, $between, $second as u64, $after)
+    };
+}
+
+/// Appends the text of a diagnostic.
+pub(crate) fn push_reason(text: &mut Vec<u8>, diagnostic: &Diagnostic) -> Result<(), AllocError>
+    ensures { OnOk result (text.new.items ≡ text.old.items ++ diagnostic_text diagnostic.now) }
+{
+    match diagnostic {
+        Diagnostic::Refused(error) => push_decode_error(text, error),
+        Diagnostic::Answered(errno) => {
+            push_sentence(text, one!(b"the kernel returned error ", *errno, b""))
+        }
+        Diagnostic::NoEntry => text.extend_from_slice(b"note: the kernel returned ENOENT"),
+        Diagnostic::Invalid => text.extend_from_slice(b"note: the kernel returned EINVAL"),
+        Diagnostic::Interrupted => text.extend_from_slice(b"dump interrupted (NLM_F_DUMP_INTR)"),
+        Diagnostic::Lost => text.extend_from_slice(b"the kernel lost data"),
+        Diagnostic::NoNumber => {
+            text.extend_from_slice(b"the kernel's answer has no error number")
+        }
+    }
 }
 
 /// Appends the text of a decode error, which is that of its `Display`.
@@ -63,16 +74,29 @@ fn push_subject(text: &mut Vec<u8>, error: &DecodeError) -> Result<(), AllocErro
 }
 
 /// Appends a sentence.
+#[tactic(auto, using(crate::proofs::Adding::sentence_continues))]
 fn push_sentence(text: &mut Vec<u8>, sentence: Sentence) -> Result<(), AllocError>
     ensures { OnOk result (text.new.items ≡ text.old.items ++ sentence_text sentence) }
 {
     match sentence {
         Sentence::Plain(words) => text.extend_from_slice(words),
-        Sentence::One(before, number, after) => push_between(text, before, number, after),
+        Sentence::One(before, number, after) => push_one(text, before, number, after),
         Sentence::Two(before, first, between, second, after) => {
-            push_two(text, before, first, between, second, after)
+            push_one(text, before, first, between)?;
+            push_one(text, b"", second, after)
         }
     }
+}
+
+/// Appends a number between two texts.
+#[tactic(auto, using(crate::proofs::Adding::three_texts_concatenate))]
+fn push_one(text: &mut Vec<u8>, before: &[u8], number: u64, after: &[u8]) -> Result<(), AllocError>
+    ensures { OnOk result (text.new.items
+        ≡ text.old.items ++ (before.now ++ (decimal number ++ after.now))) }
+{
+    text.extend_from_slice(before)?;
+    push_number(text, number)?;
+    text.extend_from_slice(after)
 }
 
 /// Returns the text of a decode error, without the name of the record that it is about.
@@ -81,71 +105,65 @@ fn sentence_of(error: &DecodeError) -> Sentence
 {
     match *error {
         DecodeError::Memory => Sentence::Plain(b"out of memory"),
-        DecodeError::BufferTooSmall { got, need, .. } => Sentence::Two(
-            b": buffer of ",
-            got as u64,
-            b" bytes, at least ",
-            need as u64,
-            b" needed",
-        ),
-        DecodeError::UnsupportedFamily { family } => Sentence::One(
-            b"unsupported address family ",
-            family as u64,
-            b": expected AF_INET (2) or AF_INET6 (10)",
-        ),
-        DecodeError::MessageTooShort { got } => Sentence::One(
-            b"invalid buffer: length is ",
-            got as u64,
-            b" but packets are at least 2 bytes",
-        ),
-        DecodeError::UnknownFamily { family } => {
-            Sentence::One(b"unknown address family ", family as u64, b"")
+        DecodeError::BufferTooSmall { got, need, .. } => {
+            two!(b": buffer of ", got, b" bytes, at least ", need, b" needed")
         }
+        DecodeError::UnsupportedFamily { family } => {
+            one!(
+                b"unsupported address family ",
+                family,
+                b": expected AF_INET (2) or AF_INET6 (10)"
+            )
+        }
+        DecodeError::MessageTooShort { got } => {
+            one!(
+                b"invalid buffer: length is ",
+                got,
+                b" but packets are at least 2 bytes"
+            )
+        }
+        DecodeError::UnknownFamily { family } => one!(b"unknown address family ", family, b""),
         DecodeError::UnknownMessageType { message_type } => {
-            Sentence::One(b"unknown message type ", message_type as u64, b"")
+            one!(b"unknown message type ", message_type, b"")
         }
         DecodeError::AttributeHeaderCut { left } => {
-            Sentence::One(b"attribute header cut: ", left as u64, b" bytes left")
+            one!(b"attribute header cut: ", left, b" bytes left")
         }
         DecodeError::AttributeLengthUnder4 { length } => {
-            Sentence::One(b"attribute length ", length as u64, b" is under 4")
+            one!(b"attribute length ", length, b" is under 4")
         }
-        DecodeError::AttributeLengthPast { length, left } => Sentence::Two(
-            b"attribute length ",
-            length as u64,
-            b" is past the ",
-            left as u64,
-            b" bytes left",
-        ),
-        DecodeError::WrongLength { got, need, .. } => Sentence::Two(
-            b"value of ",
-            got as u64,
-            b" bytes, ",
-            need as u64,
-            b" needed",
-        ),
+        DecodeError::AttributeLengthPast { length, left } => {
+            two!(
+                b"attribute length ",
+                length,
+                b" is past the ",
+                left,
+                b" bytes left"
+            )
+        }
+        DecodeError::WrongLength { got, need, .. } => {
+            two!(b"value of ", got, b" bytes, ", need, b" needed")
+        }
         DecodeError::NotMultipleOfFour { got } => {
-            Sentence::One(b"value of ", got as u64, b" bytes is no multiple of 4")
+            one!(b"value of ", got, b" bytes is no multiple of 4")
         }
         DecodeError::NotUtf8 => Sentence::Plain(b"text is not UTF-8"),
         DecodeError::NameEmpty => Sentence::Plain(b"name is empty"),
-        DecodeError::NameInnerZero { index } => {
-            Sentence::One(b"pathname holds a zero at ", index as u64, b"")
-        }
+        DecodeError::NameInnerZero { index } => one!(b"pathname holds a zero at ", index, b""),
         DecodeError::NameWithoutEnd => Sentence::Plain(b"pathname is not null-terminated"),
-        DecodeError::EnvelopeCut { got } => {
-            Sentence::One(b"message header cut: ", got as u64, b" bytes")
-        }
+        DecodeError::EnvelopeCut { got } => one!(b"message header cut: ", got, b" bytes"),
         DecodeError::EnvelopeLengthUnder16 { length } => {
-            Sentence::One(b"message length ", length as u64, b" is under 16")
+            one!(b"message length ", length, b" is under 16")
         }
-        DecodeError::EnvelopeLengthPast { length, got } => Sentence::Two(
-            b"message length ",
-            length as u64,
-            b" is past the ",
-            got as u64,
-            b" bytes given",
-        ),
+        DecodeError::EnvelopeLengthPast { length, got } => {
+            two!(
+                b"message length ",
+                length,
+                b" is past the ",
+                got,
+                b" bytes given"
+            )
+        }
     }
 }
 
@@ -164,58 +182,18 @@ fn name_of_record(name: &RecordName) -> Sentence
         RecordName::TcpInfo => Sentence::Plain(b"TcpInfo"),
         RecordName::Vfs => Sentence::Plain(b"Vfs"),
         RecordName::UnixMemInfo => Sentence::Plain(b"UnixMemInfo"),
-        RecordName::FamilyRequest { family } => {
-            Sentence::One(b"FamilyRequest { family: ", family as u64, b" }")
-        }
+        RecordName::FamilyRequest { family } => one!(b"FamilyRequest { family: ", family, b" }"),
         RecordName::FamilyResponseHeader { family } => {
-            Sentence::One(b"FamilyResponseHeader { family: ", family as u64, b" }")
+            one!(b"FamilyResponseHeader { family: ", family, b" }")
         }
-        RecordName::FamilyAttribute { family, kind } => Sentence::Two(
-            b"FamilyAttribute { family: ",
-            family as u64,
-            b", kind: ",
-            kind as u64,
-            b" }",
-        ),
+        RecordName::FamilyAttribute { family, kind } => {
+            two!(
+                b"FamilyAttribute { family: ",
+                family,
+                b", kind: ",
+                kind,
+                b" }"
+            )
+        }
     }
-}
-
-/// Appends a number and then a text.
-fn push_ended(text: &mut Vec<u8>, number: u64, after: &[u8]) -> Result<(), AllocError>
-    ensures { OnOk result (text.new.items ≡ text.old.items ++ (decimal number ++ after.now)) }
-{
-    push_number(text, number)?;
-    text.extend_from_slice(after)
-}
-
-/// Appends a number between two texts.
-#[tactic(auto, using(crate::proofs::Adding::appended_texts_concatenate))]
-fn push_between(
-    text: &mut Vec<u8>,
-    before: &[u8],
-    number: u64,
-    after: &[u8],
-) -> Result<(), AllocError>
-    ensures { OnOk result (text.new.items
-        ≡ text.old.items ++ (before.now ++ (decimal number ++ after.now))) }
-{
-    text.extend_from_slice(before)?;
-    push_ended(text, number, after)
-}
-
-/// Appends two numbers, with a text before, between and after them.
-#[tactic(auto, using(crate::proofs::Adding::sentence_continues))]
-fn push_two(
-    text: &mut Vec<u8>,
-    before: &[u8],
-    first: u64,
-    between: &[u8],
-    second: u64,
-    after: &[u8],
-) -> Result<(), AllocError>
-    ensures { OnOk result (text.new.items ≡ text.old.items
-        ++ (before.now ++ (decimal first ++ (between.now ++ (decimal second ++ after.now))))) }
-{
-    push_between(text, before, first, between)?;
-    push_ended(text, second, after)
 }

@@ -170,10 +170,9 @@ impl FactSink for Vec<u8> {
         &mut self,
         format: Shown,
         text: &[u8],
-        member: Option<&str>,
+        _member: Option<&str>,
         number: u64,
     ) -> Result<(), AllocError> {
-        let _ = member;
         // Most numbers have these formats. They are faster without the match of all formats.
         match format {
             Shown::Never => Ok(()),
@@ -189,10 +188,9 @@ impl FactSink for Vec<u8> {
         &mut self,
         format: Shown,
         text: &[u8],
-        member: &str,
+        _member: &str,
         flag: bool,
     ) -> Result<(), AllocError> {
-        let _ = member;
         push_number_as(self, format, text, u64::from(flag))
     }
 
@@ -201,10 +199,9 @@ impl FactSink for Vec<u8> {
         &mut self,
         utf8: bool,
         text: &[u8],
-        member: &str,
+        _member: &str,
         name: &str,
     ) -> Result<(), AllocError> {
-        let _ = member;
         self.extend_from_slice(text)?;
         push_shown(self, utf8, name.as_bytes())
     }
@@ -213,27 +210,22 @@ impl FactSink for Vec<u8> {
     fn list(
         &mut self,
         text: &[u8],
-        member: &str,
+        _member: &str,
         numbers: &NumbersView<'_>,
     ) -> Result<(), AllocError> {
-        let _ = member;
         push_each(self, text, numbers)
     }
 
     #[tactic(auto, unfolding(crate::specs::Facts::name_facts))]
-    fn socket_name(&mut self, alloc: Global, name: NameView<'_>) -> Result<(), AllocError> {
-        let _ = alloc;
-        let _ = name;
+    fn socket_name(&mut self, _alloc: Global, _name: NameView<'_>) -> Result<(), AllocError> {
         Ok(())
     }
 
-    fn md5_keys(&mut self, alloc: Global, value: &[u8]) -> Result<(), AllocError> {
-        let _ = alloc;
+    fn md5_keys(&mut self, _alloc: Global, value: &[u8]) -> Result<(), AllocError> {
         push_md5_keys(self, value)
     }
 
-    fn begin(&mut self, opening: &[u8], member: &str) -> Result<(), AllocError> {
-        let _ = member;
+    fn begin(&mut self, opening: &[u8], _member: &str) -> Result<(), AllocError> {
         self.extend_from_slice(opening)
     }
 
@@ -264,78 +256,56 @@ impl FactSink for () {
 
     fn number(
         &mut self,
-        format: Shown,
-        text: &[u8],
-        member: Option<&str>,
-        number: u64,
+        _format: Shown,
+        _text: &[u8],
+        _member: Option<&str>,
+        _number: u64,
     ) -> Result<(), AllocError> {
-        let _ = format;
-        let _ = text;
-        let _ = member;
-        let _ = number;
         Ok(())
     }
 
     fn flag(
         &mut self,
-        format: Shown,
-        text: &[u8],
-        member: &str,
-        flag: bool,
+        _format: Shown,
+        _text: &[u8],
+        _member: &str,
+        _flag: bool,
     ) -> Result<(), AllocError> {
-        let _ = format;
-        let _ = text;
-        let _ = member;
-        let _ = flag;
         Ok(())
     }
 
     fn name(
         &mut self,
-        utf8: bool,
-        text: &[u8],
-        member: &str,
-        name: &str,
+        _utf8: bool,
+        _text: &[u8],
+        _member: &str,
+        _name: &str,
     ) -> Result<(), AllocError> {
-        let _ = utf8;
-        let _ = text;
-        let _ = member;
-        let _ = name;
         Ok(())
     }
 
     fn list(
         &mut self,
-        text: &[u8],
-        member: &str,
-        numbers: &NumbersView<'_>,
+        _text: &[u8],
+        _member: &str,
+        _numbers: &NumbersView<'_>,
     ) -> Result<(), AllocError> {
-        let _ = text;
-        let _ = member;
-        let _ = numbers;
         Ok(())
     }
 
-    fn socket_name(&mut self, alloc: Global, name: NameView<'_>) -> Result<(), AllocError> {
-        let _ = alloc;
-        let _ = name;
+    fn socket_name(&mut self, _alloc: Global, _name: NameView<'_>) -> Result<(), AllocError> {
         Ok(())
     }
 
-    fn md5_keys(&mut self, alloc: Global, value: &[u8]) -> Result<(), AllocError> {
-        let _ = alloc;
-        let _ = value;
+    fn md5_keys(&mut self, _alloc: Global, _value: &[u8]) -> Result<(), AllocError> {
         Ok(())
     }
 
-    fn begin(&mut self, opening: &[u8], member: &str) -> Result<(), AllocError> {
-        let _ = opening;
-        let _ = member;
+    fn begin(&mut self, _opening: &[u8], _member: &str) -> Result<(), AllocError> {
         Ok(())
     }
 
-    fn end(&mut self, closing: &[u8]) -> Result<(), AllocError> {
-        let _ = closing;
+    fn end(&mut self, _closing: &[u8]) -> Result<(), AllocError> {
         Ok(())
     }
 
@@ -364,50 +334,43 @@ impl FactSink for Writer {
     #[inline(always)]
     fn number(
         &mut self,
-        format: Shown,
-        text: &[u8],
+        _format: Shown,
+        _text: &[u8],
         member: Option<&str>,
         number: u64,
     ) -> Result<(), AllocError> {
-        let _ = format;
-        let _ = text;
         write_named(self, member, number)
     }
 
     #[tactic(auto, unfolding(crate::specs::Facts::flag_facts))]
     fn flag(
         &mut self,
-        format: Shown,
-        text: &[u8],
+        _format: Shown,
+        _text: &[u8],
         member: &str,
         flag: bool,
     ) -> Result<(), AllocError> {
-        let _ = format;
-        let _ = text;
         write_flag(self, member, flag)
     }
 
     #[tactic(auto, unfolding(crate::specs::Facts::text_facts))]
     fn name(
         &mut self,
-        utf8: bool,
-        text: &[u8],
+        _utf8: bool,
+        _text: &[u8],
         member: &str,
         name: &str,
     ) -> Result<(), AllocError> {
-        let _ = utf8;
-        let _ = text;
         write_text(self, member, name)
     }
 
     #[tactic(auto, unfolding(crate::specs::Facts::list_facts))]
     fn list(
         &mut self,
-        text: &[u8],
+        _text: &[u8],
         member: &str,
         numbers: &NumbersView<'_>,
     ) -> Result<(), AllocError> {
-        let _ = text;
         write_list(self, member, numbers)
     }
 
@@ -420,13 +383,11 @@ impl FactSink for Writer {
         write_md5_keys(alloc, self, value)
     }
 
-    fn begin(&mut self, opening: &[u8], member: &str) -> Result<(), AllocError> {
-        let _ = opening;
+    fn begin(&mut self, _opening: &[u8], member: &str) -> Result<(), AllocError> {
         begin_member(self, member)
     }
 
-    fn end(&mut self, closing: &[u8]) -> Result<(), AllocError> {
-        let _ = closing;
+    fn end(&mut self, _closing: &[u8]) -> Result<(), AllocError> {
         self.end_object()
     }
 

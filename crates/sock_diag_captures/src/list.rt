@@ -13,14 +13,14 @@ ghost use Rattle.sock_diag_captures.specs.Listing.{ListsMessages, ListsDatagram,
 ghost use Rattle.sock_diag_captures.specs.Listing.{ListsCapturedPacket, requests_after_packet};
 ghost use Rattle.sock_diag_captures.specs.Listing.{answer_diagnostic, control_diagnostic};
 ghost use Rattle.sock_diag_captures.specs.Listing.{errno_diagnostic, is_clean_message};
-ghost use Rattle.sock_diag_captures.specs.Listing.{is_informational_or_none, lines_by_type};
+ghost use Rattle.sock_diag_captures.specs.Listing.{is_informational_or_none};
 ghost use Rattle.sock_diag_captures.specs.Listing.{message_diagnostic, message_lines};
 ghost use Rattle.sock_diag_captures.specs.Listing.{requests_after_datagram};
 ghost use Rattle.sock_diag_captures.specs.Messages.{message_parts};
 ghost use Rattle.sock_diag_captures.specs.Requests.{past_requests};
 ghost use Rattle.sock_diag_captures.specs.declared.list.Diagnostic.TheVariants.{Refused};
 
-use crate::error_text::push_diagnostic_text;
+use crate::error_text::push_reason;
 use crate::explanation::push_explanation;
 use crate::headings::push_list_heading;
 use crate::line::push_reply;
@@ -333,38 +333,20 @@ fn push_message(
     ensures diagnostic { IfOk result (λ diagnostic. diagnostic
         ≡ message_diagnostic message.now.header.message_type message.now.payload.now) }
 {
-    let header = &message.header;
+    let Message { header, payload } = message;
+    let message_type = header.message_type;
+    if (NLMSG_NOOP..=NLMSG_OVERRUN).contains(&message_type) {
+        return Ok(diagnostic_of_control(message_type, payload));
+    }
     let protocol = requests.find_protocol(header.sequence_number, header.port_number);
-    push_payload(
+    let error = push_reply(
         lines,
         options,
         requests.list,
         protocol,
-        header.message_type,
-        message.payload,
-    )
-}
-
-/// Appends the lines of the payload of a message, whose header has this type. `list` is the number
-/// of the list, and `protocol` is the protocol of the request. Returns the diagnostic of the
-/// message, except for `Interrupted`.
-fn push_payload(
-    lines: &mut Vec<u8>,
-    options: Options,
-    list: u64,
-    protocol: Option<u32>,
-    message_type: u16,
-    payload: &[u8],
-) -> Result<Option<Diagnostic>, AllocError>
-    ensures lines { OnOk result (lines.new.items ≡ lines.old.items
-        ++ lines_by_type options list protocol message_type payload.now) }
-    ensures diagnostic { IfOk result (λ diagnostic. diagnostic
-        ≡ message_diagnostic message_type payload.now) }
-{
-    if (NLMSG_NOOP..=NLMSG_OVERRUN).contains(&message_type) {
-        return Ok(diagnostic_of_control(message_type, payload));
-    }
-    let error = push_reply(lines, options, list, protocol, message_type, payload)?;
+        message_type,
+        payload,
+    )?;
     Ok(diagnostic_of_rejection(error))
 }
 
@@ -478,7 +460,7 @@ fn push_explained_text(
     ensures { OnOk result (text.new.items ≡ text.old.items
         ++ (diagnostic_text diagnostic.now ++ explanation (message_parts explained.now))) }
 {
-    push_diagnostic_text(text, diagnostic)?;
+    push_reason(text, diagnostic)?;
     push_explanation(text, explained)
 }
 
@@ -496,7 +478,7 @@ fn push_diagnostic(
     ensures front { written.new.front ≡ written.old.front }
 {
     push_line_start(written, position)?;
-    push_diagnostic_text(&mut written.diagnostics, diagnostic)?;
+    push_reason(&mut written.diagnostics, diagnostic)?;
     Ok(written.diagnostics.push(b'\n')?)
 }
 
