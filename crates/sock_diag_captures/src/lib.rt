@@ -149,7 +149,7 @@ pub fn run_to_status<R: Source, W: Sink, E: Sink>(
     // if a write failed there (`is_open` is false). R.left: the bytes that are left to read, if
     // known. W.held, E.held: the bytes written, if known. R.failed, E.failed: a read or a write
     // failed with this error.
-    ensures outcome { (outcome : Result Bool ListError) × (is_open : Bool)
+    ensures { (outcome : Result Bool ListError) × (is_open : Bool)
         × ((exit_status result ≡ 0) ↔ (outcome ≡ Ok true))
         × ((exit_status result ≡ 1) ↔ ¬ (outcome ≡ Ok true))
         × MatchResult outcome
