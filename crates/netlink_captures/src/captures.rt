@@ -48,7 +48,7 @@ const COOKED_HEADER: usize = 16;
 
 /// Greatest length of a packet in bytes, whatever the file header says. It is the default snapshot
 /// length of tcpdump(1).
-pub(crate) const MOST: u32 = 262_144;
+pub(crate) const MOST_OF_PACKET: u32 = 262_144;
 
 /// `ARPHRD_NETLINK`, the hardware type of a netlink packet.
 const HARDWARE_TYPE: u16 = 824;
@@ -78,7 +78,7 @@ pub enum CaptureError {
     OtherVersion(u16),
     /// The link type is not 253 (`LINKTYPE_NETLINK`). It is here.
     OtherLinkType(u32),
-    /// A packet header has a length of more than 262144 bytes. The length is here.
+    /// A packet header has a length of more than `MOST_OF_PACKET` bytes. The length is here.
     PacketTooLong(u32),
     /// Another pcap file begins in place of a packet.
     AnotherCapture,
@@ -314,10 +314,10 @@ impl FileHeader {
     /// Fails with `Truncated` if the input ends within the packet header or the bytes of the
     /// packet, with `Read` if a read failed, with `AnotherCapture` if another pcap file begins in
     /// place of the packet header, with `PacketTooLong` if the captured length is greater than
-    /// 262144, and with `Memory` if an allocation failed. At the end of the input and after an
-    /// error, the content of `packet` is not specified.
+    /// `MOST_OF_PACKET`, and with `Memory` if an allocation failed. At the end of the input and
+    /// after an error, the content of `packet` is not specified.
     ///
-    /// Allocates only for the bytes of the packet, and never for more than 262144 bytes.
+    /// Allocates only for the bytes of the packet, and never for more than `MOST_OF_PACKET` bytes.
     pub fn read_packet<R: Source>(
         &self,
         input: &mut R,
@@ -342,7 +342,7 @@ impl FileHeader {
             return Err(CaptureError::AnotherCapture);
         }
         let length = self.order.word_at(&header, 8);
-        if length > MOST {
+        if length > MOST_OF_PACKET {
             return Err(CaptureError::PacketTooLong(length));
         }
         match read_bytes(input, packet, length as usize) {

@@ -21,7 +21,8 @@ ghost use Rattle.netlink_captures.specs.declared.pcapng.Content.{Content};
 
 use crate::block_error::BlockError;
 use crate::captures::{
-    ByteOrder, CaptureError, LINK_TYPE, MOST, PacketHeader, TimeUnit, fill_or_end, read_bytes,
+    ByteOrder, CaptureError, LINK_TYPE, MOST_OF_PACKET, PacketHeader, TimeUnit, fill_or_end,
+    read_bytes,
 };
 use program_streams::Source;
 use std::alloc::{AllocError, Global};
@@ -33,7 +34,7 @@ const SECTION_HEADER: u32 = 0x0a0d_0d0a;
 const INTERFACE_DESCRIPTION: u32 = 1;
 
 /// Type of a packet block, which is obsolete.
-const PACKET: u32 = 2;
+const OBSOLETE_PACKET: u32 = 2;
 
 /// Type of a simple packet block.
 const SIMPLE_PACKET: u32 = 3;
@@ -49,6 +50,18 @@ const MAJOR_VERSION: u16 = 1;
 
 /// Length of the shortest block in bytes: its type and its length twice.
 pub(crate) const BLOCK_HEADER: usize = 12;
+
+/// Length of the shortest section header block in bytes.
+const LEAST_SECTION_HEADER: usize = 28;
+
+/// Length of the shortest interface description block in bytes.
+const LEAST_INTERFACE: usize = 20;
+
+/// Length of the shortest simple packet block in bytes.
+const LEAST_SIMPLE_PACKET: usize = 16;
+
+/// Length of the shortest enhanced or obsolete packet block in bytes.
+const LEAST_ENHANCED_PACKET: usize = 32;
 
 /// Greatest length of a block in bytes. It is that of Wireshark.
 const MOST_OF_BLOCK: u32 = 16_777_216;
@@ -122,7 +135,7 @@ pub(crate) fn is_section_header(block: &[u8]) -> bool
 /// Returns the byte order of a block: for a section header by its byte-order magic, or else that of
 /// the section. Returns `None` if the magic is unknown.
 fn find_order(order: ByteOrder, block: &[u8]) -> Option<ByteOrder>
-    requires { 12 ≤ length block.now }
+    requires { BLOCK_HEADER ≤ length block.now }
     ensures { result ≡ order_of_block order block.now }
 {
     if !is_section_header(block) {
@@ -140,7 +153,7 @@ fn find_order(order: ByteOrder, block: &[u8]) -> Option<ByteOrder>
 fn is_block_length(offset: u64, length: u32) -> bool
     ensures { result ≡ is_block_length offset length }
 {
-    12 <= length
+    BLOCK_HEADER as u32 <= length
         && length <= MOST_OF_BLOCK
         && length % 4 == 0
         && u64::from(length) <= u64::MAX - offset
@@ -255,7 +268,7 @@ impl PcapngReader {
 
     /// Returns the byte order of the next block, by its first 12 bytes, or their error.
     fn frame(&self, block: &[u8]) -> Result<ByteOrder, CaptureError>
-        requires { 12 ≤ length block.now }
+        requires { BLOCK_HEADER ≤ length block.now }
         ensures { result ≡ frame_of (position_of self.now) block.now }
     {
         match find_order(self.order, block) {
@@ -269,7 +282,7 @@ impl PcapngReader {
     fn section_header(&self, order: ByteOrder, block: &[u8]) -> Result<Content, CaptureError>
         ensures { result ≡ section_header_in (position_of self.now) order block.now }
     {
-        if block.len() < 28 {
+        if block.len() < LEAST_SECTION_HEADER {
             Err(self.block_error(BlockError::Length))
         } else if order.short_at(block, 12) == MAJOR_VERSION {
             Ok(Content::SectionHeader)
@@ -282,7 +295,7 @@ impl PcapngReader {
     fn interface(&self, order: ByteOrder, block: &[u8]) -> Result<Content, CaptureError>
         ensures { result ≡ interface_in (position_of self.now) order block.now }
     {
-        if block.len() < 20 {
+        if block.len() < LEAST_INTERFACE {
             return Err(self.block_error(BlockError::Length));
         }
         if self.interfaces.len() >= MOST_INTERFACES {
@@ -323,7 +336,7 @@ impl PcapngReader {
         ensures value { result ≡ packet_at (position_of self.now) block.now start captured header }
         ensures fits { IfOk result (FitsBlock block.now) }
     {
-        if captured > MOST {
+        if captured > MOST_OF_PACKET {
             return Err(CaptureError::PacketTooLong(captured));
         }
         let count = captured as usize;
@@ -345,7 +358,7 @@ impl PcapngReader {
         unit: TimeUnit,
         timestamp: u64,
     ) -> Result<Content, CaptureError>
-        requires { 32 ≤ length block.now }
+        requires { LEAST_ENHANCED_PACKET ≤ length block.now }
         ensures value { result
             ≡ timed_packet (position_of self.now) order block.now unit timestamp }
         ensures fits { IfOk result (FitsBlock block.now) }
@@ -374,7 +387,7 @@ impl PcapngReader {
         ensures value { result ≡ enhanced_packet_in (position_of self.now) order block.now id }
         ensures fits { IfOk result (FitsBlock block.now) }
     {
-        if block.len() < 32 {
+        if block.len() < LEAST_ENHANCED_PACKET {
             return Err(self.block_error(BlockError::Length));
         }
         match self.find_interface(id) {
@@ -392,7 +405,7 @@ impl PcapngReader {
         ensures value { result ≡ simple_packet_in (position_of self.now) order block.now }
         ensures fits { IfOk result (FitsBlock block.now) }
     {
-        if block.len() < 16 {
+        if block.len() < LEAST_SIMPLE_PACKET {
             return Err(self.block_error(BlockError::Length));
         }
         match self.find_interface(0) {
@@ -413,14 +426,14 @@ impl PcapngReader {
 
     /// Parses a block that is not a section header, by its type.
     fn content_by_type(&self, order: ByteOrder, block: &[u8]) -> Result<Content, CaptureError>
-        requires { 12 ≤ length block.now }
+        requires { BLOCK_HEADER ≤ length block.now }
         ensures value { result ≡ content_by_type (position_of self.now) order block.now
             (number_at_offset order 4 0 block.now) }
         ensures fits { IfOk result (FitsBlock block.now) }
     {
         match order.word_at(block, 0) {
             INTERFACE_DESCRIPTION => self.interface(order, block),
-            PACKET => self.enhanced_packet(order, block, order.short_at(block, 8).into()),
+            OBSOLETE_PACKET => self.enhanced_packet(order, block, order.short_at(block, 8).into()),
             SIMPLE_PACKET => self.simple_packet(order, block),
             ENHANCED_PACKET => self.enhanced_packet(order, block, order.word_at(block, 8)),
             _ => Ok(Content::Skipped),
@@ -429,8 +442,8 @@ impl PcapngReader {
 
     /// Parses a whole block.
     fn content(&self, order: ByteOrder, block: &[u8]) -> Result<Content, CaptureError>
-        requires long { 12 ≤ length block.now }
-        requires short { length block.now ≤ 16777216 }
+        requires long { BLOCK_HEADER ≤ length block.now }
+        requires short { length block.now ≤ MOST_OF_BLOCK }
         ensures value { result ≡ content_of (position_of self.now) order block.now }
         ensures fits { IfOk result (FitsBlock block.now) }
     {
@@ -461,9 +474,9 @@ impl PcapngReader {
         input: &mut R,
         rest: &mut Vec<u8>,
     ) -> Result<ByteOrder, CaptureError>
-        requires { length head.now ≡ 12 }
+        requires { length head.now ≡ BLOCK_HEADER }
         ensures read { IfOk result (λ order. (frame_of (position_of self.old) head.now ≡ Ok order)
-            × (12 + length rest.new.items ≡ number_at_offset order 4 4 head.now)
+            × (BLOCK_HEADER + length rest.new.items ≡ number_at_offset order 4 4 head.now)
             × (self.new.block.items ≡ head.now ++ rest.new.items)
             × Consumes (R.left input.old) (R.left input.new) rest.new.items) }
         ensures kept { position_of self.new ≡ position_of self.old }
@@ -504,7 +517,7 @@ impl PcapngReader {
         input: &mut R,
         rest: &mut Vec<u8>,
     ) -> Result<Content, CaptureError>
-        requires { length head.now ≡ 12 }
+        requires { length head.now ≡ BLOCK_HEADER }
         ensures read { IfOk result (λ content. (more : List ℕ)
             × (self.new.block.items ≡ head.now ++ more)
             × Consumes (R.left input.old) (R.left input.new) more
@@ -529,7 +542,7 @@ impl PcapngReader {
         head: &[u8],
         input: &mut R,
     ) -> Result<PcapngReader, CaptureError>
-        requires { length head.now ≡ 12 }
+        requires { length head.now ≡ BLOCK_HEADER }
         ensures read { IfOk result (λ reader. (more : List ℕ) × (content : Content)
             × Consumes (R.left input.old) (R.left input.new) more
             × MovesOver start_of_file (head.now ++ more) content (position_of reader)) }

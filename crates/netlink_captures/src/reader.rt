@@ -132,14 +132,14 @@ impl CaptureReader {
     /// A pcap file has packets only, see `FileHeader::read_packet`. In a pcapng file, blocks
     /// without a packet are skipped. Fails with `Truncated` if the input ends within a packet or a
     /// block, with `Read` if a read failed, with `PacketTooLong` if the captured length is greater
-    /// than 262144, and with `Memory` if an allocation failed. If another pcap file begins in place
-    /// of a packet of a pcap file, fails with `AnotherCapture`. If a block of a pcapng file is
-    /// invalid, fails with `Block`, and if a packet has another link type than 253, with
-    /// `OtherLinkType`. At the end of the input and after an error, the content of `packet` is not
-    /// specified, and after an error neither is the state of the reader.
+    /// than `MOST_OF_PACKET`, and with `Memory` if an allocation failed. If another pcap file
+    /// begins in place of a packet of a pcap file, fails with `AnotherCapture`. If a block of a
+    /// pcapng file is invalid, fails with `Block`, and if a packet has another link type than 253,
+    /// with `OtherLinkType`. At the end of the input and after an error, the content of `packet` is
+    /// not specified, and after an error neither is the state of the reader.
     ///
     /// Stores at most the bytes of the packet and, of a pcapng file, the last block, of at most
-    /// 16777216 bytes, and the interfaces of the section, at most 4096.
+    /// `MOST_OF_BLOCK` bytes, and the interfaces of the section, at most `MOST_INTERFACES`.
     pub fn read_packet<R: Source>(
         &mut self,
         input: &mut R,
