@@ -68,11 +68,11 @@ arguments_are : (code : ℕ) (args : List ℕ) (far : ℕ) (rest : List ℕ)
 arguments_are code args far rest =
     grind (arith, take-append_seam args rest)
 
-module _ (found : ℕ → List ℕ → Bool) where
-  condition_met : (c : Condition) (far : ℕ) (rest : List ℕ)
-      → is_met found (operation (code_of c) (arguments c) far ++ rest)
-      ≡ found (code_of c) (arguments c)
-  condition_met c far rest =
+module _ (condition_met : ℕ → List ℕ → Bool) where
+  is_met-operation : (c : Condition) (far : ℕ) (rest : List ℕ)
+      → is_met condition_met (operation (code_of c) (arguments c) far ++ rest)
+      ≡ condition_met (code_of c) (arguments c)
+  is_met-operation c far rest =
       grind (
         arith,
         operation (code_of c) (arguments c) far,
@@ -85,7 +85,8 @@ module _ (found : ℕ → List ℕ → Bool) where
   -- the run there, or `false` if this is past the end.
   abbrev ContinuesWithVerdict : ℕ → List ℕ → Bool → Type 0
   ContinuesWithVerdict far rest v =
-      ((far ≤ length rest) × Runs found (drop far rest) v) ⊎ ((length rest < far) × (v ≡ false))
+      ((far ≤ length rest) × Runs condition_met (drop far rest) v)
+      ⊎ ((length rest < far) × (v ≡ false))
 
   continues_after_prefix : (front rest : List ℕ) (far own : ℕ) (v : Bool) → length front ≡ own
       → ContinuesWithVerdict far rest v → ContinuesWithVerdict (own + far) (front ++ rest) v
@@ -94,25 +95,26 @@ module _ (found : ℕ → List ℕ → Bool) where
 
   operation_runs : (code : ℕ) (args : List ℕ) (far : ℕ) (rest : List ℕ) (v : Bool)
       → 4 + length args + far ≤ 65535
-      → (is_met found (operation code args far ++ rest) ≡ true → Runs found rest v)
-      → (is_met found (operation code args far ++ rest) ≡ false → ContinuesWithVerdict far rest v)
-      → Runs found (operation code args far ++ rest) v
+      → (is_met condition_met (operation code args far ++ rest) ≡ true → Runs condition_met rest v)
+      → (is_met condition_met (operation code args far ++ rest) ≡ false
+      → ContinuesWithVerdict far rest v)
+      → Runs condition_met (operation code args far ++ rest) v
   operation_runs code args far rest v near wanted unwanted =
       let left : List ℕ = operation code args far ++ rest in
       let no_is : no_at left ≡ 4 + length args + far = no_of_operation code args far rest near in
       let own = operation_length code args far in
       let long : length left ≡ 4 + length args + length rest =
       length-append (operation code args far) rest ∙ ap (λ (n : ℕ). n + length rest) own in
-      either (is_met found left) (Runs found left v)
+      either (is_met condition_met left) (Runs condition_met left v)
       (λ met.
-      let takes : step found left ≡ yes_at left =
+      let takes : step condition_met left ≡ yes_at left =
       ap (λ (b : Bool). if b then yes_at left else no_at left) met in
       goes_on left v (omega arith) (omega arith)
-      (subst (λ (l : List ℕ). Runs found l v)
+      (subst (λ (l : List ℕ). Runs condition_met l v)
       (sym (ap (λ (n : ℕ). drop n left) takes ∙ bytes_after_operation code args far rest))
       (wanted met)))
       (λ unmet.
-      let takes : step found left ≡ 4 + length args + far =
+      let takes : step condition_met left ≡ 4 + length args + far =
       ap (λ (b : Bool). if b then yes_at left else no_at left) unmet ∙ no_is in
       let goes = continues_after_prefix (operation code args far) rest far (4 + length args) v own
       (unwanted unmet) in
@@ -120,30 +122,34 @@ module _ (found : ℕ → List ℕ → Bool) where
         | inl within ↦
             let less = within.0 in
             goes_on left v (omega arith) (omega arith)
-            (subst (λ (l : List ℕ). Runs found l v) (sym (ap (λ (n : ℕ). drop n left) takes))
-            within.1)
+            (subst (λ (l : List ℕ). Runs condition_met l v)
+            (sym (ap (λ (n : ℕ). drop n left) takes)) within.1)
         | inr past ↦
             let more = past.0 in
-            subst (λ (w : Bool). Runs found left w) (sym past.1)
+            subst (λ (w : Bool). Runs condition_met left w) (sym past.1)
             (goes_past left (omega arith) (omega arith))
       ])
 
   jump_runs : (far : ℕ) (rest : List ℕ) (v : Bool) → 4 + far ≤ 65535
       → ContinuesWithVerdict far rest v
-      → Runs found (jump far ++ rest) v
+      → Runs condition_met (jump far ++ rest) v
   jump_runs far rest v near goes =
       operation_runs 1 [] far rest v (omega arith) (λ met. absurd cc) (λ unmet. goes)
 
   -- Whether the filter selects the socket.
   abbrev filter_selects : Filter → Bool
-  filter_selects f = meaning (λ (c : Condition). found (code_of c) (arguments c)) f
+  filter_selects f = meaning (λ (c : Condition). condition_met (code_of c) (arguments c)) f
 
   program_runs : (f : Filter) (far : ℕ) (rest : List ℕ) (v : Bool) → program_size f + far ≤ 65535
-      → (filter_selects f ≡ true → Runs found rest v)
+      → (filter_selects f ≡ true → Runs condition_met rest v)
       → (filter_selects f ≡ false → ContinuesWithVerdict far rest v)
-      → Runs found (program_of f far ++ rest) v
+      → Runs condition_met (program_of f far ++ rest) v
   program_runs (parts.Condition c) far rest v near wanted unwanted =
-      grind (arith, condition_met c far rest, operation_runs (code_of c) (arguments c) far rest v)
+      grind (
+        arith,
+        is_met-operation c far rest,
+        operation_runs (code_of c) (arguments c) far rest v,
+      )
   program_runs (parts.And' p a q b) far rest v near wanted unwanted =
       grind (
         arith,
@@ -188,9 +194,9 @@ module _ (found : ℕ → List ℕ → Bool) where
       )
 
   pub program_verdict_is_meaning : (f : Filter) → program_size f ≤ 65531
-      → Runs found (program_of f 4) (filter_selects f)
+      → Runs condition_met (program_of f 4) (filter_selects f)
   program_verdict_is_meaning f short =
-      subst (λ (l : List ℕ). Runs found l (filter_selects f)) (append-nil (program_of f 4))
+      subst (λ (l : List ℕ). Runs condition_met l (filter_selects f)) (append-nil (program_of f 4))
       (program_runs f 4 [] (filter_selects f) (omega arith)
-      (λ is. subst (Runs found []) (sym is) (ends [] refl))
+      (λ is. subst (Runs condition_met []) (sym is) (ends [] refl))
       (λ is. inr (omega arith, is)))

@@ -8,7 +8,7 @@ use Rattle.sock_diag_filters.specs.declared.request.RequestAttribute.{RequestAtt
 use Rattle.sock_diag_filters.specs.AnyRequest.{AnyRequest, RecordFamily, record_request_codec}
 use Rattle.sock_diag_filters.specs.AnyRequest.{of_family, of_inet, record_request_size}
 use Rattle.sock_diag_filters.specs.InetRequests.{IsRequestType}
-use Rattle.sock_diag_filters.specs.ReadBack.{IsParsedRequest}
+use Rattle.sock_diag_filters.specs.ReadBack.{IsParsedRequest, IsRoundTrippingRequest}
 
 -- `record_request_bytes family h request attributes`: the bytes of a message: the netlink header
 -- `h` unchanged, the record of the family, and the bytes after the record.
@@ -24,7 +24,6 @@ pub record IsCompleteRecordRequest (family : RecordFamily) (h : NetlinkHeader)
     (attributes : List ℕ) : Type 0 where
   -- each number of the header fits its field
   pub header : FitFields header_fields (header_values h)
-  -- the message type is 20 or 21
   pub kind : IsRequestType h.message_type
   -- the length in the header is the length of the message
   pub counted : h.length ≡ 16 + (record_request_size family + length attributes)
@@ -32,6 +31,14 @@ pub record IsCompleteRecordRequest (family : RecordFamily) (h : NetlinkHeader)
   pub in_range : (record_request_codec family).is_in_range request
   -- the record is in normal form
   pub normal : (record_request_codec family).is_normal tt request
+
+-- `IsCompleteInetRequest h request attributes`: the message of the header `h` with its own length,
+-- the request and the attributes is a complete request, and round-trips.
+pub record IsCompleteInetRequest (h : NetlinkHeader) (request : InetRequest)
+    (attributes : List RequestAttribute) : Type 0 where
+  -- the request is in range and in normal form, and the lengths fit
+  pub round_trips : IsRoundTrippingRequest h request attributes
+  pub kind : IsRequestType h.message_type
 
 -- `IsParsedInetRequest h request attributes parsed`: the parsed request is a request for IPv4 or
 -- IPv6 sockets, with the content of the request that was serialized from `h`, `request` and

@@ -12,8 +12,10 @@ use Rattle.netlink_core.specs.declared.error.DecodeError.TheVariants.{UnknownMes
 use Rattle.netlink_core.specs.declared.header.NetlinkHeader.{NetlinkHeader}
 use Rattle.sock_diag_records.specs.InetRequest.{inet_request}
 use Rattle.sock_diag_records.specs.declared.inet.request.InetRequest.{InetRequest}
-use Rattle.sock_diag_records.specs.declared.constants.TheConstants as c
-use Rattle.sock_diag_records.specs.declared.inet.request.TheConstants as constants
+use Rattle.sock_diag_records.specs.declared.constants.TheConstants.{SOCK_DESTROY}
+use Rattle.sock_diag_records.specs.declared.constants.TheConstants.{SOCK_DIAG_BY_FAMILY}
+use Rattle.sock_diag_records.specs.declared.inet.request.TheConstants.{INET_DIAG_REQ_BYTECODE}
+use Rattle.sock_diag_records.specs.declared.inet.request.TheConstants.{INET_DIAG_REQ_PROTOCOL}
 use Rattle.sock_diag_filters.specs.declared.request.RequestAttribute.{RequestAttribute}
 use Rattle.sock_diag_filters.specs.declared.request.RequestAttribute.TheVariants.{Program, Protocol}
 use Rattle.sock_diag_filters.specs.declared.view.Found.{Found}
@@ -30,8 +32,8 @@ pub data RequestContent : Type 0 where
 -- length other than 4 is WrongLength. Other types have no content.
 abbrev pub decode_request_attribute : Attribute → Result RequestContent DecodeError
 decode_request_attribute a =
-    if attribute_kind a == constants.INET_DIAG_REQ_BYTECODE then Ok (program_asked a.value)
-    else if attribute_kind a == constants.INET_DIAG_REQ_PROTOCOL
+    if attribute_kind a == INET_DIAG_REQ_BYTECODE then Ok (program_asked a.value)
+    else if attribute_kind a == INET_DIAG_REQ_PROTOCOL
     then map_ok protocol_asked (number_of_width None 4 a.value)
     else Ok nothing_asked
 
@@ -66,14 +68,13 @@ message_payload message h = take (h.length - 16) (drop 16 message)
 
 -- The message type is SOCK_DIAG_BY_FAMILY or SOCK_DESTROY.
 abbrev pub IsRequestType : ℕ → Type 0
-IsRequestType t = (t ≡ c.SOCK_DIAG_BY_FAMILY) ⊎ (t ≡ c.SOCK_DESTROY)
+IsRequestType t = (t ≡ SOCK_DIAG_BY_FAMILY) ⊎ (t ≡ SOCK_DESTROY)
 
 -- `ParsesAsRequest message view`: the message at the start of the bytes parses as the view. Bytes
 -- after it are ignored.
 pub record ParsesAsRequest (message : List ℕ) (view : RequestView) : Type 0 where
   -- the message starts with the netlink header of the view
   pub framed : HasHeader message view.header
-  -- the message type is SOCK_DIAG_BY_FAMILY or SOCK_DESTROY
   pub kind : IsRequestType view.header.message_type
   -- the payload starts with the record of the view, `struct inet_diag_req_v2` of 56 bytes
   pub asked : parse_record inet_request tt (message_payload message view.header) ≡ Ok view.request

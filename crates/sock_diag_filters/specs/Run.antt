@@ -10,16 +10,23 @@ use Rattle.sock_diag_filters.specs.Audit.{code_at, yes_at, no_at}
 abbrev pub arguments_at : List ℕ → List ℕ
 arguments_at left = take (yes_at left - 4) (drop 4 left)
 
--- `found code arguments` is whether the socket meets the condition of an operation with this code
--- and these arguments. It is the first argument of each definition of this module.
-module _ (found : ℕ → List ℕ → Bool) where
-  -- The condition of the operation at the start is met. The condition of INET_DIAG_BC_NOP (0) is
-  -- always met, and of INET_DIAG_BC_JMP (1) never.
+-- the code of INET_DIAG_BC_NOP, whose condition is always met
+abbrev pub nop_code : ℕ
+nop_code = 0
+
+-- the code of INET_DIAG_BC_JMP, whose condition is never met
+abbrev pub jmp_code : ℕ
+jmp_code = 1
+
+-- `condition_met code arguments` is whether the socket meets the condition of another operation
+-- with this code and these arguments. It is the first argument of each definition of this module.
+module _ (condition_met : ℕ → List ℕ → Bool) where
+  -- The condition of the operation at the start is met.
   abbrev pub is_met : List ℕ → Bool
   is_met left =
-      if code_at left == 0 then true
-      else if code_at left == 1 then false
-      else found (code_at left) (arguments_at left)
+      if code_at left == nop_code then true
+      else if code_at left == jmp_code then false
+      else condition_met (code_at left) (arguments_at left)
 
   -- The distance to the next operation, in bytes: `yes` if the condition is met, `no` if not.
   abbrev pub step : List ℕ → ℕ

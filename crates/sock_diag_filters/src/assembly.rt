@@ -57,12 +57,13 @@ pub fn assemble(alloc: Global, filter: &Filter) -> Result<Vec<u8>, AssembleError
     ensures short { IfOk result (λ program. length program.items ≤ 65531) }
     // `IsAudited program`: the kernel accepts the program.
     ensures audited { IfOk result (λ program. IsAudited program.items) }
-    // `found code arguments`: any assumed result of the condition of an operation.
-    // `Runs found program v`: a run of the program with these results has the verdict `v`.
+    // `condition_met code arguments`: any assumed result of the condition of an operation.
+    // `Runs condition_met program v`: a run of the program with these results has the verdict `v`.
     // `meaning met filter`: whether the filter selects a socket, if `met` says which conditions the
     // socket meets.
-    ensures runs { IfOk result (λ program. (found : ℕ → List ℕ → Bool) → Runs found program.items
-        (meaning (λ c. found (code_of c) (arguments c)) filter.now)) }
+    ensures runs { IfOk result (λ program. (condition_met : ℕ → List ℕ → Bool)
+        → Runs condition_met program.items
+        (meaning (λ c. condition_met (code_of c) (arguments c)) filter.now)) }
     // `kernel_evaluates socket`: the kernel's results for this socket. `meets socket`: which
     // conditions the socket meets.
     ensures selects_by_filter { IfOk result (λ program. (socket : Socket)

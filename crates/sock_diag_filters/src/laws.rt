@@ -19,7 +19,7 @@ ghost use Rattle.sock_diag_filters.specs.AnyRequest.{ParsesAsAnyRequest, AnyRequ
 ghost use Rattle.sock_diag_filters.specs.AnyRequest.{IsRejectedAnyRequest, record_request_codec};
 ghost use Rattle.sock_diag_filters.specs.AnyRequest.{of_family};
 ghost use Rattle.sock_diag_filters.specs.AnyReadBack.{IsParsedInetRequest, IsCompleteRecordRequest};
-ghost use Rattle.sock_diag_filters.specs.AnyReadBack.{record_request_bytes};
+ghost use Rattle.sock_diag_filters.specs.AnyReadBack.{IsCompleteInetRequest, record_request_bytes};
 ghost use Rattle.sock_diag_filters.specs.ReadBack.{IsRoundTrippingRequest, IsParsedRequest};
 ghost use Rattle.sock_diag_filters.specs.Requests.{request_attribute, request_bytes};
 ghost use Rattle.sock_diag_filters.specs.declared.request.RequestAttribute.{RequestAttribute};
@@ -57,26 +57,28 @@ pub fn request_round_trips()
         (attributes : List RequestAttribute) (e : DecodeError)
         → IsRoundTrippingRequest h request attributes
         → IsRequestType h.message_type
-        → IsRejectedRequest (request_bytes h request (map request_attribute attributes)) e → ⊥ }
+        → ¬ IsRejectedRequest (request_bytes h request (map request_attribute attributes)) e }
 {}
 
 /// States that requests round-trip through `AnyRequestView::parse`.
 ///
-/// - `records`, `records_accepted`: a header, a record and any bytes after it are accepted and
-///   parsed as these, if the record is in range and in normal form, and the header has the type of
-///   a request and the length of the message (`IsCompleteRecordRequest`).
+/// - `records`, `records_accepted`: of a request for UNIX, netlink, packet, vsock or XDP sockets, a
+///   header, a record and any bytes after it are accepted and parsed as these, if the record is in
+///   range and in normal form, and the header has the type of a request and the length of the
+///   message (`IsCompleteRecordRequest`).
 /// - `inet`, `inet_accepted`: a `RequestWithAttributes` is accepted, and parsed as its header with
 ///   the length of the message, its request, and its last program and protocol, if its request is
-///   in range and in normal form, its lengths fit (`IsRoundTrippingRequest`), and its header has
-///   the type of a request.
+///   in range and in normal form, its lengths fit, and its header has the type of a request
+///   (`IsCompleteInetRequest`).
 pub fn any_request_round_trips()
     // `record_request_bytes family h request attributes`: the bytes of the message: the header, the
     // record of the family, and the bytes `attributes`. `ParsesAsAnyRequest message other`: they
     // parse as the request `other`. `of_family family h request attributes`: the request of another
     // family than IPv4 and IPv6, with this content.
-    // `IsParsedInetRequest h request attributes other`: a request for IPv4 or IPv6 sockets with the
-    // content that was serialized. `IsRejectedAnyRequest message e`: they are rejected with `e`.
-    // The other definitions are as in `request_round_trips`.
+    // `request_bytes h request (map request_attribute attributes)`: the bytes of a
+    // `RequestWithAttributes`. `IsParsedInetRequest h request attributes other`: a request for IPv4
+    // or IPv6 sockets with the content that was serialized. `IsRejectedAnyRequest message e`: the
+    // bytes are rejected with `e`.
     ensures records { (family : RecordFamily) (h : NetlinkHeader)
         (request : (record_request_codec family).Value) (attributes : List ℕ) (other : AnyRequest)
         → IsCompleteRecordRequest family h request attributes
@@ -85,17 +87,15 @@ pub fn any_request_round_trips()
     ensures records_accepted { (family : RecordFamily) (h : NetlinkHeader)
         (request : (record_request_codec family).Value) (attributes : List ℕ) (e : DecodeError)
         → IsCompleteRecordRequest family h request attributes
-        → IsRejectedAnyRequest (record_request_bytes family h request attributes) e → ⊥ }
+        → ¬ IsRejectedAnyRequest (record_request_bytes family h request attributes) e }
     ensures inet { (h : NetlinkHeader) (request : InetRequest) (attributes : List RequestAttribute)
-        (other : AnyRequest) → IsRoundTrippingRequest h request attributes
-        → IsRequestType h.message_type
+        (other : AnyRequest) → IsCompleteInetRequest h request attributes
         → ParsesAsAnyRequest (request_bytes h request (map request_attribute attributes)) other
         → IsParsedInetRequest h request attributes other }
     ensures inet_accepted { (h : NetlinkHeader) (request : InetRequest)
         (attributes : List RequestAttribute) (e : DecodeError)
-        → IsRoundTrippingRequest h request attributes
-        → IsRequestType h.message_type
-        → IsRejectedAnyRequest (request_bytes h request (map request_attribute attributes)) e → ⊥ }
+        → IsCompleteInetRequest h request attributes
+        → ¬ IsRejectedAnyRequest (request_bytes h request (map request_attribute attributes)) e }
 {}
 
 /// States that a filter selects the same sockets under two readings of its conditions: under
@@ -113,14 +113,15 @@ pub fn programs_select_by_filter()
         ≡ meaning (meets socket) filter }
 {}
 
-/// States that a run of a program, with given results of its conditions (`found`), has at most one
-/// verdict.
+/// States that a run of a program, with given results of its conditions (`condition_met`), has at
+/// most one verdict.
 #[tactic(auto, using(crate::proofs::Verdicts::one_verdict))]
 pub fn one_verdict()
-    // `Runs found program verdict`: a run of the program has this verdict: whether the socket is
-    // selected. `found code arguments`: the result of the condition of an operation.
-    ensures { (found : ℕ → List ℕ → Bool) (program : List ℕ) (v w : Bool)
-        → Runs found program v → Runs found program w → v ≡ w }
+    // `Runs condition_met program verdict`: a run of the program has this verdict: whether the
+    // socket is selected. `condition_met code arguments`: whether the condition of an operation is
+    // met.
+    ensures { (condition_met : ℕ → List ℕ → Bool) (program : List ℕ) (v w : Bool)
+        → Runs condition_met program v → Runs condition_met program w → v ≡ w }
 {}
 
 /// States that `==` holds if and only if two attributes of requests have the same kind and the same

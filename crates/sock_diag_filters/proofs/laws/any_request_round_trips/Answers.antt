@@ -1,4 +1,3 @@
-use Rattle.std.proofs.Common.{arith}
 use Rattle.sock_diag_filters.proofs.AnyReadBack.{serialized_inet_request_is_accepted}
 use Rattle.sock_diag_filters.proofs.AnyReadBack.{serialized_inet_request_parses}
 use Rattle.sock_diag_filters.proofs.AnyReadBack.{serialized_record_request_is_accepted}
@@ -14,9 +13,9 @@ returns-clause-records_accepted c = λ family h request attributes e whole refus
     serialized_record_request_is_accepted family h request attributes whole e refused
 
 pub returns-clause-inet : goal.returns-clause-inet
-returns-clause-inet c =
-    grind (arith, serialized_inet_request_parses)
+returns-clause-inet c = λ h request attributes other whole asks.
+    serialized_inet_request_parses h request attributes whole.round_trips whole.kind other asks
 
 pub returns-clause-inet_accepted : goal.returns-clause-inet_accepted
-returns-clause-inet_accepted c = λ h request attributes e can kind refused.
-    serialized_inet_request_is_accepted h request attributes can kind e refused
+returns-clause-inet_accepted c = λ h request attributes e whole refused.
+    serialized_inet_request_is_accepted h request attributes whole.round_trips whole.kind e refused
