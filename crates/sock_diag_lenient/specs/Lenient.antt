@@ -18,7 +18,7 @@ pub record RejectionModel : Type 0 where
   pub attribute : Option Attribute
   pub error : DecodeError
 
--- The model of a rejected attribute (`LenientError`).
+-- The model of a rejected attribute, or of a framing error.
 abbrev pub rejection_model : LenientError → RejectionModel
 rejection_model (refused.Attribute nla e) = record {
   attribute = Some (buffered_attribute nla);
@@ -62,7 +62,7 @@ StartsWithLenientItem F left item later =
 -- `YieldsLenientItem F view_model old given new`: what a call of `next` does: `old` is the iterator
 -- before it, `given` what it returns, and `new` the iterator after it. It returns None if no bytes
 -- are left. Otherwise it returns the first item of the bytes left, and leaves the bytes after the
--- item.
+-- item. `view_model` maps a view to the value that it decodes to.
 abbrev pub YieldsLenientItem : {V : Type 0} (F : AttributeSet) → (V → AttributeValue F)
     → LenientNlas V
     → Option (Result V LenientError) → LenientNlas V → Type 0
