@@ -13,10 +13,10 @@ use Rattle.sock_diag_families.specs.AttributeGetters.{first_value_of_kind, parse
 abbrev pub attributes_in : List ℕ → List Attribute
 attributes_in = decoded_in (decode_attribute [])
 
--- `first_in kind bytes`: the value of the first attribute of type `kind` in the bytes, or None if
--- there is none. The two flag bits of the type field are ignored.
-abbrev pub first_in : ℕ → List ℕ → Option (List ℕ)
-first_in kind bytes = first_value_of_kind kind (attributes_in bytes)
+-- `first_value_in kind bytes`: the value of the first attribute of type `kind` in the bytes, or
+-- None if there is none. The two flag bits of the type field are ignored.
+abbrev pub first_value_in : ℕ → List ℕ → Option (List ℕ)
+first_value_in kind bytes = first_value_of_kind kind (attributes_in bytes)
 
 -- `nested_number_in row bytes`: the little-endian number in the first attribute of a type in the
 -- bytes. `row` is the pair of the attribute type (`row.0`) and the width of the number in bytes
@@ -24,4 +24,4 @@ first_in kind bytes = first_value_of_kind kind (attributes_in bytes)
 -- length of its value is not this width.
 abbrev pub nested_number_in : ℕ × ℕ → List ℕ → Result (Option ℕ) DecodeError
 nested_number_in row bytes = parse_if_present (number_of_width (Some row.0) row.1)
-    (first_in row.0 bytes)
+    (first_value_in row.0 bytes)

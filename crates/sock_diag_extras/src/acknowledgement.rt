@@ -17,7 +17,7 @@ ghost use Rattle.sock_diag_extras.specs.Acknowledgement.{error_attribute_bytes};
 ghost use Rattle.sock_diag_extras.specs.Acknowledgement.{acked_request_bytes, acked_request_length};
 ghost use Rattle.sock_diag_extras.specs.Models.{ack_attributes, ack_number, ack_request};
 ghost use Rattle.sock_diag_extras.specs.Models.{nested_bytes};
-ghost use Rattle.sock_diag_extras.specs.Nested.{first_in};
+ghost use Rattle.sock_diag_extras.specs.Nested.{first_value_in};
 
 use crate::bytes::suffix_from;
 use crate::constants::{
@@ -134,9 +134,9 @@ impl<'a> AckView<'a> {
 
     /// Returns the attributes `NLMSGERR_ATTR_..`, or their first framing error.
     pub fn attributes(&self) -> Result<AckAttributes<'a>, DecodeError>
+        ensures kept { IfOk result (λ parsed. nested_bytes parsed.0 ≡ ack_attributes self.now) }
         // `decode_attribute []`: no attribute type is known, so every value is accepted, and only
         // the framing can be invalid.
-        ensures kept { IfOk result (λ told. nested_bytes told.0 ≡ ack_attributes self.now) }
         ensures error { IfErr result (HasAttributeError (decode_attribute [])
             (ack_attributes self.now)) }
     {
@@ -154,7 +154,8 @@ impl<'a> AckAttributes<'a> {
     /// has one. Text that is not valid UTF-8 is `NotUtf8`.
     pub fn message(&self) -> Result<Option<&'a str>, DecodeError>
         ensures { map_ok (option_map (λ text. text.now)) result
-            ≡ parse_if_present parse_text (first_in NLMSGERR_ATTR_MSG (nested_bytes self.now.0)) }
+            ≡ parse_if_present parse_text
+            (first_value_in NLMSGERR_ATTR_MSG (nested_bytes self.now.0)) }
     {
         self.0.text_of(NLMSGERR_ATTR_MSG)
     }
@@ -165,7 +166,7 @@ impl<'a> AckAttributes<'a> {
     pub fn offset(&self) -> Result<Option<u32>, DecodeError>
         ensures { result
             ≡ parse_if_present (number_of_width None 4)
-            (first_in NLMSGERR_ATTR_OFFS (nested_bytes self.now.0)) }
+            (first_value_in NLMSGERR_ATTR_OFFS (nested_bytes self.now.0)) }
     {
         self.0.word_of(NLMSGERR_ATTR_OFFS)
     }
@@ -174,7 +175,7 @@ impl<'a> AckAttributes<'a> {
     /// kernel's subsystem.
     pub fn cookie(&self) -> Option<&'a [u8]>
         ensures { option_map (λ value. value.now) result
-            ≡ first_in NLMSGERR_ATTR_COOKIE (nested_bytes self.now.0) }
+            ≡ first_value_in NLMSGERR_ATTR_COOKIE (nested_bytes self.now.0) }
     {
         self.0.value_of(NLMSGERR_ATTR_COOKIE)
     }
@@ -183,7 +184,7 @@ impl<'a> AckAttributes<'a> {
     /// attributes.
     pub fn policy(&self) -> Option<&'a [u8]>
         ensures { option_map (λ value. value.now) result
-            ≡ first_in NLMSGERR_ATTR_POLICY (nested_bytes self.now.0) }
+            ≡ first_value_in NLMSGERR_ATTR_POLICY (nested_bytes self.now.0) }
     {
         self.0.value_of(NLMSGERR_ATTR_POLICY)
     }
@@ -193,7 +194,7 @@ impl<'a> AckAttributes<'a> {
     pub fn missing_kind(&self) -> Result<Option<u32>, DecodeError>
         ensures { result
             ≡ parse_if_present (number_of_width None 4)
-            (first_in NLMSGERR_ATTR_MISS_TYPE (nested_bytes self.now.0)) }
+            (first_value_in NLMSGERR_ATTR_MISS_TYPE (nested_bytes self.now.0)) }
     {
         self.0.word_of(NLMSGERR_ATTR_MISS_TYPE)
     }
@@ -205,7 +206,7 @@ impl<'a> AckAttributes<'a> {
     pub fn missing_nest(&self) -> Result<Option<u32>, DecodeError>
         ensures { result
             ≡ parse_if_present (number_of_width None 4)
-            (first_in NLMSGERR_ATTR_MISS_NEST (nested_bytes self.now.0)) }
+            (first_value_in NLMSGERR_ATTR_MISS_NEST (nested_bytes self.now.0)) }
     {
         self.0.word_of(NLMSGERR_ATTR_MISS_NEST)
     }

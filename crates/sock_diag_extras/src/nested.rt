@@ -9,7 +9,7 @@ ghost use Rattle.netlink_core.specs.Parse.{number_of_width, parse_text};
 ghost use Rattle.netlink_core.specs.Walk.{unread_bytes};
 ghost use Rattle.attribute_lists.specs.AttributesIn.{HasNoAttributeError};
 ghost use Rattle.sock_diag_families.specs.AttributeGetters.{parse_if_present};
-ghost use Rattle.sock_diag_extras.specs.Nested.{first_in, nested_number_in};
+ghost use Rattle.sock_diag_extras.specs.Nested.{first_value_in, nested_number_in};
 
 use attribute_lists::{check_nlas, next_view};
 use byteorder::{ByteOrder, LittleEndian};
@@ -31,8 +31,8 @@ impl<'a> NestedNlas<'a> {
     /// Borrows the attributes in the bytes. Returns the first framing error, if there is one. The
     /// values are not parsed.
     pub fn parse(bytes: &'a [u8]) -> Result<NestedNlas<'a>, DecodeError>
-        // `decode_attribute []`: no attribute type is known, so every value is accepted.
         ensures kept { IfOk result (λ nested. nested_bytes nested ≡ bytes.entry.now) }
+        // `decode_attribute []`: no attribute type is known, so every value is accepted.
         ensures error { IfErr result (HasAttributeError (decode_attribute []) bytes.entry.now) }
     {
         let _count = check_nlas::<RawNla>(bytes)?;
@@ -48,7 +48,8 @@ impl<'a> NestedNlas<'a> {
 
     /// Returns the value of the first attribute of the kind, or `None` if there is none.
     pub fn value_of(&self, kind: u16) -> Option<&'a [u8]>
-        ensures { option_map (λ value. value.now) result ≡ first_in kind (nested_bytes self.now) }
+        ensures { option_map (λ value. value.now) result
+            ≡ first_value_in kind (nested_bytes self.now) }
     {
         let mut walk = self.walk();
         while let Some(nla) = next_view::<RawNla>(&mut walk) {
@@ -64,7 +65,7 @@ impl<'a> NestedNlas<'a> {
     /// is `NotUtf8`; `value_of` returns its bytes.
     pub fn text_of(&self, kind: u16) -> Result<Option<&'a str>, DecodeError>
         ensures { map_ok (option_map (λ text. text.now)) result
-            ≡ parse_if_present parse_text (first_in kind (nested_bytes self.now)) }
+            ≡ parse_if_present parse_text (first_value_in kind (nested_bytes self.now)) }
     {
         match self.value_of(kind) {
             Some(value) => Ok(Some(parse_str(value)?)),
@@ -77,7 +78,7 @@ impl<'a> NestedNlas<'a> {
     /// the kind.
     pub fn word_of(&self, kind: u16) -> Result<Option<u32>, DecodeError>
         ensures { result ≡ parse_if_present (number_of_width None 4)
-            (first_in kind (nested_bytes self.now)) }
+            (first_value_in kind (nested_bytes self.now)) }
     {
         match self.value_of(kind) {
             Some(value) => Ok(Some(parse_u32(value)?)),
@@ -109,10 +110,10 @@ impl<'a> NestedNlas<'a> {
     /// is one.
     pub fn nested_of(&self, kind: u16) -> Result<Option<NestedNlas<'a>>, DecodeError>
         ensures kept { IfOk result (λ found. option_map (λ nested. nested_bytes nested) found
-            ≡ first_in kind (nested_bytes self.now)) }
+            ≡ first_value_in kind (nested_bytes self.now)) }
         // `value`: the value of the attribute, in which the framing error is.
         ensures error { IfErr result (λ e. (value : List ℕ)
-            × (first_in kind (nested_bytes self.now) ≡ Some value)
+            × (first_value_in kind (nested_bytes self.now) ≡ Some value)
             × HasAttributeError (decode_attribute []) value e) }
     {
         match self.value_of(kind) {

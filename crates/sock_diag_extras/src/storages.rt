@@ -7,7 +7,7 @@ ghost use Rattle.netlink_core.specs.Parse.{number_of_width};
 ghost use Rattle.netlink_core.specs.Walk.{buffered_attribute};
 ghost use Rattle.sock_diag_families.specs.AttributeGetters.{parse_if_present};
 ghost use Rattle.sock_diag_extras.specs.Models.{nested_bytes};
-ghost use Rattle.sock_diag_extras.specs.Nested.{first_in};
+ghost use Rattle.sock_diag_extras.specs.Nested.{first_value_in};
 
 use crate::constants::{
     SK_DIAG_BPF_STORAGE, SK_DIAG_BPF_STORAGE_MAP_ID, SK_DIAG_BPF_STORAGE_MAP_VALUE,
@@ -47,7 +47,7 @@ impl<'a> BpfStorage<'a> {
     pub fn map_id(&self) -> Result<Option<u32>, DecodeError>
         ensures { result
             ≡ parse_if_present (number_of_width None 4)
-            (first_in SK_DIAG_BPF_STORAGE_MAP_ID (nested_bytes self.now.0)) }
+            (first_value_in SK_DIAG_BPF_STORAGE_MAP_ID (nested_bytes self.now.0)) }
     {
         self.0.word_of(SK_DIAG_BPF_STORAGE_MAP_ID)
     }
@@ -56,7 +56,7 @@ impl<'a> BpfStorage<'a> {
     /// `SK_DIAG_BPF_STORAGE_MAP_VALUE`, or `None` if there is none.
     pub fn map_value(&self) -> Option<&'a [u8]>
         ensures { option_map (λ value. value.now) result
-            ≡ first_in SK_DIAG_BPF_STORAGE_MAP_VALUE (nested_bytes self.now.0) }
+            ≡ first_value_in SK_DIAG_BPF_STORAGE_MAP_VALUE (nested_bytes self.now.0) }
     {
         self.0.value_of(SK_DIAG_BPF_STORAGE_MAP_VALUE)
     }

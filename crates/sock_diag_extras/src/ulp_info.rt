@@ -8,7 +8,7 @@ ghost use Rattle.netlink_core.specs.Errors.{map_ok};
 ghost use Rattle.netlink_core.specs.Parse.{parse_text};
 ghost use Rattle.sock_diag_families.specs.AttributeGetters.{parse_if_present};
 ghost use Rattle.sock_diag_extras.specs.Models.{nested_bytes};
-ghost use Rattle.sock_diag_extras.specs.Nested.{first_in, nested_number_in};
+ghost use Rattle.sock_diag_extras.specs.Nested.{first_value_in, nested_number_in};
 
 use crate::constants::{
     INET_ULP_INFO_MPTCP, INET_ULP_INFO_NAME, INET_ULP_INFO_TLS, MPTCP_SUBFLOW_ATTR_FLAGS,
@@ -43,7 +43,8 @@ impl<'a> UlpInfo<'a> {
     /// is not valid UTF-8 is `NotUtf8`.
     pub fn name(&self) -> Result<Option<&'a str>, DecodeError>
         ensures { map_ok (option_map (λ text. text.now)) result
-            ≡ parse_if_present parse_text (first_in INET_ULP_INFO_NAME (nested_bytes self.now.0)) }
+            ≡ parse_if_present parse_text
+            (first_value_in INET_ULP_INFO_NAME (nested_bytes self.now.0)) }
     {
         self.0.text_of(INET_ULP_INFO_NAME)
     }
@@ -53,10 +54,10 @@ impl<'a> UlpInfo<'a> {
     /// value, if there is one.
     pub fn tls(&self) -> Result<Option<TlsInfo<'a>>, DecodeError>
         ensures kept { IfOk result (λ found. option_map (λ tls. nested_bytes tls.0) found
-            ≡ first_in INET_ULP_INFO_TLS (nested_bytes self.now.0)) }
+            ≡ first_value_in INET_ULP_INFO_TLS (nested_bytes self.now.0)) }
         // `value`: the value of the attribute, in which the framing error is.
         ensures error { IfErr result (λ e. (value : List ℕ)
-            × (first_in INET_ULP_INFO_TLS (nested_bytes self.now.0) ≡ Some value)
+            × (first_value_in INET_ULP_INFO_TLS (nested_bytes self.now.0) ≡ Some value)
             × HasAttributeError (decode_attribute []) value e) }
     {
         match self.0.nested_of(INET_ULP_INFO_TLS)? {
@@ -70,10 +71,10 @@ impl<'a> UlpInfo<'a> {
     /// error in its value, if there is one.
     pub fn mptcp(&self) -> Result<Option<SubflowInfo<'a>>, DecodeError>
         ensures kept { IfOk result (λ found. option_map (λ subflow. nested_bytes subflow.0) found
-            ≡ first_in INET_ULP_INFO_MPTCP (nested_bytes self.now.0)) }
+            ≡ first_value_in INET_ULP_INFO_MPTCP (nested_bytes self.now.0)) }
         // `value`: the value of the attribute, in which the framing error is.
         ensures error { IfErr result (λ e. (value : List ℕ)
-            × (first_in INET_ULP_INFO_MPTCP (nested_bytes self.now.0) ≡ Some value)
+            × (first_value_in INET_ULP_INFO_MPTCP (nested_bytes self.now.0) ≡ Some value)
             × HasAttributeError (decode_attribute []) value e) }
     {
         match self.0.nested_of(INET_ULP_INFO_MPTCP)? {
@@ -132,7 +133,8 @@ impl TlsInfo<'_> {
 
     /// Returns whether files are sent without a copy: whether `TLS_INFO_ZC_RO_TX` is present.
     pub fn sends_without_copy(&self) -> bool
-        ensures { IsTrue result ↔ IsSome (first_in TLS_INFO_ZC_RO_TX (nested_bytes self.now.0)) }
+        ensures { IsTrue result
+            ↔ IsSome (first_value_in TLS_INFO_ZC_RO_TX (nested_bytes self.now.0)) }
     {
         self.0.value_of(TLS_INFO_ZC_RO_TX).is_some()
     }
@@ -140,7 +142,8 @@ impl TlsInfo<'_> {
     /// Returns whether received records are expected to have no padding: whether
     /// `TLS_INFO_RX_NO_PAD` is present.
     pub fn expects_no_padding(&self) -> bool
-        ensures { IsTrue result ↔ IsSome (first_in TLS_INFO_RX_NO_PAD (nested_bytes self.now.0)) }
+        ensures { IsTrue result
+            ↔ IsSome (first_value_in TLS_INFO_RX_NO_PAD (nested_bytes self.now.0)) }
     {
         self.0.value_of(TLS_INFO_RX_NO_PAD).is_some()
     }
