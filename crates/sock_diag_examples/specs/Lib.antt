@@ -5,3 +5,4 @@ pub mod Lister
 pub mod Link
 pub mod TestKernel
 pub mod UnixResponseModel
+pub mod private

@@ -1,8 +1,10 @@
 -- The answers of the kernel for tests.
-use Rattle.std.specs.Prelude.{⊤, ◌≡◌, ◌≢◌, ℕ, ◌+◌, ◌-◌, ◌≤◌, List, [], ◌∷◌, ◌++◌, length, map, take}
+use Rattle.std.specs.Prelude.{◌≡◌, ◌≢◌, ℕ, ◌+◌, ◌-◌, ◌≤◌, List, [], ◌∷◌, ◌++◌, length, map, take}
 use Rattle.std.specs.Prelude.{drop, Ok, Err, Some, pos}
 use Rattle.std.specs.List.{AllByRecursion, flat_map}
 use Rattle.netlink_core.specs.declared.header.NetlinkHeader.{NetlinkHeader}
+use Rattle.netlink_core.specs.declared.header.TheConstants.{NETLINK_HEADER_LEN}
+use Rattle.netlink_core.specs.declared.message.TheConstants.{NLM_F_MULTI}
 use Rattle.netlink_core.specs.declared.error.DecodeError.{DecodeError}
 use Rattle.netlink_core.specs.declared.error.DecodeError.TheVariants.{UnknownMessageType}
 use Rattle.netlink_core.specs.Header.{HasHeader, IsMessageError}
@@ -26,14 +28,14 @@ use Rattle.sock_diag_examples.specs.declared.test_kernel.AnswerError.TheVariants
 
 -- `numbered_message_bytes sequence_number payload`: the bytes of the netlink message with this
 -- payload and sequence number. Its length and its type are those of the payload (20,
--- SOCK_DIAG_BY_FAMILY, for an inner message), its flags are 2 (NLM_F_MULTI: one of several
--- messages), and its port id is 0.
+-- SOCK_DIAG_BY_FAMILY, for an inner message), its flags are NLM_F_MULTI (one of several messages),
+-- and its port id is 0.
 unfoldable pub numbered_message_bytes : ℕ → Payload Message → List ℕ
 numbered_message_bytes sequence_number payload = netlink_message_codec.serialized (record {
   header = record {
-    length = 16 + length (payload_bytes message_codec.serialized payload);
+    length = NETLINK_HEADER_LEN + length (payload_bytes message_codec.serialized payload);
     message_type = payload_type (λ _. 20) payload;
-    flags = 2;
+    flags = NLM_F_MULTI;
     sequence_number = sequence_number;
     port_number = 0;
   };
@@ -90,13 +92,6 @@ IsWritableMessage payload = HoldsOfInnerMessage message_codec.is_writable payloa
 abbrev pub IsWritableReplyMessage : ReplyValue unix_response_spec → Type 0
 IsWritableReplyMessage reply =
     IsWritableMessage (netlink.InnerMessage (message_of unix_response reply))
-
--- IsErrorFor reason e: the error of a function that appends messages: never an error of the
--- request; `Unwritable` only if `reason` holds; `Memory` without a condition
-abbrev pub IsErrorFor : Type 0 → AnswerError → Type 0
-IsErrorFor reason (errors.Request e) = ⊥
-IsErrorFor reason errors.Unwritable = reason
-IsErrorFor reason errors.Memory = ⊤
 
 -- `IsUnixRequestMessage request`: the request starts with a netlink message of type
 -- SOCK_DIAG_BY_FAMILY whose payload, the bytes from offset 16 to its length, parses as a request

@@ -9,10 +9,11 @@ ghost use Rattle.netlink_packet_sock_diag.specs.MessageModel.{message_model};
 ghost use Rattle.sock_diag_examples.specs.UnixResponseModel.{unix_response_model};
 ghost use Rattle.netlink_core.specs.Response.{ReplyValue};
 ghost use Rattle.sock_diag_replies.specs.UnixResponseSpec.{unix_response_spec};
-ghost use Rattle.sock_diag_examples.specs.TestKernel.{IsWritableReply, IsErrorFor, AnswerFails};
+ghost use Rattle.sock_diag_examples.specs.TestKernel.{IsWritableReply, AnswerFails};
 ghost use Rattle.sock_diag_examples.specs.TestKernel.{IsWritableMessage, IsAnswer, IsCompleteDump};
 ghost use Rattle.sock_diag_examples.specs.TestKernel.{IsWritableReplyMessage};
 ghost use Rattle.sock_diag_examples.specs.TestKernel.{numbered_message_bytes, reply_message_bytes};
+ghost use Rattle.sock_diag_examples.specs.private.TestKernel.{AppendFails};
 ghost use Rattle.sock_diag_examples.specs.declared.test_kernel.AnswerError.TheVariants as errors;
 
 use netlink_core::{
@@ -125,7 +126,7 @@ fn push_replies(
     ensures added { OnOk result (datagram.new.items ≡ datagram.old.items
         ++ flat_map (reply_message_bytes sequence_number) (map unix_response_model replies.now)) }
     ensures err { IfErr result
-        (IsErrorFor (¬ AllByRecursion IsWritableReplyMessage
+        (AppendFails (AllByRecursion IsWritableReplyMessage
         (map unix_response_model replies.now))) }
 {
     for reply in replies {
@@ -143,8 +144,8 @@ fn push_reply(
 ) -> Result<(), AnswerError>
     ensures added { OnOk result (datagram.new.items ≡ datagram.old.items
         ++ reply_message_bytes sequence_number (unix_response_model reply.now)) }
-    ensures err { IfErr result (IsErrorFor
-        (¬ IsWritableReplyMessage (unix_response_model reply.now))) }
+    ensures err { IfErr result (AppendFails
+        (IsWritableReplyMessage (unix_response_model reply.now))) }
 {
     let message = SockDiagMessage::UnixResponse(Box::new(
         alloc,
@@ -158,7 +159,8 @@ fn push_reply(
     )
 }
 
-// Appends a message with this payload, and with its length and its type in the header.
+// Appends a message with this payload, and with its length and its type in the header. Fails if the
+// message is not writable, or an allocation fails.
 #[tactic(auto, unfolding(crate::specs::TestKernel::numbered_message_bytes))]
 fn push_message(
     alloc: Global,
@@ -168,8 +170,8 @@ fn push_message(
 ) -> Result<(), AnswerError>
     ensures added { OnOk result (datagram.new.items ≡ datagram.old.items
         ++ numbered_message_bytes sequence_number (payload_model vec_items message_model payload)) }
-    ensures err { IfErr result (IsErrorFor
-        (¬ IsWritableMessage (payload_model vec_items message_model payload))) }
+    ensures err { IfErr result (AppendFails
+        (IsWritableMessage (payload_model vec_items message_model payload))) }
 {
     let header = NetlinkHeader {
         flags: NLM_F_MULTI,
