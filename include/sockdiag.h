@@ -4,7 +4,7 @@
  *
  * The source of the library is the crate sockdiag_c of the sources, in crates/sockdiag_c, which a
  * release does not contain. What this header says of a call is proved there, by the contract of the
- * function of the same name and by the theorem functions in src/laws.rt:
+ * function of the same name and by those of the functions in src/laws.rt:
  * a_step_passes_the_first_attribute and a_step_passes_the_first_message, about iteration;
  * lenient_calls_agree_with_strict_calls; strict_calls_agree_with_checks; and
  * every_rejected_kind_has_a_code. No clause states:

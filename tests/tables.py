@@ -3,8 +3,8 @@
 the program at this path. Without it the members of JSON are not compared.
 
 - man/sockdiag.3: the functions of the header, and the decode errors with their codes and texts.
-- include/sockdiag.h: the calls and structs that its comments name, and the theorem functions that
-  the first one names, exist.
+- include/sockdiag.h: the calls and structs that its comments name, and the functions of laws.rt
+  that the first one names, exist.
 - man/sslist.1, man/sockdiag.1 and man/sockdump.1: each diagnostic is in the sources. Of the first
   two, tools/usage writes --help from the options.
 - man/sslist-json.5: the members of each list are those that the program prints for replies with
@@ -292,7 +292,7 @@ def library_errors():
 
 def comment_errors():
     """Looks for the names in the comments of the header. A name with four or more underscores in
-    the first comment is that of a theorem function, and this comment has all of them."""
+    the first comment is that of a function of laws.rt, and this comment has all of them."""
     comments = re.findall(r"(?s)/\*.*?\*/", HEADER)
     laws = (TOP / "crates/sockdiag_c/src/laws.rt").read_text(encoding="utf-8")
     theorems = set(re.findall(r"(?m)^pub fn (\w+)", laws))

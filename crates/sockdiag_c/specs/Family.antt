@@ -147,8 +147,8 @@ optional_code (Some e) = error_code e
 module _ {D : Type 0} (family : Family D) where
   -- HasRejections family r parts: the struct `r` has the code of the first error, the code of the
   -- framing error, and for each kind below REJECTION_KINDS the code of the first error of an
-  -- attribute of this kind. Each is 0 if there is no such error. The theorem function
-  -- `every_rejected_kind_has_a_code` of src/laws.rt states that no other kind has errors.
+  -- attribute of this kind. Each is 0 if there is no such error. The contract of
+  -- `every_rejected_kind_has_a_code` in src/laws.rt states that no other kind has errors.
   abbrev pub HasRejections : Rejections → Parts family.Header → Type 0
   HasRejections r parts =
       (r.first ≡ optional_code (first_error family parts))

@@ -1,6 +1,6 @@
 -- The bytes of requests for UNIX and internet sockets.
-use Rattle.std.specs.Prelude.{◌≡◌, ℕ, ◌+◌, ◌%◌, ◌<◌, ◌≤◌, ◌==◌, nat_lt, if◌then◌else◌, List, []}
-use Rattle.std.specs.Prelude.{◌∷◌, ◌++◌, ◌⊎◌, length, drop, replicate, slice_index}
+use Rattle.std.specs.Prelude.{◌≡◌, ◌≢◌, ℕ, ◌+◌, ◌%◌, ◌<◌, ◌≤◌, ◌==◌, nat_lt, if◌then◌else◌, List}
+use Rattle.std.specs.Prelude.{[], ◌∷◌, ◌++◌, ◌⊎◌, length, drop, replicate, slice_index}
 use Rattle.byteorder.specs.Endian.{little_bytes}
 use Rattle.std.specs.declared.net.ip_addr.IpAddr.{IpAddr}
 use Rattle.std.specs.declared.net.ip_addr.IpAddr.TheVariants.{V4, V6}
@@ -96,14 +96,24 @@ inet_message t r =
     header_bytes (request_header_of (72 + length (protocol_attribute r.protocol)) t r.header)
     ++ record_bytes inet_request (inet_request_from_c r) ++ protocol_attribute r.protocol
 
--- WritesMessage len all old new answer: `all` are the `len` bytes of a message; `old` and `new` are
--- the caller's buffer before and after the call; `answer` is the return value. If the buffer has at
--- least `len` bytes, `all` is written at its start, the bytes after it are unchanged, and `answer`
--- is `len`. Else nothing is written, and `answer` is 0.
+-- WritesMessage len all old new answer: `all` are the bytes of a message, and `len` is their
+-- number, which clauses state since callers need it. `old` and `new` are the caller's buffer before
+-- and after the call; `answer` is the return value. If the buffer has at least `len` bytes, `all`
+-- is written at its start, the bytes after it are unchanged, and `answer` is `len`. Else nothing is
+-- written, and `answer` is 0.
 abbrev pub WritesMessage : ℕ → List ℕ → List ℕ → List ℕ → ℕ → Type 0
 WritesMessage len all old new answer =
     (len ≤ length old → (answer ≡ len) × (new ≡ all ++ drop len old))
     × (length old < len → (answer ≡ 0) × (new ≡ old))
+
+-- `WritesInetMessage t r old new answer`: if the family of the request `r` is AF_INET or AF_INET6,
+-- its message with the type `t` is written (`WritesMessage`): 72 bytes, and those of
+-- `protocol_attribute`. Else nothing is written, and `answer` is 0.
+abbrev pub WritesInetMessage : ℕ → InetRequest → List ℕ → List ℕ → ℕ → Type 0
+WritesInetMessage t r old new answer =
+    ((r.family ≡ AF_INET) ⊎ (r.family ≡ AF_INET6)
+    → WritesMessage (72 + length (protocol_attribute r.protocol)) (inet_message t r) old new answer)
+    × (r.family ≢ AF_INET → r.family ≢ AF_INET6 → (answer ≡ 0) × (new ≡ old))
 
 -- ---- requests with attributes of the caller
 

@@ -121,10 +121,12 @@ pub(crate) trait ReplyDetails<'a>: Copy {
     /// Parses the header. Returns the struct with the header and without values, and the bytes
     /// after the header.
     fn parse_header(payload: &'a [u8]) -> Result<(Self, &'a [u8]), DecodeError>
-        ensures header { IfOk result (λ parts. family.parse_header payload.entry.now
-            ≡ Ok (family.header parts.0)) }
-        ensures values { IfOk result (λ parts. HasValues family.rows parts.0 []) }
-        ensures rest { IfOk result (λ parts. parts.1.now
+        // HasValues rows d attributes: `d` has the first value of each row in the attributes; for
+        // [], all zeros.
+        ensures header { IfOk result (λ found. family.parse_header payload.entry.now
+            ≡ Ok (family.header found.0)) }
+        ensures values { IfOk result (λ found. HasValues family.rows found.0 []) }
+        ensures rest { IfOk result (λ found. found.1.now
             ≡ drop family.header_size payload.entry.now) }
         ensures error { IfErr result (λ e. family.parse_header payload.entry.now ≡ Err e) };
 

@@ -94,5 +94,6 @@ pub fn every_rejected_kind_has_a_code()
     ensures inet { EveryRejectedKindHasCode inet_family }
     ensures netlink { EveryRejectedKindHasCode netlink_family }
     ensures packet { EveryRejectedKindHasCode packet_family }
+    ensures vsock { EveryRejectedKindHasCode vsock_family }
     ensures xdp { EveryRejectedKindHasCode xdp_family }
 {}

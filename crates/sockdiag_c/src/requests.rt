@@ -1,13 +1,13 @@
 //! Requests, serialized as whole netlink messages.
 
-ghost use Rattle.std.specs.Prelude.{◌≡◌, ◌≢◌, ◌+◌, ◌<◌, ◌≤◌, ◌⊎◌, ◌++◌, length, drop};
+ghost use Rattle.std.specs.Prelude.{◌≡◌, ◌+◌, ◌≤◌, ◌++◌, length};
 ghost use Rattle.netlink_core.specs.Attribute.{attribute_bytes};
 ghost use Rattle.netlink_core.specs.Layout.{record_bytes};
 ghost use Rattle.netlink_core.specs.Header.{header_bytes};
 ghost use Rattle.sock_diag_records.specs.InetRequest.{inet_request};
 ghost use Rattle.sock_diag_records.specs.UnixRequest.{unix_request};
-ghost use Rattle.sockdiag_c.specs.Requests.{WritesMessage, address_of_family, request_header_of};
-ghost use Rattle.sockdiag_c.specs.Requests.{inet_message, inet_request_from_c, protocol_attribute};
+ghost use Rattle.sockdiag_c.specs.Requests.{WritesInetMessage, WritesMessage, address_of_family};
+ghost use Rattle.sockdiag_c.specs.Requests.{inet_request_from_c, request_header_of};
 ghost use Rattle.sockdiag_c.specs.Requests.{unix_message, unix_request_from_c};
 
 use bitflags::Flags;
@@ -131,12 +131,7 @@ pub extern "C" fn sockdiag_write_unix_destroy(request: &UnixRequest, buffer: &mu
 /// neither `AF_INET` nor `AF_INET6`; then nothing is written.
 #[unsafe(no_mangle)]
 pub extern "C" fn sockdiag_write_inet_request(request: &InetRequest, buffer: &mut [u8]) -> usize
-    // protocol_attribute: 8 bytes if the protocol is above 255, else none.
-    ensures written { (request.now.family ≡ AF_INET) ⊎ (request.now.family ≡ AF_INET6)
-        → WritesMessage (72 + length (protocol_attribute request.now.protocol))
-        (inet_message SOCK_DIAG_BY_FAMILY request.now) buffer.old buffer.new result }
-    ensures family { request.now.family ≢ AF_INET → request.now.family ≢ AF_INET6 → (result ≡ 0)
-        × (buffer.new ≡ buffer.old) }
+    ensures { WritesInetMessage SOCK_DIAG_BY_FAMILY request.now buffer.old buffer.new result }
 {
     write_inet(SOCK_DIAG_BY_FAMILY, request, buffer)
 }
@@ -151,12 +146,7 @@ pub extern "C" fn sockdiag_write_inet_request(request: &InetRequest, buffer: &mu
 /// UDP and raw sockets if the caller has `CAP_NET_ADMIN`.
 #[unsafe(no_mangle)]
 pub extern "C" fn sockdiag_write_inet_destroy(request: &InetRequest, buffer: &mut [u8]) -> usize
-    // protocol_attribute: 8 bytes if the protocol is above 255, else none.
-    ensures written { (request.now.family ≡ AF_INET) ⊎ (request.now.family ≡ AF_INET6)
-        → WritesMessage (72 + length (protocol_attribute request.now.protocol))
-        (inet_message SOCK_DESTROY request.now) buffer.old buffer.new result }
-    ensures family { request.now.family ≢ AF_INET → request.now.family ≢ AF_INET6 → (result ≡ 0)
-        × (buffer.new ≡ buffer.old) }
+    ensures { WritesInetMessage SOCK_DESTROY request.now buffer.old buffer.new result }
 {
     write_inet(SOCK_DESTROY, request, buffer)
 }
@@ -177,11 +167,7 @@ fn write_unix(message_type: u16, request: &UnixRequest, buffer: &mut [u8]) -> us
 
 // Writes a request for IPv4 or IPv6 sockets with this message type.
 pub(crate) fn write_inet(message_type: u16, request: &InetRequest, buffer: &mut [u8]) -> usize
-    ensures written { (request.now.family ≡ AF_INET) ⊎ (request.now.family ≡ AF_INET6)
-        → WritesMessage (72 + length (protocol_attribute request.now.protocol))
-        (inet_message message_type request.now) buffer.old buffer.new result }
-    ensures family { request.now.family ≢ AF_INET → request.now.family ≢ AF_INET6 → (result ≡ 0)
-        × (buffer.new ≡ buffer.old) }
+    ensures { WritesInetMessage message_type request.now buffer.old buffer.new result }
 {
     if request.family != AF_INET && request.family != AF_INET6 {
         return 0;

@@ -34,11 +34,11 @@ pub(crate) const MPTCP_INFO_LEN: usize = 96;
 pub extern "C" fn sockdiag_inet_get_tcp_info(payload: &[u8], info: &mut [u8; TCP_INFO_LEN]) -> usize
     // attributes: those after the header, up to the end or to a framing error.
     ensures length { (attributes : List Attribute)
-        → AreAttributesIn (drop 72 payload.now) attributes
+        → AreAttributesIn (drop INET_RESPONSE_HEADER_LEN payload.now) attributes
         → result ≡ length (first_of_type INET_DIAG_INFO attributes) }
     ensures bytes { (attributes : List Attribute)
-        → AreAttributesIn (drop 72 payload.now) attributes
-        → info.new ≡ padded_or_truncated 232 (first_of_type INET_DIAG_INFO attributes) }
+        → AreAttributesIn (drop INET_RESPONSE_HEADER_LEN payload.now) attributes
+        → info.new ≡ padded_or_truncated TCP_INFO_LEN (first_of_type INET_DIAG_INFO attributes) }
 {
     copy_first_value(payload, INET_DIAG_INFO, info)
 }
@@ -58,11 +58,12 @@ pub extern "C" fn sockdiag_inet_get_long_tcp_info(
 ) -> usize
     // attributes: those after the header, up to the end or to a framing error.
     ensures length { (attributes : List Attribute)
-        → AreAttributesIn (drop 72 payload.now) attributes
+        → AreAttributesIn (drop INET_RESPONSE_HEADER_LEN payload.now) attributes
         → result ≡ length (first_of_type INET_DIAG_INFO attributes) }
     ensures bytes { (attributes : List Attribute)
-        → AreAttributesIn (drop 72 payload.now) attributes
-        → info.new ≡ padded_or_truncated 280 (first_of_type INET_DIAG_INFO attributes) }
+        → AreAttributesIn (drop INET_RESPONSE_HEADER_LEN payload.now) attributes
+        → info.new ≡ padded_or_truncated LONG_TCP_INFO_LEN
+        (first_of_type INET_DIAG_INFO attributes) }
 {
     copy_first_value(payload, INET_DIAG_INFO, info)
 }
@@ -83,11 +84,11 @@ pub extern "C" fn sockdiag_inet_get_mptcp_info(
 ) -> usize
     // attributes: those after the header, up to the end or to a framing error.
     ensures length { (attributes : List Attribute)
-        → AreAttributesIn (drop 72 payload.now) attributes
+        → AreAttributesIn (drop INET_RESPONSE_HEADER_LEN payload.now) attributes
         → result ≡ length (first_of_type INET_DIAG_INFO attributes) }
     ensures bytes { (attributes : List Attribute)
-        → AreAttributesIn (drop 72 payload.now) attributes
-        → info.new ≡ padded_or_truncated 96 (first_of_type INET_DIAG_INFO attributes) }
+        → AreAttributesIn (drop INET_RESPONSE_HEADER_LEN payload.now) attributes
+        → info.new ≡ padded_or_truncated MPTCP_INFO_LEN (first_of_type INET_DIAG_INFO attributes) }
 {
     copy_first_value(payload, INET_DIAG_INFO, info)
 }
@@ -103,11 +104,12 @@ pub extern "C" fn sockdiag_inet_get_mptcp_info(
 pub extern "C" fn sockdiag_inet_get_memory(payload: &[u8], memory: &mut [u8; MEM_INFO_LEN]) -> usize
     // attributes: those after the header, up to the end or to a framing error.
     ensures length { (attributes : List Attribute)
-        → AreAttributesIn (drop 72 payload.now) attributes
+        → AreAttributesIn (drop INET_RESPONSE_HEADER_LEN payload.now) attributes
         → result ≡ length (first_of_type INET_DIAG_SKMEMINFO attributes) }
     ensures bytes { (attributes : List Attribute)
-        → AreAttributesIn (drop 72 payload.now) attributes
-        → memory.new ≡ padded_or_truncated 36 (first_of_type INET_DIAG_SKMEMINFO attributes) }
+        → AreAttributesIn (drop INET_RESPONSE_HEADER_LEN payload.now) attributes
+        → memory.new ≡ padded_or_truncated MEM_INFO_LEN
+        (first_of_type INET_DIAG_SKMEMINFO attributes) }
 {
     copy_first_value(payload, INET_DIAG_SKMEMINFO, memory)
 }
@@ -116,10 +118,10 @@ pub extern "C" fn sockdiag_inet_get_memory(payload: &[u8], memory: &mut [u8; MEM
 // bytes or followed by zeros. Returns its length, or 0 if there is none.
 fn copy_first_value<const N: usize>(payload: &[u8], kind: u16, found: &mut [u8; N]) -> usize
     ensures length { (attributes : List Attribute)
-        → AreAttributesIn (drop 72 payload.now) attributes
+        → AreAttributesIn (drop INET_RESPONSE_HEADER_LEN payload.now) attributes
         → result ≡ length (first_of_type kind attributes) }
     ensures bytes { (attributes : List Attribute)
-        → AreAttributesIn (drop 72 payload.now) attributes
+        → AreAttributesIn (drop INET_RESPONSE_HEADER_LEN payload.now) attributes
         → found.new ≡ padded_or_truncated N (first_of_type kind attributes) }
 {
     let value = first_value(bytes_from(payload, INET_RESPONSE_HEADER_LEN), kind);
