@@ -1,6 +1,6 @@
 //! Answers to long lines, to lines whose values are not writable, and to lines that are not text.
 
-use super::{LARGE, Repeated, repeated};
+use super::{LARGE, repeated};
 use sock_diag_lines::answer;
 use std::alloc::Global;
 use std::process::Abort;
@@ -13,62 +13,113 @@ fn answers(rt: &impl Abort, alloc: Global, line: &[u8], want: &[u8]) {
 const INET_HEADER: &str = "02010200eb1401bbc0a8b23c000000000000000000000000acd917830000000000000000\
 00000000000000005203000000000000806000000000000000000000e8030000a8da2900";
 
-/// A reply about a TCP connection, up to the letters of its congestion control algorithm.
-const INET: &str = "inet 02010200eb1401bbc0a8b23c000000000000000000000000acd9178300000000000000000\
-0000000000000005203000000000000806000000000000000000000e8030000a8da2900ffff0400";
+/// The header of a reply about a UNIX socket.
+const UNIX_HEADER: &str = "01010100b77c00002200000000000000";
 
-/// A netlink message of 65,623 bytes with the same reply, up to these letters.
-const NETLINK: &str = "netlink 5700010014000000000000000000000002010200eb1401bbc0a8b23c00000000000\
-0000000000000acd91783000000000000000000000000000000005203000000000000806000000000000000000000e8030\
-000a8da2900ffff0400";
+/// A line with a reply of one long attribute, and its answer.
+#[derive(Clone, Copy)]
+struct LongLine {
+    /// Name of the line, and the bytes before the reply.
+    front: &'static str,
+    /// Header of the reply.
+    header: &'static str,
+    /// Header of the attribute.
+    attribute: &'static str,
+    /// Digits of the byte that is repeated in the value.
+    byte: &'static str,
+    /// How often the byte is repeated.
+    count: usize,
+    /// Rest of the line.
+    back: &'static str,
+    /// Rest of the answer, after `ok`, the reply and the value; `None` if the answer is
+    /// `unwritable`.
+    written_back: Option<&'static str>,
+}
 
-/// A reply about a listening UNIX socket, and in the next datagram the same message, up to these
+/// A line with a reply about a TCP connection, whose congestion control algorithm has 65,531
 /// letters.
-const DUMP: &str = "dump 2000000014000200070000000000000001010a000e4f0000a002000000000000 57000100\
-14000200070000000000000002010200eb1401bbc0a8b23c000000000000000000000000acd91783000000000000000000\
-000000000000005203000000000000806000000000000000000000e8030000a8da2900ffff0400";
+const CONGESTION: LongLine = LongLine {
+    front: "inet ",
+    header: INET_HEADER,
+    attribute: "ffff0400",
+    byte: "61",
+    count: 65_531,
+    back: "",
+    written_back: None,
+};
+
+/// A netlink message of 65,623 bytes, up to its reply.
+const NETLINK: &str = "netlink 57000100140000000000000000000000";
+
+/// A message with a reply about a listening UNIX socket, and in the next datagram a message like
+/// [`NETLINK`], up to its reply.
+const DUMP: &str = "dump 2000000014000200070000000000000001010a000e4f0000a002000000000000 \
+57000100140002000700000000000000";
 
 /// The end of a dump, in a separate datagram.
 const END: &str = " 1400000003000200070000000000000000000000";
-
-/// A reply about a UNIX socket, up to the bytes of its longest attribute.
-const UNIX: &str = "unix 01010a000e4f0000a002000000000000ffff0700";
-
-const UNIX_WRITTEN: &str = "ok 01010a000e4f0000a002000000000000ffff0700";
-
-const UNWRITABLE: Repeated = ("unwritable", "", 0, "");
-
-/// The answer to a reply about a TCP connection, up to these letters.
-const INET_WRITTEN: &str =
-    "ok 02010200eb1401bbc0a8b23c000000000000000000000000acd917830000000000000000\
-00000000000000005203000000000000806000000000000000000000e8030000a8da2900ffff0400";
 
 /// The name of a congestion control algorithm of 65,531 letters is accepted, and has no space for
 /// its terminating NUL. With one letter less it is serialized with its NUL and its padding, alone
 /// and before another attribute. A message or a dump with a reply that is not writable is not
 /// writable either. The longest attribute of an unknown type is serialized with its padding.
-const LONG: [(Repeated, Repeated); 7] = [
-    ((INET, "61", 65_531, ""), UNWRITABLE),
-    (
-        (INET, "61", 65_530, "00"),
-        (INET_WRITTEN, "61", 65_530, "0000"),
-    ),
-    (
-        (INET, "61", 65_530, "00000500080000000000"),
-        (INET_WRITTEN, "61", 65_530, "00000500080000000000"),
-    ),
-    ((NETLINK, "61", 65_531, ""), UNWRITABLE),
-    ((DUMP, "61", 65_531, "00"), UNWRITABLE),
-    ((DUMP, "61", 65_531, END), UNWRITABLE),
-    ((UNIX, "ee", 65_531, ""), (UNIX_WRITTEN, "ee", 65_531, "00")),
+const LONG: [LongLine; 7] = [
+    CONGESTION,
+    LongLine {
+        count: 65_530,
+        back: "00",
+        written_back: Some("0000"),
+        ..CONGESTION
+    },
+    LongLine {
+        count: 65_530,
+        back: "00000500080000000000",
+        written_back: Some("00000500080000000000"),
+        ..CONGESTION
+    },
+    LongLine {
+        front: NETLINK,
+        ..CONGESTION
+    },
+    LongLine {
+        front: DUMP,
+        back: "00",
+        ..CONGESTION
+    },
+    LongLine {
+        front: DUMP,
+        back: END,
+        ..CONGESTION
+    },
+    LongLine {
+        front: "unix ",
+        header: UNIX_HEADER,
+        attribute: "ffff0700",
+        byte: "ee",
+        count: 65_531,
+        back: "",
+        written_back: Some("00"),
+    },
 ];
+
+/// Asserts that the line has its answer.
+fn has_answer(rt: &impl Abort, alloc: Global, long: &LongLine) {
+    let value = long.byte.repeat(alloc, long.count).expect(rt, "memory");
+    let reply = [long.header, long.attribute, value.as_str()].concat(alloc);
+    let reply = reply.expect(rt, "memory");
+    let line = [long.front, reply.as_str(), long.back].concat(alloc);
+    let answer = match long.written_back {
+        Some(back) => ["ok ", reply.as_str(), back].concat(alloc),
+        None => String::from_str(alloc, "unwritable"),
+    };
+    let (line, answer) = (line.expect(rt, "memory"), answer.expect(rt, "memory"));
+    answers(rt, alloc, line.as_bytes(), answer.as_bytes());
+}
 
 #[test]
 fn answers_long_lines(rt: HostRuntime) {
-    let alloc = rt.alloc();
-    for (line, want) in &LONG {
-        let (line, want) = (repeated(&rt, alloc, *line), repeated(&rt, alloc, *want));
-        answers(&rt, alloc, line.as_bytes(), want.as_bytes());
+    for long in &LONG {
+        has_answer(&rt, rt.alloc(), long);
     }
 }
 
@@ -106,9 +157,6 @@ fn accepts(rt: &impl Abort, alloc: Global, parts: &[&str]) {
     assert!(rt; text.starts_with(b"ok "));
 }
 
-/// The header of a reply about a UNIX socket.
-const SOCKET: &str = "01010100b77c00002200000000000000";
-
 /// An attribute of 8 bytes that is valid in a reply about a UNIX socket and in one about an
 /// internet socket.
 const ATTRIBUTE: &str = "0500060002000000";
@@ -135,9 +183,9 @@ fn accepts_items(rt: &impl Abort, alloc: Global, header: &str, item: &str, count
 #[test]
 fn lists_of_each_size(rt: HostRuntime) {
     for (front, header, item) in [
-        ("unix ", SOCKET, ATTRIBUTE),
-        ("unixview ", SOCKET, ATTRIBUTE),
-        ("message ", SOCKET, ATTRIBUTE),
+        ("unix ", UNIX_HEADER, ATTRIBUTE),
+        ("unixview ", UNIX_HEADER, ATTRIBUTE),
+        ("message ", UNIX_HEADER, ATTRIBUTE),
         ("inet ", INET_HEADER, ATTRIBUTE),
         ("dump ", REPLY, REPLY),
         ("dump ", REPLY, NEXT_REPLY),
@@ -167,7 +215,7 @@ const NAMES: [usize; 7] = [512, 1_000, 1_024, 4_096, 10_000, 32_768, 65_530];
 /// Asserts that the answers to a name of `size` letters start with `ok`.
 fn accepts_name(rt: &impl Abort, alloc: Global, size: usize) {
     let length = size.saturating_add(5).swap_bytes() >> 48;
-    let header = format!(in alloc; "{SOCKET}{length:04x}0000").expect(rt, "memory");
+    let header = format!(in alloc; "{UNIX_HEADER}{length:04x}0000").expect(rt, "memory");
     let letters = "61".repeat(alloc, size).expect(rt, "memory");
     accepts(
         rt,
