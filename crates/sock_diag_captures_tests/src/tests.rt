@@ -140,10 +140,13 @@ fn decode_errors_have_their_own_texts(rt: HostRuntime) {
 #[test]
 fn ends_of_a_run(rt: HostRuntime) {
     let alloc = rt.alloc();
+    // The header of a pcap file in little-endian order (no packet is longer than 0x40000 bytes; the
+    // link type is 253, LINKTYPE_NETLINK), and of a packet of this length.
     let headers = "d4c3b2a102000400000000000000000000000400fd000000\
 07000000090000000000040000000400";
     let mut capture = hex::decode(alloc, headers).expect(&rt, "digits");
-    capture.resize(40 + 262_144, 0).expect(&rt, "memory");
+    let end = capture.len().saturating_add(0x40000);
+    capture.resize(end, 0).expect(&rt, "memory");
     let (mut output, mut errors, mut is_open) = (taker(alloc), taker(alloc), true);
     let (options, mut input) = (Options::default(), capture.as_slice());
     let outcome = run(
