@@ -123,7 +123,8 @@ fn tls_text(rt: &impl Abort, alloc: Global, tls: &TlsInfo) -> Result<String, Dec
     Ok(format!(in alloc; " {numbers:?} {flags:?}").expect(rt, "memory"))
 }
 
-/// Returns the version of TLS, and whether the kernel decrypts what the socket receives.
+/// Returns the version of TLS, and how the kernel decrypts what the socket receives: 1 to 4,
+/// `TLS_CONF_BASE` to `TLS_CONF_HW_RECORD`.
 fn tls_numbers(tls: &TlsInfo) -> Result<(Option<u64>, Option<u64>), DecodeError> {
     let version = tls.get(TlsField::Version)?;
     let receiving = tls.get(TlsField::Receiving)?;
@@ -147,32 +148,17 @@ fn subflow_numbers(subflow: &SubflowInfo) -> Result<(Option<u64>, Option<u64>), 
     Ok((sequence, id))
 }
 
-/// The fields of `struct mptcp_info`, in order.
-const MPTCP_FIELDS: [MptcpField; 24] = [
-    MptcpField::Subflows,
-    MptcpField::AddAddrSignal,
-    MptcpField::AddAddrAccepted,
-    MptcpField::SubflowsMax,
-    MptcpField::AddAddrSignalMax,
-    MptcpField::AddAddrAcceptedMax,
-    MptcpField::Flags,
-    MptcpField::Token,
-    MptcpField::WriteSeq,
-    MptcpField::SndUna,
-    MptcpField::RcvNxt,
-    MptcpField::LocalAddrUsed,
-    MptcpField::LocalAddrMax,
-    MptcpField::CsumEnabled,
-    MptcpField::Retransmits,
-    MptcpField::BytesRetrans,
-    MptcpField::BytesSent,
-    MptcpField::BytesReceived,
-    MptcpField::BytesAcked,
-    MptcpField::SubflowsTotal,
-    MptcpField::EndpLaminarMax,
-    MptcpField::LastDataSent,
-    MptcpField::LastDataRecv,
-    MptcpField::LastAckRecv,
+/// Returns the variants of an enum, each with its name.
+macro_rules! with_names {
+    ($type:ident: $($name:ident),*) => { [$(($type::$name, stringify!($name))),*] };
+}
+
+/// The fields of `struct mptcp_info`, in order, each with its name.
+const MPTCP_FIELDS: [(MptcpField, &str); 24] = with_names![
+    MptcpField: Subflows, AddAddrSignal, AddAddrAccepted, SubflowsMax, AddAddrSignalMax,
+    AddAddrAcceptedMax, Flags, Token, WriteSeq, SndUna, RcvNxt, LocalAddrUsed, LocalAddrMax,
+    CsumEnabled, Retransmits, BytesRetrans, BytesSent, BytesReceived, BytesAcked, SubflowsTotal,
+    EndpLaminarMax, LastDataSent, LastDataRecv, LastAckRecv
 ];
 
 /// Returns the fields of `struct mptcp_info` that the bytes contain in hexadecimal, and the number
@@ -180,7 +166,7 @@ const MPTCP_FIELDS: [MptcpField; 24] = [
 fn connection(rt: &impl Abort, alloc: Global, bytes: &[u8]) -> String {
     let info = MptcpInfoBytes::new(bytes);
     let mut text = String::new(alloc);
-    for field in &MPTCP_FIELDS {
+    for (field, _) in &MPTCP_FIELDS {
         let shown = number_text(rt, alloc, info.get(*field));
         text.push_str(shown.as_str()).expect(rt, "memory");
     }
@@ -508,139 +494,51 @@ fn acknowledgements_and_items_have_texts(rt: HostRuntime) {
     shows(&rt, alloc, &three, text);
 }
 
-/// All fields of `struct tcp_info`, in order.
-const TCP_FIELDS: [TcpField; 68] = [
-    TcpField::State,
-    TcpField::CaState,
-    TcpField::Retransmits,
-    TcpField::Probes,
-    TcpField::Backoff,
-    TcpField::Options,
-    TcpField::Wscale,
-    TcpField::DeliveryRateAppLimited,
-    TcpField::Rto,
-    TcpField::Ato,
-    TcpField::SndMss,
-    TcpField::RcvMss,
-    TcpField::Unacked,
-    TcpField::Sacked,
-    TcpField::Lost,
-    TcpField::Retrans,
-    TcpField::Fackets,
-    TcpField::LastDataSent,
-    TcpField::LastAckSent,
-    TcpField::LastDataRecv,
-    TcpField::LastAckRecv,
-    TcpField::Pmtu,
-    TcpField::RcvSsthresh,
-    TcpField::Rtt,
-    TcpField::Rttvar,
-    TcpField::SndSsthresh,
-    TcpField::SndCwnd,
-    TcpField::Advmss,
-    TcpField::Reordering,
-    TcpField::RcvRtt,
-    TcpField::RcvSpace,
-    TcpField::TotalRetrans,
-    TcpField::PacingRate,
-    TcpField::MaxPacingRate,
-    TcpField::BytesAcked,
-    TcpField::BytesReceived,
-    TcpField::SegsOut,
-    TcpField::SegsIn,
-    TcpField::NotsentBytes,
-    TcpField::MinRtt,
-    TcpField::DataSegsIn,
-    TcpField::DataSegsOut,
-    TcpField::DeliveryRate,
-    TcpField::BusyTime,
-    TcpField::RwndLimited,
-    TcpField::SndbufLimited,
-    TcpField::Delivered,
-    TcpField::DeliveredCe,
-    TcpField::BytesSent,
-    TcpField::BytesRetrans,
-    TcpField::DsackDups,
-    TcpField::ReordSeen,
-    TcpField::RcvOoopack,
-    TcpField::SndWnd,
-    TcpField::RcvWnd,
-    TcpField::Rehash,
-    TcpField::TotalRto,
-    TcpField::TotalRtoRecoveries,
-    TcpField::TotalRtoTime,
-    TcpField::ReceivedCe,
-    TcpField::DeliveredE1Bytes,
-    TcpField::DeliveredE0Bytes,
-    TcpField::DeliveredCeBytes,
-    TcpField::ReceivedE1Bytes,
-    TcpField::ReceivedE0Bytes,
-    TcpField::ReceivedCeBytes,
-    TcpField::AccecnFailMode,
-    TcpField::AccecnOptSeen,
+/// The fields of `struct tcp_info`, in order, each with its name. Only the test of `Debug` uses it.
+const TCP_FIELDS: [(TcpField, &str); 68] = with_names![
+    TcpField: State, CaState, Retransmits, Probes, Backoff, Options, Wscale,
+    DeliveryRateAppLimited, Rto, Ato, SndMss, RcvMss, Unacked, Sacked, Lost, Retrans, Fackets,
+    LastDataSent, LastAckSent, LastDataRecv, LastAckRecv, Pmtu, RcvSsthresh, Rtt, Rttvar,
+    SndSsthresh, SndCwnd, Advmss, Reordering, RcvRtt, RcvSpace, TotalRetrans, PacingRate,
+    MaxPacingRate, BytesAcked, BytesReceived, SegsOut, SegsIn, NotsentBytes, MinRtt, DataSegsIn,
+    DataSegsOut, DeliveryRate, BusyTime, RwndLimited, SndbufLimited, Delivered, DeliveredCe,
+    BytesSent, BytesRetrans, DsackDups, ReordSeen, RcvOoopack, SndWnd, RcvWnd, Rehash, TotalRto,
+    TotalRtoRecoveries, TotalRtoTime, ReceivedCe, DeliveredE1Bytes, DeliveredE0Bytes,
+    DeliveredCeBytes, ReceivedE1Bytes, ReceivedE0Bytes, ReceivedCeBytes, AccecnFailMode,
+    AccecnOptSeen
 ];
 
-/// The `Debug` output of [`TCP_FIELDS`].
-const TCP_TEXT: &str = "\
-[State, CaState, Retransmits, Probes, Backoff, Options, Wscale, DeliveryRateAppLimited, Rto, \
-Ato, SndMss, RcvMss, Unacked, Sacked, Lost, Retrans, Fackets, LastDataSent, LastAckSent, \
-LastDataRecv, LastAckRecv, Pmtu, RcvSsthresh, Rtt, Rttvar, SndSsthresh, SndCwnd, Advmss, \
-Reordering, RcvRtt, RcvSpace, TotalRetrans, PacingRate, MaxPacingRate, BytesAcked, \
-BytesReceived, SegsOut, SegsIn, NotsentBytes, MinRtt, DataSegsIn, DataSegsOut, DeliveryRate, \
-BusyTime, RwndLimited, SndbufLimited, Delivered, DeliveredCe, BytesSent, BytesRetrans, \
-DsackDups, ReordSeen, RcvOoopack, SndWnd, RcvWnd, Rehash, TotalRto, TotalRtoRecoveries, \
-TotalRtoTime, ReceivedCe, DeliveredE1Bytes, DeliveredE0Bytes, DeliveredCeBytes, \
-ReceivedE1Bytes, ReceivedE0Bytes, ReceivedCeBytes, AccecnFailMode, AccecnOptSeen]";
-
-/// All options of a socket, in the order of their bits.
-const OPTIONS: [SocketOption; 11] = [
-    SocketOption::RecvErr,
-    SocketOption::IsIcsk,
-    SocketOption::FreeBind,
-    SocketOption::HdrIncl,
-    SocketOption::McLoop,
-    SocketOption::Transparent,
-    SocketOption::McAll,
-    SocketOption::NoDefrag,
-    SocketOption::BindAddressNoPort,
-    SocketOption::RecvErrRfc4884,
-    SocketOption::DeferConnect,
+/// The options of a socket, in the order of their bits, each with its name.
+const OPTIONS: [(SocketOption, &str); 11] = with_names![
+    SocketOption: RecvErr, IsIcsk, FreeBind, HdrIncl, McLoop, Transparent, McAll, NoDefrag,
+    BindAddressNoPort, RecvErrRfc4884, DeferConnect
 ];
+
+/// The fields of TLS, each with its name.
+const TLS_FIELDS: [(TlsField, &str); 4] = with_names![
+    TlsField: Version, Cipher, Sending, Receiving
+];
+
+/// The fields of a subflow of MPTCP, each with its name.
+const SUBFLOW_FIELDS: [(SubflowField, &str); 10] = with_names![
+    SubflowField: RemoteToken, LocalToken, RelativeWriteSequence, MapSequence, MapSubflowSequence,
+    SequenceOffset, MapLength, Flags, RemoteId, LocalId
+];
+
+/// Asserts that `Debug` prints each value as its name.
+fn have_names<T: Debug>(rt: &impl Abort, alloc: Global, values: &[(T, &str)]) {
+    for (value, name) in values {
+        shows(rt, alloc, value, *name);
+    }
+}
 
 #[test]
 fn fields_have_texts(rt: HostRuntime) {
-    let alloc = rt.alloc();
-    shows(&rt, alloc, &TCP_FIELDS, TCP_TEXT);
-    let text = "[Subflows, AddAddrSignal, AddAddrAccepted, SubflowsMax, AddAddrSignalMax, \
-        AddAddrAcceptedMax, Flags, Token, WriteSeq, SndUna, RcvNxt, LocalAddrUsed, LocalAddrMax, \
-        CsumEnabled, Retransmits, BytesRetrans, BytesSent, BytesReceived, BytesAcked, \
-        SubflowsTotal, EndpLaminarMax, LastDataSent, LastDataRecv, LastAckRecv]";
-    shows(&rt, alloc, &MPTCP_FIELDS, text);
-    let text = "[RecvErr, IsIcsk, FreeBind, HdrIncl, McLoop, Transparent, McAll, NoDefrag, \
-        BindAddressNoPort, RecvErrRfc4884, DeferConnect]";
-    shows(&rt, alloc, &OPTIONS, text);
-    let fields = [
-        TlsField::Version,
-        TlsField::Cipher,
-        TlsField::Sending,
-        TlsField::Receiving,
-    ];
-    shows(&rt, alloc, &fields, "[Version, Cipher, Sending, Receiving]");
-    let fields = [
-        SubflowField::RemoteToken,
-        SubflowField::LocalToken,
-        SubflowField::RelativeWriteSequence,
-        SubflowField::MapSequence,
-        SubflowField::MapSubflowSequence,
-        SubflowField::SequenceOffset,
-        SubflowField::MapLength,
-        SubflowField::Flags,
-        SubflowField::RemoteId,
-        SubflowField::LocalId,
-    ];
-    let text = "[RemoteToken, LocalToken, RelativeWriteSequence, MapSequence, MapSubflowSequence, \
-        SequenceOffset, MapLength, Flags, RemoteId, LocalId]";
-    shows(&rt, alloc, &fields, text);
+    have_names(&rt, rt.alloc(), &TCP_FIELDS);
+    have_names(&rt, rt.alloc(), &MPTCP_FIELDS);
+    have_names(&rt, rt.alloc(), &OPTIONS);
+    have_names(&rt, rt.alloc(), &TLS_FIELDS);
+    have_names(&rt, rt.alloc(), &SUBFLOW_FIELDS);
 }
 
 /// Asserts that `Debug` prints the record that consists of zeros as this text.
