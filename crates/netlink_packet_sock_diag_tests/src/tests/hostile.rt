@@ -1,7 +1,7 @@
 //! Two requests and four replies with each byte changed, and truncated at each byte.
 
 use super::parsers::{Report, Subject, parse_all};
-use super::{ABSTRACT, INET, PATH, PEER, SHUTDOWN, UNIX_REQUEST, ZEROS, bytes, shows, shows_part};
+use super::{ABSTRACT, INET, PATH, PEER, SHUTDOWN, UNIX_REQUEST, ZEROS, bytes};
 use std::alloc::Global;
 use std::process::Abort;
 
@@ -38,8 +38,8 @@ pub(super) fn changed(
 }
 
 /// Calls all parsers and serializers with the bytes, with each byte in turn changed to each other
-/// value. Asserts that `counts` occurs in what `Debug` prints for the counts.
-fn changes(rt: &impl Abort, alloc: Global, subject: Subject, parts: &[&str], counts: &str) {
+/// value. Asserts that the counts start with `counts`.
+fn changes(rt: &impl Abort, alloc: Global, subject: Subject, parts: &[&str], counts: &[u32]) {
     let whole = bytes(rt, alloc, parts);
     let original = parse_all(rt, alloc, subject, &whole, None, false);
     assert!(rt; original.form.is_ok(), "refused");
@@ -51,42 +51,41 @@ fn changes(rt: &impl Abort, alloc: Global, subject: Subject, parts: &[&str], cou
             count(rt, &mut tally, &original, &report);
         }
     }
-    shows_part(rt, alloc, &tally, counts);
+    assert!(rt; tally.starts_with(counts), "{tally:?}");
 }
 
 #[test]
 fn requests(rt: HostRuntime) {
     let alloc = rt.alloc();
-    let counts = "[2552, 3568, 0, 0, 0, 0, 0, 0, 0, 0, 0]";
-    changes(&rt, alloc, Subject::UnixRequest, &[UNIX_REQUEST], counts);
-    let counts = "[6901, 7125, 0, 254, 0, 0, 0, 0, 0, 0, 0]";
-    changes(&rt, alloc, Subject::InetRequest, INET_REQUEST, counts);
+    let counts = [2552, 3568, 0, 0, 0, 0, 0, 0, 0, 0, 0];
+    changes(&rt, alloc, Subject::UnixRequest, &[UNIX_REQUEST], &counts);
+    let counts = [6901, 7125, 0, 254, 0, 0, 0, 0, 0, 0, 0];
+    changes(&rt, alloc, Subject::InetRequest, INET_REQUEST, &counts);
 }
 
 // For a UNIX reply, only the number of changes that do not change the value is checked.
 #[test]
 fn replies_with_paths(rt: HostRuntime) {
     let alloc = rt.alloc();
-    changes(&rt, alloc, Subject::UnixReply, &[PATH], "[1284, ");
-    changes(&rt, alloc, Subject::UnixReply, &[PEER], "[1542, ");
+    changes(&rt, alloc, Subject::UnixReply, &[PATH], &[1284]);
+    changes(&rt, alloc, Subject::UnixReply, &[PEER], &[1542]);
 }
 
 #[test]
 fn a_reply_with_an_abstract_name(rt: HostRuntime) {
-    let counts = "[1284, ";
-    changes(&rt, rt.alloc(), Subject::UnixReply, &[ABSTRACT], counts);
+    changes(&rt, rt.alloc(), Subject::UnixReply, &[ABSTRACT], &[1284]);
 }
 
 #[test]
 fn an_inet_reply(rt: HostRuntime) {
     let alloc = rt.alloc();
-    let counts = "[7143, 12488, 3, 254, 0, 0, 0, 0, 4, 502, 6]";
-    changes(&rt, alloc, Subject::InetReply, &[INET, SHUTDOWN], counts);
+    let counts = [7143, 12488, 3, 254, 0, 0, 0, 0, 4, 502, 6];
+    changes(&rt, alloc, Subject::InetReply, &[INET, SHUTDOWN], &counts);
 }
 
-/// Calls all parsers and serializers with each proper prefix of the bytes. Asserts that `Debug`
-/// prints the counts as `counts`.
-fn prefixes(rt: &impl Abort, alloc: Global, subject: Subject, parts: &[&str], counts: &str) {
+/// Calls all parsers and serializers with each proper prefix of the bytes. Asserts that the counts
+/// are `counts`.
+fn prefixes(rt: &impl Abort, alloc: Global, subject: Subject, parts: &[&str], counts: [u32; 11]) {
     let whole = bytes(rt, alloc, parts);
     let original = parse_all(rt, alloc, subject, &whole, None, false);
     let mut tally = [0; 11];
@@ -95,15 +94,15 @@ fn prefixes(rt: &impl Abort, alloc: Global, subject: Subject, parts: &[&str], co
         let report = parse_all(rt, alloc, subject, prefix, Some(&whole), false);
         count(rt, &mut tally, &original, &report);
     }
-    shows(rt, alloc, &tally, counts);
+    assert!(rt; tally == counts, "{tally:?}");
 }
 
 #[test]
 fn truncated_requests(rt: HostRuntime) {
     let alloc = rt.alloc();
-    let counts = "[0, 0, 24, 0, 0, 0, 0, 0, 0, 0, 0]";
+    let counts = [0, 0, 24, 0, 0, 0, 0, 0, 0, 0, 0];
     prefixes(&rt, alloc, Subject::UnixRequest, &[UNIX_REQUEST], counts);
-    let counts = "[0, 0, 56, 0, 0, 0, 0, 0, 0, 0, 0]";
+    let counts = [0, 0, 56, 0, 0, 0, 0, 0, 0, 0, 0];
     prefixes(&rt, alloc, Subject::InetRequest, INET_REQUEST, counts);
 }
 
@@ -112,13 +111,13 @@ fn truncated_requests(rt: HostRuntime) {
 #[test]
 fn truncated_replies(rt: HostRuntime) {
     let alloc = rt.alloc();
-    let counts = "[3, 3, 16, 0, 0, 0, 0, 9, 0, 29, 0]";
+    let counts = [3, 3, 16, 0, 0, 0, 0, 9, 0, 29, 0];
     prefixes(&rt, alloc, Subject::UnixReply, &[PATH], counts);
-    let counts = "[3, 5, 16, 0, 0, 0, 0, 12, 0, 32, 0]";
+    let counts = [3, 5, 16, 0, 0, 0, 0, 12, 0, 32, 0];
     prefixes(&rt, alloc, Subject::UnixReply, &[PEER], counts);
-    let counts = "[3, 3, 16, 0, 0, 0, 0, 9, 0, 53, 0]";
+    let counts = [3, 3, 16, 0, 0, 0, 0, 9, 0, 53, 0];
     prefixes(&rt, alloc, Subject::UnixReply, &[ABSTRACT], counts);
-    let counts = "[3, 1, 72, 0, 0, 0, 0, 3, 0, 1, 0]";
+    let counts = [3, 1, 72, 0, 0, 0, 0, 3, 0, 1, 0];
     prefixes(&rt, alloc, Subject::InetReply, &[INET, SHUTDOWN], counts);
 }
 
@@ -126,12 +125,12 @@ fn truncated_replies(rt: HostRuntime) {
 #[test]
 fn truncated_messages(rt: HostRuntime) {
     let alloc = rt.alloc();
-    let counts = "[3, 3, 14, 0, 2, 0, 0, 9, 0, 29, 0]";
+    let counts = [3, 3, 14, 0, 2, 0, 0, 9, 0, 29, 0];
     prefixes(&rt, alloc, Subject::Message, &[PATH], counts);
-    let counts = "[3, 5, 14, 0, 2, 0, 0, 12, 0, 32, 0]";
+    let counts = [3, 5, 14, 0, 2, 0, 0, 12, 0, 32, 0];
     prefixes(&rt, alloc, Subject::Message, &[PEER], counts);
-    let counts = "[3, 3, 14, 0, 2, 0, 0, 9, 0, 53, 0]";
+    let counts = [3, 3, 14, 0, 2, 0, 0, 9, 0, 53, 0];
     prefixes(&rt, alloc, Subject::Message, &[ABSTRACT], counts);
-    let counts = "[3, 1, 70, 0, 2, 0, 0, 3, 0, 1, 0]";
+    let counts = [3, 1, 70, 0, 2, 0, 0, 3, 0, 1, 0];
     prefixes(&rt, alloc, Subject::Message, &[INET, SHUTDOWN], counts);
 }

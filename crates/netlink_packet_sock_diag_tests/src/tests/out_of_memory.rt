@@ -9,7 +9,8 @@ use netlink_core::{
 use netlink_packet_sock_diag::inet::{self, InetResponse};
 use netlink_packet_sock_diag::unix::{self, UnixResponse};
 use netlink_packet_sock_diag::{
-    DumpError, DumpReader, DumpState, LossyDump, SockDiagDestroy, SockDiagMessage,
+    DumpError, DumpReader, DumpState, LossyDump, SOCK_DIAG_BY_FAMILY, SockDiagDestroy,
+    SockDiagMessage,
 };
 use std::alloc::{AllocError, Global};
 use std::process::Abort;
@@ -168,7 +169,7 @@ fn copies_inet(rt: &impl Abort, alloc: Global, bytes: &[u8]) {
 
 /// Checks the clones of a message, and of the request to close its socket.
 fn copies_message(rt: &impl Abort, alloc: Global, bytes: &[u8]) {
-    if let Ok(message) = SockDiagMessage::parse_with_param(alloc, bytes, 20) {
+    if let Ok(message) = SockDiagMessage::parse_with_param(alloc, bytes, SOCK_DIAG_BY_FAMILY) {
         is_copy(rt, &message, message.clone(alloc));
         let destroy = SockDiagDestroy::new(message);
         is_copy(rt, &destroy, destroy.clone(alloc));
@@ -238,137 +239,177 @@ fn netlink_messages(rt: HostRuntime) {
     assert!(rt; opens(&rt, alloc, NOOP, NOOP, text) == 0);
 }
 
-/// A number of bytes in an `Answer`: all of them.
+/// All bytes of a [`Case`] are parsed.
 const WHOLE: usize = usize::MAX;
 
-/// A header and attributes, how many of their bytes are parsed, and the error, or `None` if they
-/// have a value.
-type Answer = (
-    Subject,
-    &'static str,
-    &'static str,
-    usize,
-    Option<DecodeError>,
-);
+/// Bytes that are parsed without an allocation, or rejected whichever allocations fail.
+#[derive(Clone, Copy)]
+struct Case {
+    subject: Subject,
+    /// The digits of the header.
+    header: &'static str,
+    /// The digits of the attributes after the header.
+    attributes: &'static str,
+    /// How many of these bytes are parsed.
+    parsed: usize,
+    /// The error, or `None` if the bytes have a value.
+    error: Option<DecodeError>,
+}
 
 /// Bytes whose parsers do not allocate: requests, and replies of at most eight attributes that have
 /// no name, no text, no number of a pending connection and no raw value.
-const VALUES: [Answer; 9] = [
-    (Subject::UnixReply, LISTENING, "", WHOLE, None),
-    (Subject::UnixReply, LISTENING, NINE, 80, None),
-    (Subject::UnixReply, LISTENING, "04000300", WHOLE, None),
-    (
-        Subject::UnixReply,
-        CONNECTED,
-        "0c0004000300000007000000",
-        WHOLE,
-        None,
-    ),
-    (
-        Subject::UnixReply,
-        LISTENING,
-        "28000500000000000200000000000000040000000000000006000000000000000000000000000000",
-        WHOLE,
-        None,
-    ),
-    (Subject::InetReply, INET, SHUTDOWN, WHOLE, None),
-    (Subject::InetReply, INET, INET_OTHER, 80, None),
-    (Subject::UnixRequest, UNIX_REQUEST, "", WHOLE, None),
-    (
-        Subject::InetRequest,
-        "0211000002000000",
-        ZEROS_48,
-        WHOLE,
-        None,
-    ),
+const VALUES: [Case; 9] = [
+    Case {
+        subject: Subject::UnixReply,
+        header: LISTENING,
+        attributes: "",
+        parsed: WHOLE,
+        error: None,
+    },
+    Case {
+        subject: Subject::UnixReply,
+        header: LISTENING,
+        attributes: NINE,
+        parsed: 80,
+        error: None,
+    },
+    Case {
+        subject: Subject::UnixReply,
+        header: LISTENING,
+        attributes: "04000300",
+        parsed: WHOLE,
+        error: None,
+    },
+    Case {
+        subject: Subject::UnixReply,
+        header: CONNECTED,
+        attributes: "0c0004000300000007000000",
+        parsed: WHOLE,
+        error: None,
+    },
+    Case {
+        subject: Subject::UnixReply,
+        header: LISTENING,
+        attributes: "280005000000000002000000000000000400000000000000060000000000000000000000\
+            00000000",
+        parsed: WHOLE,
+        error: None,
+    },
+    Case {
+        subject: Subject::InetReply,
+        header: INET,
+        attributes: SHUTDOWN,
+        parsed: WHOLE,
+        error: None,
+    },
+    Case {
+        subject: Subject::InetReply,
+        header: INET,
+        attributes: INET_OTHER,
+        parsed: 80,
+        error: None,
+    },
+    Case {
+        subject: Subject::UnixRequest,
+        header: UNIX_REQUEST,
+        attributes: "",
+        parsed: WHOLE,
+        error: None,
+    },
+    Case {
+        subject: Subject::InetRequest,
+        header: "0211000002000000",
+        attributes: ZEROS_48,
+        parsed: WHOLE,
+        error: None,
+    },
 ];
 
 /// Invalid bytes. Most have a name or a text, whose parser allocates, before the error.
-const ERRORS: [Answer; 9] = [
-    (
-        Subject::UnixRequest,
-        UNIX_REQUEST,
-        "",
-        23,
-        Some(DecodeError::BufferTooSmall {
+const ERRORS: [Case; 9] = [
+    Case {
+        subject: Subject::UnixRequest,
+        header: UNIX_REQUEST,
+        attributes: "",
+        parsed: 23,
+        error: Some(DecodeError::BufferTooSmall {
             which: RecordName::UnixRequest,
             got: 23,
             need: 24,
         }),
-    ),
-    (
-        Subject::UnixReply,
-        PATH,
-        "",
-        15,
-        Some(DecodeError::BufferTooSmall {
+    },
+    Case {
+        subject: Subject::UnixReply,
+        header: PATH,
+        attributes: "",
+        parsed: 15,
+        error: Some(DecodeError::BufferTooSmall {
             which: RecordName::UnixResponseHeader,
             got: 15,
             need: 16,
         }),
-    ),
-    (
-        Subject::UnixReply,
-        PATH,
-        "",
-        53,
-        Some(DecodeError::AttributeHeaderCut { left: 1 }),
-    ),
-    (
-        Subject::UnixReply,
-        PATH,
-        "",
-        54,
-        Some(DecodeError::AttributeHeaderCut { left: 2 }),
-    ),
-    (
-        Subject::UnixReply,
-        PATH,
-        "",
-        55,
-        Some(DecodeError::AttributeHeaderCut { left: 3 }),
-    ),
-    (
-        Subject::UnixReply,
-        PATH,
-        "",
-        56,
-        Some(DecodeError::AttributeLengthPast { length: 5, left: 4 }),
-    ),
-    (
-        Subject::UnixReply,
-        PATH,
-        "0000",
-        WHOLE,
-        Some(DecodeError::AttributeHeaderCut { left: 2 }),
-    ),
-    (
-        Subject::UnixReply,
-        LISTENING,
-        "080000006162630003000600",
-        WHOLE,
-        Some(DecodeError::AttributeLengthUnder4 { length: 3 }),
-    ),
-    (
-        Subject::InetReply,
-        INET,
-        "0a000400637562696300000005000400ff000000",
-        WHOLE,
-        Some(DecodeError::NotUtf8),
-    ),
+    },
+    Case {
+        subject: Subject::UnixReply,
+        header: PATH,
+        attributes: "",
+        parsed: 53,
+        error: Some(DecodeError::AttributeHeaderCut { left: 1 }),
+    },
+    Case {
+        subject: Subject::UnixReply,
+        header: PATH,
+        attributes: "",
+        parsed: 54,
+        error: Some(DecodeError::AttributeHeaderCut { left: 2 }),
+    },
+    Case {
+        subject: Subject::UnixReply,
+        header: PATH,
+        attributes: "",
+        parsed: 55,
+        error: Some(DecodeError::AttributeHeaderCut { left: 3 }),
+    },
+    Case {
+        subject: Subject::UnixReply,
+        header: PATH,
+        attributes: "",
+        parsed: 56,
+        error: Some(DecodeError::AttributeLengthPast { length: 5, left: 4 }),
+    },
+    Case {
+        subject: Subject::UnixReply,
+        header: PATH,
+        attributes: "0000",
+        parsed: WHOLE,
+        error: Some(DecodeError::AttributeHeaderCut { left: 2 }),
+    },
+    Case {
+        subject: Subject::UnixReply,
+        header: LISTENING,
+        attributes: "080000006162630003000600",
+        parsed: WHOLE,
+        error: Some(DecodeError::AttributeLengthUnder4 { length: 3 }),
+    },
+    Case {
+        subject: Subject::InetReply,
+        header: INET,
+        attributes: "0a000400637562696300000005000400ff000000",
+        parsed: WHOLE,
+        error: Some(DecodeError::NotUtf8),
+    },
 ];
 
-/// Asserts that each parser returns the value or the error of the row, whichever allocations fail.
+/// Asserts that each parser returns the value or the error of the case, whichever allocations fail.
 /// Asserts that each serializer returns the error, or the bytes unless an allocation fails.
-fn is_answered(rt: &impl Abort, alloc: Global, row: &Answer) -> Option<()> {
-    let (subject, header, attributes, count, error) = *row;
-    let bytes = reply(rt, alloc, header, attributes)?;
-    let bytes = bytes.get(..count).unwrap_or(&bytes);
-    let original = equivalent(rt, alloc, header, attributes)?;
-    let original = original.get(..count).unwrap_or(&original);
-    let report = examine(alloc, subject, bytes, Some(original), false);
-    assert!(rt; report.error == error && report.are_equal && report.is_original);
-    match error {
+fn needs_no_allocation(rt: &impl Abort, alloc: Global, case: &Case) -> Option<()> {
+    let bytes = reply(rt, alloc, case.header, case.attributes)?;
+    let bytes = bytes.get(..case.parsed).unwrap_or(&bytes);
+    let original = equivalent(rt, alloc, case.header, case.attributes)?;
+    let original = original.get(..case.parsed).unwrap_or(&original);
+    let report = examine(alloc, case.subject, bytes, Some(original), false);
+    assert!(rt; report.error == case.error && report.are_equal && report.is_original);
+    match case.error {
         Some(error) => are_rejected(rt, &report, error),
         None => are_forms(rt, &report, bytes),
     }
@@ -384,11 +425,11 @@ fn are_rejected(rt: &impl Abort, report: &Report, error: DecodeError) {
 
 #[test]
 fn values_and_errors_that_need_no_allocation(rt: HostRuntime) {
-    for row in &VALUES {
-        let _ = is_answered(&rt, rt.alloc(), row);
+    for case in &VALUES {
+        let _ = needs_no_allocation(&rt, rt.alloc(), case);
     }
-    for row in &ERRORS {
-        let _ = is_answered(&rt, rt.alloc(), row);
+    for case in &ERRORS {
+        let _ = needs_no_allocation(&rt, rt.alloc(), case);
     }
 }
 
@@ -401,8 +442,8 @@ const PAYLOADS: [&[u8]; 2] = [
 /// Returns the messages of `BOTH`, or `None` if an allocation fails.
 fn both(alloc: Global) -> Option<(SockDiagMessage, SockDiagMessage)> {
     let [first, second] = PAYLOADS;
-    let first = SockDiagMessage::parse_with_param(alloc, first, 20).ok()?;
-    let second = SockDiagMessage::parse_with_param(alloc, second, 20).ok()?;
+    let first = SockDiagMessage::parse_with_param(alloc, first, SOCK_DIAG_BY_FAMILY).ok()?;
+    let second = SockDiagMessage::parse_with_param(alloc, second, SOCK_DIAG_BY_FAMILY).ok()?;
     Some((first, second))
 }
 

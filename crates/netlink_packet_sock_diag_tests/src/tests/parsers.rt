@@ -5,12 +5,12 @@ use super::emitted;
 use netlink_core::{CanonError, DecodeError, Parseable, ParseableParametrized, Wire, canonical};
 use netlink_packet_sock_diag::inet::{InetRequest, InetResponse, InetResponseView};
 use netlink_packet_sock_diag::unix::{UnixRequest, UnixResponse, UnixResponseView};
-use netlink_packet_sock_diag::{SockDiagMessage, SockDiagView};
+use netlink_packet_sock_diag::{SOCK_DIAG_BY_FAMILY, SockDiagMessage, SockDiagView};
 use std::alloc::Global;
 use std::fmt::Debug;
 use std::process::Abort;
 
-/// The type of a value. A message is parsed under the type 20.
+/// The type of a value. A message is parsed under the type `SOCK_DIAG_BY_FAMILY`.
 #[derive(Clone, Copy)]
 pub(crate) enum Subject {
     UnixReply,
@@ -220,20 +220,20 @@ impl Parsers for InetResponse {
 
 impl Parsers for SockDiagMessage {
     fn read_value(alloc: Global, bytes: &[u8]) -> Result<Self, DecodeError> {
-        SockDiagMessage::read(alloc, bytes, 20)
+        SockDiagMessage::read(alloc, bytes, SOCK_DIAG_BY_FAMILY)
     }
 
     fn parse_value(alloc: Global, bytes: &[u8]) -> Result<Self, DecodeError> {
-        SockDiagMessage::parse_with_param(alloc, bytes, 20)
+        SockDiagMessage::parse_with_param(alloc, bytes, SOCK_DIAG_BY_FAMILY)
     }
 
     fn copy_value(alloc: Global, bytes: &[u8]) -> Result<Self, DecodeError> {
-        let view = SockDiagView::parse(bytes, 20)?;
+        let view = SockDiagView::parse(bytes, SOCK_DIAG_BY_FAMILY)?;
         Ok(view.to_owned(alloc)?.clone(alloc)?)
     }
 
     fn form(alloc: Global, bytes: &[u8]) -> Result<Vec<u8>, CanonError> {
-        canonical::<SockDiagMessage>(alloc, bytes, 20)
+        canonical::<SockDiagMessage>(alloc, bytes, SOCK_DIAG_BY_FAMILY)
     }
 
     fn owned_form(&self, alloc: Global) -> Result<Vec<u8>, CanonError> {
@@ -241,7 +241,7 @@ impl Parsers for SockDiagMessage {
     }
 
     fn view_form(alloc: Global, bytes: &[u8]) -> Result<Vec<u8>, CanonError> {
-        emitted(alloc, &SockDiagView::parse(bytes, 20)?)
+        emitted(alloc, &SockDiagView::parse(bytes, SOCK_DIAG_BY_FAMILY)?)
     }
 }
 

@@ -8,7 +8,7 @@ use netlink_core::{
 use sock_diag_attributes::unix::nlas::{NameView, Nla, NlaView};
 use sock_diag_records::inet::{InetRequest, InetResponseHeader, SocketId, Timer};
 use sock_diag_records::unix::{StateFlags, UnixRequest, UnixRequestBuffer, UnixResponseHeader};
-use sock_diag_values::inet::{LegacyMemInfo, MemInfo, MemInfoBuffer, TcpInfo};
+use sock_diag_values::inet::{LegacyMemInfo, MemInfo, MemInfoBuffer, TCP_INFO_LEN, TcpInfo};
 use sock_diag_values::unix::{self as unix_nlas, Vfs};
 use std::alloc::Global;
 use std::fmt::Debug;
@@ -38,19 +38,21 @@ const LOOSE_UNIX: [u8; 27] = [
     255, 255, 255, 255, 0xaa, 0xbb, 0xcc,
 ];
 
+// The canonical form of `LOOSE_UNIX`: defined flags only, and default values in ignored bytes.
 const UNIX: [u8; 24] = [
     1, 0, 0, 0, 2, 4, 0, 0, 0x34, 0x12, 0, 0, 0x3f, 0, 0, 0, 255, 255, 255, 255, 255, 255, 255, 255,
 ];
 
-// A request for the peers of the UNIX sockets in each state.
+// A request for the peer (`ShowFlags::PEER`) of the UNIX socket with the inode 0x1234, if this
+// socket is established or listening (states 0x402).
 const PEER: [u8; 24] = [
     1, 0, 0, 0, 2, 4, 0, 0, 0x34, 0x12, 0, 0, 4, 0, 0, 0, 255, 255, 255, 255, 255, 255, 255, 255,
 ];
 
-// Returns bytes of which each is its own offset.
-fn places() -> [u8; 232] {
-    let mut places = [0; 232];
-    for place in 0..232_u8 {
+// Returns bytes of which each is its own offset. They suffice for the longest record, `TcpInfo`.
+fn places() -> [u8; TCP_INFO_LEN] {
+    let mut places = [0; TCP_INFO_LEN];
+    for place in 0..TCP_INFO_LEN as u8 {
         places[usize::from(place)] = place;
     }
     places
@@ -62,16 +64,16 @@ fn reads<T: Fills<N> + Debug + Drop, const N: usize>(
     rt: &impl Abort,
     alloc: Global,
     bytes: &[u8],
-    told: T::Param,
+    param: T::Param,
     (text, short): (&str, &str),
     written: &[u8],
 ) {
-    let read = T::read(alloc, bytes, told).expect(rt, "refused");
+    let read = T::read(alloc, bytes, param).expect(rt, "refused");
     shows(rt, alloc, &read, text);
-    let form = canonical::<T>(alloc, bytes, told).expect(rt, "refused");
+    let form = canonical::<T>(alloc, bytes, param).expect(rt, "refused");
     same(rt, &form, written);
     let cut = bytes.get(..N.saturating_sub(1)).expect(rt, "short");
-    shows(rt, alloc, &T::read(alloc, cut, told), short);
+    shows(rt, alloc, &T::read(alloc, cut, param), short);
 }
 
 // Asserts that the value serializes to these bytes, and that its buffer contains them.
@@ -105,7 +107,7 @@ fn values_of_attributes(rt: HostRuntime) {
     let short = "Err(BufferTooSmall { which: LegacyMemInfo, got: 15, need: 16 })";
     reads::<LegacyMemInfo, 16>(&rt, alloc, &places, (), (text, short), &places[..16]);
     let short = "Err(BufferTooSmall { which: TcpInfo, got: 231, need: 232 })";
-    reads::<TcpInfo, 232>(&rt, alloc, &places, (), (CONNECTION, short), &places);
+    reads::<TcpInfo, TCP_INFO_LEN>(&rt, alloc, &places, (), (CONNECTION, short), &places);
 }
 
 const CONNECTION: &str = "TcpInfo { state: 0, ca_state: 1, retransmits: 2, probes: 3, backoff: 4, \

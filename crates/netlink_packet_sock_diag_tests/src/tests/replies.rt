@@ -8,7 +8,7 @@ use super::{
 };
 use netlink_core::{NetlinkDeserializable, NetlinkMessage, Parseable, ParseableParametrized};
 use netlink_packet_sock_diag::unix::{UnixResponse, UnixResponseView};
-use netlink_packet_sock_diag::{MessageView, SockDiagDestroy, SockDiagMessage};
+use netlink_packet_sock_diag::{MessageView, SOCK_DESTROY, SockDiagDestroy, SockDiagMessage};
 use std::alloc::Global;
 use std::fmt::Debug;
 use std::process::Abort;
@@ -377,9 +377,11 @@ fn a_borrowed_message(rt: HostRuntime) {
     shows(&rt, rt.alloc(), &MessageView::parse(&end), text);
 }
 
-/// The request to close a socket, under the type under which it is parsed, and under its own type.
-/// A request to close the sockets that a request selects.
-const CLOSING: &str = "4c00000014000000000000000000000001010a000e4f0000a0020000000000001800\
+/// A reply as the payload of a `SockDiagDestroy`: accepted under type 20, rejected under 21
+/// (`SOCK_DESTROY`). Then a request for IPv4 sockets under 21, rejected. The text after the bytes
+/// is part of the `Debug` output.
+const DESTROY_MESSAGES: &str =
+    "4c00000014000000000000000000000001010a000e4f0000a0020000000000001800\
 00002f746d702f2e4943452d756e69782f31313531000c00040000000000800000000500060000000000 payload: \
 InnerMessage(SockDiagDestroy(UnixResponse(UnixResponse { header: UnixResponseHeader { kind: 1, \
 state: 10, inode: 20238, cookie: [160, 2, 0, 0, 0, 0, 0, 0] }, nlas: [Name(Pathname([47, 116, \
@@ -394,7 +396,7 @@ message_type: 21 })
 // The message type is checked before the family.
 #[test]
 fn a_message_under_another_type(rt: HostRuntime) {
-    let read = SockDiagMessage::parse_with_param(rt.alloc(), b"\x03\0", 21);
+    let read = SockDiagMessage::parse_with_param(rt.alloc(), b"\x03\0", SOCK_DESTROY);
     let text = "Err(UnknownMessageType { message_type: 21 })";
     shows(&rt, rt.alloc(), &read, text);
 }
@@ -402,5 +404,5 @@ fn a_message_under_another_type(rt: HostRuntime) {
 #[test]
 fn envelopes(rt: HostRuntime) {
     check_messages::<SockDiagMessage>(&rt, rt.alloc(), ENVELOPES);
-    check_messages::<SockDiagDestroy>(&rt, rt.alloc(), CLOSING);
+    check_messages::<SockDiagDestroy>(&rt, rt.alloc(), DESTROY_MESSAGES);
 }

@@ -3,9 +3,11 @@
 use super::attribute_sizes::SIZES;
 use super::parsers::{Subject, parse_all};
 use super::{CONNECTED, INET, LISTENING, bytes, message_code, shows};
-use netlink_core::{CanonError, NetlinkMessage, NetlinkPayload};
+use netlink_core::{
+    CanonError, NLMSG_DONE, NLMSG_ERROR, NLMSG_OVERRUN, NetlinkMessage, NetlinkPayload,
+};
 use netlink_packet_sock_diag::{
-    DumpReader, DumpState, LossyDump, SockDiagDestroy, SockDiagMessage,
+    DumpReader, DumpState, LossyDump, SOCK_DIAG_BY_FAMILY, SockDiagDestroy, SockDiagMessage,
 };
 use std::alloc::Global;
 use std::process::Abort;
@@ -20,10 +22,11 @@ fn accepts(rt: &impl Abort, alloc: Global, subject: Subject, bytes: &[u8]) {
 }
 
 /// Returns a netlink message of a type.
-fn envelope(rt: &impl Abort, alloc: Global, kind: u8, payload: &[u8]) -> Vec<u8> {
+fn envelope(rt: &impl Abort, alloc: Global, message_type: u16, payload: &[u8]) -> Vec<u8> {
     let length = u32::try_from(payload.len().saturating_add(16)).unwrap_or(0);
     let [a, b, c, d] = length.to_le_bytes();
-    let header = [a, b, c, d, kind, 0, 0, 0, 0, 0, 0, 0, 0, 0, 0, 0];
+    let [low, high] = message_type.to_le_bytes();
+    let header = [a, b, c, d, low, high, 0, 0, 0, 0, 0, 0, 0, 0, 0, 0];
     let mut message = Vec::from_slice(alloc, &header).expect(rt, "memory");
     message.extend_from_slice(payload).expect(rt, "memory");
     message
@@ -49,7 +52,7 @@ fn repeated(
 
 /// Asserts that a reply with this number of attributes is parsed, by itself and in a netlink
 /// message.
-fn has_room_for(
+fn reply_is_parsed(
     rt: &impl Abort,
     alloc: Global,
     subject: Subject,
@@ -60,16 +63,22 @@ fn has_room_for(
     let reply = repeated(rt, alloc, header, attribute, count);
     accepts(rt, alloc, subject, &reply);
     accepts(rt, alloc, Subject::Message, &reply);
-    opens(rt, alloc, &envelope(rt, alloc, 20, &reply));
+    opens(rt, alloc, &envelope(rt, alloc, SOCK_DIAG_BY_FAMILY, &reply));
 }
 
 /// Asserts that a reply with each number of attributes is parsed.
-fn has_room(rt: &impl Abort, alloc: Global, subject: Subject, header: &str, attribute: &str) {
+fn replies_are_parsed(
+    rt: &impl Abort,
+    alloc: Global,
+    subject: Subject,
+    header: &str,
+    attribute: &str,
+) {
     for count in 0..301 {
-        has_room_for(rt, alloc, subject, header, attribute, count);
+        reply_is_parsed(rt, alloc, subject, header, attribute, count);
     }
     for &count in &COUNTS {
-        has_room_for(rt, alloc, subject, header, attribute, count);
+        reply_is_parsed(rt, alloc, subject, header, attribute, count);
     }
 }
 
@@ -81,47 +90,48 @@ const LARGE: [usize; 5] = [16_384, 32_768, 65_536, 100_000, 131_072];
 fn long_lists(rt: HostRuntime) {
     let (unix, inet) = ("0500060002000000", "0500080002000000");
     for &count in &LARGE {
-        has_room_for(&rt, rt.alloc(), Subject::UnixReply, CONNECTED, unix, count);
-        has_room_for(&rt, rt.alloc(), Subject::InetReply, INET, inet, count);
+        reply_is_parsed(&rt, rt.alloc(), Subject::UnixReply, CONNECTED, unix, count);
+        reply_is_parsed(&rt, rt.alloc(), Subject::InetReply, INET, inet, count);
     }
 }
 
 #[test]
 fn lists_of_attributes(rt: HostRuntime) {
     let alloc = rt.alloc();
-    has_room(
+    replies_are_parsed(
         &rt,
         alloc,
         Subject::UnixReply,
         CONNECTED,
         "0500060002000000",
     );
-    has_room(
+    replies_are_parsed(
         &rt,
         alloc,
         Subject::UnixReply,
         CONNECTED,
         "0600000061000000",
     );
-    has_room(&rt, alloc, Subject::InetReply, INET, "0500080002000000");
-    has_room(&rt, alloc, Subject::InetReply, INET, "0600040061000000");
+    replies_are_parsed(&rt, alloc, Subject::InetReply, INET, "0500080002000000");
+    replies_are_parsed(&rt, alloc, Subject::InetReply, INET, "0600040061000000");
 }
 
-/// Checks a payload of this size, under each type of netlink(7) whose payload is kept as bytes.
-fn has_room_for_payload(rt: &impl Abort, alloc: Global, size: usize) {
+/// Asserts that a payload of this size is parsed, under each type of netlink(7) whose payload is
+/// kept as bytes.
+fn payload_is_parsed(rt: &impl Abort, alloc: Global, size: usize) {
     let payload = vec![in alloc; 7; size].expect(rt, "memory");
-    opens(rt, alloc, &envelope(rt, alloc, 2, &payload));
-    opens(rt, alloc, &envelope(rt, alloc, 3, &payload));
-    opens(rt, alloc, &envelope(rt, alloc, 4, &payload));
+    opens(rt, alloc, &envelope(rt, alloc, NLMSG_ERROR, &payload));
+    opens(rt, alloc, &envelope(rt, alloc, NLMSG_DONE, &payload));
+    opens(rt, alloc, &envelope(rt, alloc, NLMSG_OVERRUN, &payload));
 }
 
 #[test]
 fn payloads(rt: HostRuntime) {
     for size in 0..301 {
-        has_room_for_payload(&rt, rt.alloc(), size);
+        payload_is_parsed(&rt, rt.alloc(), size);
     }
     for &size in &SIZES {
-        has_room_for_payload(&rt, rt.alloc(), size);
+        payload_is_parsed(&rt, rt.alloc(), size);
     }
 }
 
@@ -145,7 +155,12 @@ fn is_kept_as_one(rt: &impl Abort, alloc: Global, message: &[u8], count: usize) 
 
 /// Returns a message with a reply that has no attributes.
 fn short_message(rt: &impl Abort, alloc: Global) -> Vec<u8> {
-    envelope(rt, alloc, 20, &bytes(rt, alloc, &[LISTENING]))
+    envelope(
+        rt,
+        alloc,
+        SOCK_DIAG_BY_FAMILY,
+        &bytes(rt, alloc, &[LISTENING]),
+    )
 }
 
 /// Checks a dump of one datagram with each number of messages.
@@ -175,7 +190,7 @@ fn is_copied(rt: &impl Abort, alloc: Global, message: &[u8]) {
 /// Checks a dump of one reply with this number of attributes, and a clone of its request to close.
 fn is_kept(rt: &impl Abort, alloc: Global, header: &str, attribute: &str, count: usize) {
     let reply = repeated(rt, alloc, header, attribute, count);
-    let message = envelope(rt, alloc, 20, &reply);
+    let message = envelope(rt, alloc, SOCK_DIAG_BY_FAMILY, &reply);
     keeps(rt, alloc, &message, 1, 1);
     is_copied(rt, alloc, &message);
 }

@@ -6,7 +6,7 @@ use netlink_core::{DecodeError, Emitable, write_new};
 use netlink_packet_sock_diag::inet::InetResponseView;
 use netlink_packet_sock_diag::unix::UnixResponseView;
 use netlink_packet_sock_diag::{
-    DumpError, DumpReader, DumpState, DumpViews, LossyDump, SockDiagView,
+    DumpError, DumpReader, DumpState, DumpViews, LossyDump, SOCK_DIAG_BY_FAMILY, SockDiagView,
 };
 use std::alloc::Global;
 use std::process::Abort;
@@ -20,7 +20,7 @@ fn writes<T: Emitable>(rt: &impl Abort, alloc: Global, value: &T, parts: &[&str]
 /// Asserts that `part` occurs in what `Debug` prints for the borrowed reply as a message, and that
 /// the message serializes to these bytes.
 fn message_writes(rt: &impl Abort, alloc: Global, reply: &[u8], part: &str, parts: &[&str]) {
-    let message = SockDiagView::parse(reply, 20).expect(rt, "refused");
+    let message = SockDiagView::parse(reply, SOCK_DIAG_BY_FAMILY).expect(rt, "refused");
     shows_part(rt, alloc, &message, part);
     writes(rt, alloc, &message, parts);
 }
