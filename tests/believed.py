@@ -77,7 +77,7 @@ CITED = {"serve", "read_prompt", "utc_text", "push_path", "push_abstract", "Gene
 LEMMAS, PRIVATE, INVERSE = ".specs.laws.", ".specs.private.", ".specs.inverse."
 # Definitions that a law determines. Whoever believes the law need not read how they are computed:
 # their types are followed, their equations are not. The laws are found_values_are_the_attributes,
-# content_is_of_its_type, inet_values_are_variants and unix_values_are_variants.
+# value_is_found_under_its_kind, inet_values_are_variants and unix_values_are_variants.
 DETERMINED = {"decoded_in", "value_of_kind", "inet_variant", "unix_variant"}
 # A function without a keyword is a definition if its result has one of these types, and otherwise a
 # lemma.

@@ -1,6 +1,6 @@
 -- The fields of a record, consecutive, each with its offset in bytes. Bytes are a list of numbers
 -- below 256.
-use Rattle.std.specs.Prelude.{◌≡◌, ◌<◌, ℕ, zero, suc, ◌+◌, ◌^◌, List, [], ◌∷◌, ◌++◌, drop}
+use Rattle.std.specs.Prelude.{⊤, ◌≡◌, ◌<◌, ℕ, zero, suc, ◌+◌, ◌^◌, List, [], ◌∷◌, ◌++◌, drop}
 use Rattle.std.specs.Prelude.{slice_index, bit_and}
 use Rattle.byteorder.specs.Endian.{little_number, big_number, little_bytes, big_bytes}
 
@@ -60,7 +60,7 @@ first_numbers (suc n) xs = slice_index xs 0 ∷ first_numbers n (drop 1 xs)
 -- FitFields fields values: there is exactly one number for each field that is not ignored, and it
 -- fits the field's width in bytes; masks of flags are not considered
 abbrev pub FitFields : List Field → List ℕ → Type 0
-FitFields [] [] = Unit {0}
+FitFields [] [] = ⊤
 FitFields (unread offset written ∷ fields) values = FitFields fields values
 FitFields (byte offset ∷ fields) (value ∷ values) = (value < 256) × FitFields fields values
 FitFields (number offset width ∷ fields) (value ∷ values) =
@@ -78,4 +78,4 @@ HaveDefinedFlags (unread offset written ∷ fields) values = HaveDefinedFlags fi
 HaveDefinedFlags (flags at width mask ∷ fields) (n ∷ rest) =
     (bit_and n mask ≡ n) × HaveDefinedFlags fields rest
 HaveDefinedFlags (field ∷ fields) (value ∷ values) = HaveDefinedFlags fields values
-HaveDefinedFlags _ _ = Unit {0}
+HaveDefinedFlags _ _ = ⊤

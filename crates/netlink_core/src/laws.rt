@@ -93,7 +93,7 @@ pub fn parsed_iff_contained<T: Record>()
 {}
 
 /// Returns `TAKES_MEMORY` of a record: whether parsing it can fail with `Memory`. It cannot.
-pub fn records_take_memory<T: Record>() -> bool
+pub fn records_take_no_memory<T: Record>() -> bool
     ensures { result ≡ false }
 {
     T::TAKES_MEMORY
@@ -110,7 +110,7 @@ pub fn attributes_take_memory() -> bool
 /// For any set of attribute types, a value of a kind in the set is found under this kind. No value,
 /// and no raw attribute, is found under another kind than its own. Nothing is found under a kind
 /// that is not in the set.
-pub fn content_is_of_its_type<T: FamilyNla>()
+pub fn value_is_found_under_its_kind<T: FamilyNla>()
     // T.attribute_set: the set of attribute types. kind_numbers set: the kinds in the set.
     // ValueOfKind set k: the type of the values of the kind `k`; raw attributes if `k` is not in
     // the set. value_as_decoded set k x: `x`, a value of the kind `k`, as a decoded value.

@@ -68,7 +68,7 @@ pub trait Record: Exact + Sized {
 pub fn read_record<T: Record>(bytes: &[u8], param: T::Param) -> Result<T, DecodeError>
     // parse_record layout param bytes: `Ok` of the value, or `Err` of the first error.
     ensures value { result ≡ parse_record T.layout param bytes.now }
-    ensures named { IfErr result (λ error. error ≢ Memory) }
+    ensures not_memory { IfErr result (λ error. error ≢ Memory) }
 {
     let (which, need) = T::name_and_least();
     if bytes.len() < need {

@@ -1,6 +1,6 @@
 use Rattle.netlink_core.proofs.AttributeContent.{value_of_own_kind, no_value_of_other_kind}
 use Rattle.netlink_core.proofs.AttributeContent.{no_value_of_unknown_kind}
-use Rattle.netlink_core.proofs.laws.content_is_of_its_type.Goals as goal
+use Rattle.netlink_core.proofs.laws.value_is_found_under_its_kind.Goals as goal
 
 pub returns-clause-own : goal.returns-clause-own
 returns-clause-own g c = value_of_own_kind _
