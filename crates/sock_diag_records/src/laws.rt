@@ -37,7 +37,7 @@ use netlink_core::HasCodec;
 pub fn equivalent_socket_ids()
     ensures { (family : ℕ) (b c : List ℕ) → IsBytes b → IsBytes c
         → ⟦<SocketId as HasCodec>⟧.codec.equivalent family b c
-        ↔ ((48 ≤ length b) × (48 ≤ length c) × IsInetFamily family
+        ↔ ((SOCKET_ID_LEN ≤ length b) × (SOCKET_ID_LEN ≤ length c) × IsInetFamily family
         × EqualUnder (socket_id_masks family) b c) }
 {}
 
@@ -49,8 +49,8 @@ pub fn equivalent_socket_ids()
 pub fn equivalent_inet_requests()
     ensures { (b c : List ℕ) → IsBytes b → IsBytes c
         → ⟦<InetRequest as HasCodec>⟧.codec.equivalent tt b c
-        ↔ ((56 ≤ length b) × (56 ≤ length c) × IsInetFamily (slice_index b 0)
-        × EqualUnder (inet_request_masks (slice_index b 0)) b c) }
+        ↔ ((INET_REQUEST_LEN ≤ length b) × (INET_REQUEST_LEN ≤ length c)
+        × IsInetFamily (slice_index b 0) × EqualUnder (inet_request_masks (slice_index b 0)) b c) }
 {}
 
 /// States that two byte strings `b` and `c` are equivalent as [`InetResponseHeader`] if and only if
@@ -61,7 +61,7 @@ pub fn equivalent_inet_requests()
 pub fn equivalent_inet_response_headers()
     ensures { (b c : List ℕ) → IsBytes b → IsBytes c
         → ⟦<InetResponseHeader as HasCodec>⟧.codec.equivalent tt b c
-        ↔ ((72 ≤ length b) × (72 ≤ length c)
+        ↔ ((INET_RESPONSE_HEADER_LEN ≤ length b) × (INET_RESPONSE_HEADER_LEN ≤ length c)
         × (IsInetFamily (slice_index b 0) × HaveSameTimerClass (slice_index b 2) (slice_index c 2))
         × EqualUnder (inet_response_header_masks (slice_index b 0) (slice_index b 2)) b c) }
 {}
@@ -72,7 +72,8 @@ pub fn equivalent_inet_response_headers()
 pub fn equivalent_unix_requests()
     ensures { (b c : List ℕ) → IsBytes b → IsBytes c
         → ⟦<UnixRequest as HasCodec>⟧.codec.equivalent tt b c
-        ↔ ((24 ≤ length b) × (24 ≤ length c) × EqualUnder unix_request_masks b c) }
+        ↔ ((UNIX_REQUEST_LEN ≤ length b) × (UNIX_REQUEST_LEN ≤ length c)
+        × EqualUnder unix_request_masks b c) }
 {}
 
 /// States that two byte strings are equivalent as [`UnixResponseHeader`] if and only if both have
@@ -81,7 +82,8 @@ pub fn equivalent_unix_requests()
 pub fn equivalent_unix_response_headers()
     ensures { (b c : List ℕ) → IsBytes b → IsBytes c
         → ⟦<UnixResponseHeader as HasCodec>⟧.codec.equivalent tt b c
-        ↔ ((16 ≤ length b) × (16 ≤ length c) × EqualUnder unix_response_header_masks b c) }
+        ↔ ((UNIX_RESPONSE_HEADER_LEN ≤ length b) × (UNIX_RESPONSE_HEADER_LEN ≤ length c)
+        × EqualUnder unix_response_header_masks b c) }
 {}
 
 /// States that each constant is the fewest bytes that its record is parsed from (`least` of its

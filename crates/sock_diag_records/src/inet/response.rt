@@ -159,7 +159,7 @@ impl InetResponseHeader {
     pub fn from_prefix(payload: &[u8]) -> Result<Self, DecodeError>
         // parse_record layout param bytes: `Ok` of the value, or `Err` of the first error.
         ensures value { result ≡ parse_record inet_response_header tt payload.now }
-        ensures named { IfErr result (λ error. error ≢ Memory) }
+        ensures not_memory { IfErr result (λ error. error ≢ Memory) }
     {
         read_record(payload, ())
     }

@@ -221,7 +221,7 @@ impl SocketId {
     pub fn from_prefix(payload: &[u8], family: u8) -> Result<Self, DecodeError>
         // parse_record layout param bytes: `Ok` of the value, or `Err` of the first error.
         ensures value { result ≡ parse_record socket_id family payload.now }
-        ensures named { IfErr result (λ error. error ≢ Memory) }
+        ensures not_memory { IfErr result (λ error. error ≢ Memory) }
     {
         read_record(payload, family)
     }
