@@ -1,5 +1,6 @@
 -- The model of the name of a UNIX socket: what contracts see of it.
 use Rattle.std.specs.Prelude.{ℕ, List}
+use Rattle.std.specs.Borrow.{Bor}
 use Rattle.sock_diag_attributes.specs.declared.unix.name.SocketName.{SocketName}
 use Rattle.sock_diag_attributes.specs.declared.unix.name.SocketName.TheVariants.{Pathname, Abstract}
 
@@ -8,3 +9,7 @@ use Rattle.sock_diag_attributes.specs.declared.unix.name.SocketName.TheVariants.
 abbrev pub socket_name_model : {B : Type 0} → (B → List ℕ) → SocketName B → SocketName (List ℕ)
 socket_name_model bytes (Pathname path) = Pathname (bytes path)
 socket_name_model bytes (Abstract address) = Abstract (bytes address)
+
+-- the model of a borrowed name
+abbrev pub name_view_model : SocketName (Bor (List ℕ)) → SocketName (List ℕ)
+name_view_model = socket_name_model (λ b. b.now)

@@ -7,7 +7,7 @@ ghost use Rattle.netlink_core.specs.Attribute.{Attribute};
 ghost use Rattle.netlink_core.specs.DefaultNla.{raw_attribute};
 ghost use Rattle.netlink_core.specs.Walk.{buffered_attribute};
 ghost use Rattle.sock_diag_attributes.specs.declared.unix.name.SocketName.{SocketName};
-ghost use Rattle.sock_diag_attributes.specs.NameModel.{socket_name_model};
+ghost use Rattle.sock_diag_attributes.specs.NameModel.{name_view_model, socket_name_model};
 ghost use Rattle.sock_diag_attributes.specs.NumbersModel.{numbers_view_model};
 ghost use Rattle.sock_diag_attributes.specs.private.Value.{value_bytes, IsValueInRange};
 
@@ -83,7 +83,7 @@ pub(crate) trait BorrowName {
     /// Returns the name with borrowed bytes: a path for a path, and an abstract name for an
     /// abstract one.
     fn borrow_name(&self) -> NameView<'_>
-        ensures { socket_name_model (λ b. b.now) result ≡ name self.now };
+        ensures { name_view_model result ≡ name self.now };
 }
 
 impl BorrowName for UnixDiagName {
@@ -96,7 +96,7 @@ impl BorrowName for UnixDiagName {
 }
 
 impl BorrowName for NameView<'_> {
-    ghost name = { socket_name_model (λ b. b.now) };
+    ghost name = { name_view_model };
 
     #[inline(always)]
     fn borrow_name(&self) -> NameView<'_> {

@@ -1,7 +1,7 @@
 //! Properties of attributes and names. Proof only: the contracts state the properties.
 
 ghost use Rattle.std.specs.Prelude.{◌≡◌, ◌↔◌, IsTrue, IsOk, IfOk, true};
-ghost use Rattle.sock_diag_attributes.specs.NameModel.{socket_name_model};
+ghost use Rattle.sock_diag_attributes.specs.NameModel.{name_view_model};
 ghost use Rattle.sock_diag_attributes.specs.NumbersModel.{numbers_left, numbers_view_model};
 ghost use Rattle.netlink_core.specs.AttributeSet.{AttributeValue};
 ghost use Rattle.sock_diag_attributes.specs.InetAttributes.{inet_attribute_set};
@@ -59,10 +59,8 @@ pub fn inet_values_are_variants()
 /// States that `==` of two borrowed names is true if and only if both are paths or both are
 /// abstract, with the same bytes.
 pub fn equal_name_views(v: &NameView<'_>, w: &NameView<'_>) -> bool
-    // socket_name_model bytes name: the name, with its bytes as a list, which `bytes` returns (here
-    // of a slice).
-    ensures { IsTrue result ↔ (socket_name_model (λ b. b.now) v.now
-        ≡ socket_name_model (λ b. b.now) w.now) }
+    // name_view_model name: the name with its bytes as a list.
+    ensures { IsTrue result ↔ (name_view_model v.now ≡ name_view_model w.now) }
 {
     v == w
 }
@@ -101,8 +99,7 @@ pub fn equal_inet_views(v: &InetNlaView<'_>, w: &InetNlaView<'_>) -> bool
 /// path, and an abstract name for an abstract one.
 pub fn copied_name_view<'a>(view: &NameView<'a>) -> Result<NameView<'a>, AllocError>
     ensures ok { IsOk result }
-    ensures same { IfOk result (λ copy. socket_name_model (λ b. b.now) copy
-        ≡ socket_name_model (λ b. b.now) view.now) }
+    ensures same { IfOk result (λ copy. name_view_model copy ≡ name_view_model view.now) }
 {
     view.clone()
 }

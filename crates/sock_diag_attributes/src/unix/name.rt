@@ -43,7 +43,7 @@ pub type UnixDiagName = SocketName<Vec<u8>>;
 pub type NameView<'a> = SocketName<&'a [u8]>;
 
 impl UnixDiagName {
-    ghost use Rattle.sock_diag_attributes.specs.NameModel.{socket_name_model};
+    ghost use Rattle.sock_diag_attributes.specs.NameModel.{name_view_model, socket_name_model};
 
     /// Returns an equal name: a path for a path, and an abstract name for an abstract one, with the
     /// same bytes. Fails only if an allocation fails. A name that serializes to one byte, its zero,
@@ -61,7 +61,7 @@ impl UnixDiagName {
 
     // Returns the name with borrowed bytes.
     pub(crate) fn view(&self) -> NameView<'_>
-        ensures { socket_name_model (λ b. b.now) result ≡ socket_name_model vec_items self.now }
+        ensures { name_view_model result ≡ socket_name_model vec_items self.now }
     {
         match self {
             UnixDiagName::Pathname(path) => NameView::Pathname(path),
@@ -71,7 +71,7 @@ impl UnixDiagName {
 }
 
 impl<'a> NameView<'a> {
-    ghost use Rattle.sock_diag_attributes.specs.NameModel.{socket_name_model};
+    ghost use Rattle.sock_diag_attributes.specs.NameModel.{name_view_model, socket_name_model};
 
     /// Parses all of the bytes as a name. Returns `NameEmpty` if there are no bytes. If the first
     /// byte is zero, the name is abstract, with the bytes after it. Otherwise it is a path, without
@@ -81,9 +81,9 @@ impl<'a> NameView<'a> {
     #[tactic(auto, using(crate::specs::laws::Name::reads_inner_zero, crate::specs::laws::Name::reads_path, crate::specs::laws::Name::reads_no_end))]
     pub fn parse(bytes: &'a [u8]) -> Result<NameView<'a>, DecodeError>
         // read_name bytes: `Ok` of the name, with its bytes as a list, or `Err` of the error.
-        // socket_name_model bytes name: the name with its bytes as a list, here of a slice.
+        // name_view_model name: the name with its bytes as a list.
         ensures { MatchResult result
-            (λ name. read_name bytes.entry.now ≡ Ok (socket_name_model (λ b. b.now) name))
+            (λ name. read_name bytes.entry.now ≡ Ok (name_view_model name))
             (λ e. read_name bytes.entry.now ≡ Err e) }
     {
         let Some((last, path)) = bytes.split_last() else {
@@ -105,7 +105,7 @@ impl<'a> NameView<'a> {
     #[tactic(auto, using(crate::specs::laws::Name::accepted_name_is_path))]
     pub fn new(bytes: &'a [u8]) -> NameView<'a>
         requires { IsOk (read_name bytes.now) }
-        ensures { read_name bytes.entry.now ≡ Ok (socket_name_model (λ b. b.now) result) }
+        ensures { read_name bytes.entry.now ≡ Ok (name_view_model result) }
     {
         let Some((_, path)) = bytes.split_last() else {
             unreachable!();
@@ -118,7 +118,7 @@ impl<'a> NameView<'a> {
 
     // Returns the length of the serialized name in bytes.
     pub(crate) fn len(&self) -> usize
-        ensures { result ≡ length (name_bytes (socket_name_model (λ b. b.now) self.now)) }
+        ensures { result ≡ length (name_bytes (name_view_model self.now)) }
     {
         match self {
             NameView::Pathname(path) => path.len() + 1,
@@ -128,10 +128,8 @@ impl<'a> NameView<'a> {
 
     // Writes the name with its zero at the start of `buffer`. The bytes after it are unchanged.
     pub(crate) fn emit_name(&self, buffer: &mut [u8])
-        requires { length (name_bytes (socket_name_model (λ b. b.now) self.now))
-            ≤ length buffer.old }
-        ensures { HoldsAtStart (name_bytes (socket_name_model (λ b. b.now) self.now)) buffer.old
-            buffer.new }
+        requires { length (name_bytes (name_view_model self.now)) ≤ length buffer.old }
+        ensures { HoldsAtStart (name_bytes (name_view_model self.now)) buffer.old buffer.new }
     {
         match self {
             NameView::Pathname(path) => {
@@ -161,9 +159,8 @@ impl<'a> NameView<'a> {
     /// no allocation.
     pub fn to_owned(&self, alloc: Global) -> Result<UnixDiagName, AllocError>
         ensures equal { IfOk result (λ name.
-            socket_name_model vec_items name ≡ socket_name_model (λ b. b.now) self.now) }
-        ensures needs_no_memory { length (name_bytes (socket_name_model (λ b. b.now) self.now)) ≤ 1
-            → IsOk result }
+            socket_name_model vec_items name ≡ name_view_model self.now) }
+        ensures needs_no_memory { length (name_bytes (name_view_model self.now)) ≤ 1 → IsOk result }
     {
         Ok(match self {
             NameView::Pathname(path) => UnixDiagName::Pathname(copy_list(alloc, path)?),
@@ -179,10 +176,7 @@ impl Readable for UnixDiagName {
 }
 
 impl<'a> Parseable<&'a [u8]> for UnixDiagName {
-    /// Parses all of the bytes as a name. Returns `NameEmpty` if there are no bytes. If the first
-    /// byte is zero, the name is abstract, with the bytes after it. Otherwise it is a path, without
-    /// the zero at its end: returns `NameInnerZero`, with the index, if the first zero is before
-    /// the last byte, and `NameWithoutEnd` if there is no zero.
+    /// Parses all of the bytes as a name, as [`NameView::parse`] does, and copies its bytes.
     fn parse(alloc: Global, bytes: &'a [u8]) -> Result<Self, DecodeError> {
         Ok(NameView::parse(bytes)?.to_owned(alloc)?)
     }
@@ -210,12 +204,12 @@ impl Emitable for UnixDiagName {
 }
 
 impl Emitable for NameView<'_> {
-    ghost use Rattle.sock_diag_attributes.specs.NameModel.{socket_name_model};
+    ghost use Rattle.sock_diag_attributes.specs.NameModel.{name_view_model};
 
     // A path and its terminating zero, or a zero and the bytes of an abstract name.
-    ghost bytes = { λ v. name_bytes (socket_name_model (λ b. b.now) v) };
+    ghost bytes = { λ v. name_bytes (name_view_model v) };
 
-    ghost writable = { λ v. length (name_bytes (socket_name_model (λ b. b.now) v)) ≤ 4294967295 };
+    ghost writable = { λ v. length (name_bytes (name_view_model v)) ≤ 4294967295 };
 
     fn is_writable(&self) -> bool {
         self.len() <= u32::MAX as usize
