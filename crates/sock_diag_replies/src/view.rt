@@ -193,7 +193,7 @@ impl<'a, H: ReplyHeader> ReplyView<'a, H> {
             (response_codec H.reply).parses bytes.entry.now tt (view_model view)) }
         ensures kept { IfOk result (λ view. view_bytes view ≡ bytes.entry.now) }
         ensures error { IfErr result ((response_codec H.reply).rejects bytes.entry.now tt) }
-        ensures named { IfErr result (λ error. error ≢ Memory) }
+        ensures not_memory { IfErr result (λ error. error ≢ Memory) }
     {
         let _header = H::read_header(bytes)?;
         let count = H::check(&bytes[H::length()..])?;

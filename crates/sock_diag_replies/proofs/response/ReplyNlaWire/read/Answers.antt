@@ -39,7 +39,7 @@ returns-in_err-view-clause-in_range g c = λ i. omega (arith, c.type_inv.bytes i
 pub returns-in_err-view-clause-memory_needed : goal.returns-in_err-view-clause-memory_needed
 returns-in_err-view-clause-memory_needed g c =
     let p = err_from_is_err_and c.from_residual.result c.from_residual.ensures.1 in
-    rw (p.1, p.2) (λ memory. absurd (c.in_err-view.ensures.named memory))
+    rw (p.1, p.2) (λ memory. absurd (c.in_err-view.ensures.not_memory memory))
 
 pub returns-then-is_err-clause-in_range : goal.returns-then-is_err-clause-in_range
 returns-then-is_err-clause-in_range g c = λ i. omega (arith, c.type_inv.bytes i)

@@ -7,8 +7,8 @@ use Rattle.attribute_lists.specs.AttributesIn.{decoded_in}
 use Rattle.attribute_lists.proofs.Finding.{error_after_header, accepted_reply_is_parsed}
 use Rattle.sock_diag_replies.proofs.view.ReplyView.parse.Goals as goal
 
-pub returns-in_err-_header-clause-named : goal.returns-in_err-_header-clause-named
-returns-in_err-_header-clause-named g c =
+pub returns-in_err-_header-clause-not_memory : goal.returns-in_err-_header-clause-not_memory
+returns-in_err-_header-clause-not_memory g c =
     let p = err_from_is_err_and c.from_residual.result c.from_residual.ensures.1 in
     rw (p.1, p.2) (λ memory. g.met.H.ReplyHeader.keeps.error_is_not_memory _ tt
     (inl (rw memory at c.in_err-_header.ensures.error)))
@@ -23,8 +23,8 @@ returns-in_err-count-clause-error g c =
     (error_after_header g.H.ReplyHeader.reply _ _ part _ _ c.in_ok-_header.ensures.value
     c.in_err-count.ensures.error)
 
-pub returns-in_err-count-clause-named : goal.returns-in_err-count-clause-named
-returns-in_err-count-clause-named g c =
+pub returns-in_err-count-clause-not_memory : goal.returns-in_err-count-clause-not_memory
+returns-in_err-count-clause-not_memory g c =
     let residual = c.from_residual-in_err-count in
     let p = err_from_is_err_and residual.result residual.ensures.1 in
     let bytes = c.args.bytes.now in
