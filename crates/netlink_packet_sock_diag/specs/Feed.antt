@@ -57,30 +57,32 @@ InterruptsDump bytes (item ∷ items) = (message rest : List ℕ) × StartsWithM
     × (((h : NetlinkHeader) × HasHeader message h × IsBitSet h.flags 4)
     ⊎ ((dump_end_at item ≡ None) × InterruptsDump rest items))
 
--- `is` relates a message to its item. It is the first argument of each definition of this module.
-module _ {A : Type 0} (is : List ℕ → Item A → Type 0) where
-  -- `ReadsDatagram is old datagram new end`: the items of the datagram extend the messages of `old`
-  -- to those of `new`, and lead to this end. The dump is interrupted if it was before, or if the
-  -- datagram interrupts it. The state and the error number of `old` and `new` are not considered.
+-- `item_is` relates a message to its item. It is the first argument of each definition of this
+-- module.
+module _ {A : Type 0} (item_is : List ℕ → Item A → Type 0) where
+  -- `ReadsDatagram item_is old datagram new end`: the items of the datagram extend the messages of
+  -- `old` to those of `new`, and lead to this end. The dump is interrupted if it was before, or if
+  -- the datagram interrupts it. The state and the error number of `old` and `new` are not
+  -- considered.
   abbrev pub ReadsDatagram : DumpProgress A → List ℕ → DumpProgress A
       → Result DumpStatus DecodeError → Type 0
-  ReadsDatagram old datagram new end = (items : List (Item A)) × AreItemsOf is datagram items
+  ReadsDatagram old datagram new end = (items : List (Item A)) × AreItemsOf item_is datagram items
       × DumpOfItems old.messages items new.messages end
       × (IsTrue new.is_interrupted ↔ (IsTrue old.is_interrupted ⊎ InterruptsDump datagram items))
 
-  -- `AllocationFailsAt is entry old datagram new`: an inner message of the datagram, with the item
-  -- `Ok (InnerMessage entry)`, was not kept, because an allocation failed. No item before it ends
-  -- the dump. `new.messages` are `old.messages` and the inner messages before it. `new` is
+  -- `AllocationFailsAt item_is entry old datagram new`: an inner message of the datagram, with the
+  -- item `Ok (InnerMessage entry)`, was not kept, because an allocation failed. No item before it
+  -- ends the dump. `new.messages` are `old.messages` and the inner messages before it. `new` is
   -- interrupted if `old` was, or if this message or one before it has the flag NLM_F_DUMP_INTR. The
   -- state and the error number of `old` and `new` are not considered.
   abbrev pub AllocationFailsAt : A → DumpProgress A → List ℕ → DumpProgress A → Type 0
   AllocationFailsAt entry old datagram new = (front later : List (Item A))
-      × AreItemsOf is datagram (front ++ Ok (InnerMessage entry) ∷ later)
+      × AreItemsOf item_is datagram (front ++ Ok (InnerMessage entry) ∷ later)
       × DumpOfItems old.messages front new.messages (Ok (Reading, None))
       × (IsTrue new.is_interrupted ↔ (IsTrue old.is_interrupted
       ⊎ InterruptsDump datagram (front ++ Ok (InnerMessage entry) ∷ [])))
 
-  -- `FeedLeadsTo is old datagram new result`, by the result of `feed`:
+  -- `FeedLeadsTo item_is old datagram new result`, by the result of `feed`:
   -- - `Ok`: the dump was being read. `new` has the messages, the interruption, and the end that
   --   `ReadsDatagram` states: the state `Reading`, `Done`, `Error` or `Overrun`, and the error
   --   number.
@@ -97,8 +99,8 @@ module _ {A : Type 0} (is : List ℕ → Item A → Type 0) where
       × (e ≢ Memory → ReadsDatagram old datagram new (Err e))
       × (e ≡ Memory → (entry : A) × AllocationFailsAt entry old datagram new)
 
-  -- `FeedingAllLeadsTo is old datagrams new`: feeding the datagrams in order, starting from `old`,
-  -- leads to `new`, and no `feed` fails with `Memory`. A `feed` may fail with another error.
+  -- `FeedingAllLeadsTo item_is old datagrams new`: feeding the datagrams in order, starting from
+  -- `old`, leads to `new`, and no `feed` fails with `Memory`. A `feed` may fail with another error.
   -- Datagrams after the end of the dump change nothing.
   abbrev pub FeedingAllLeadsTo : DumpProgress A → List (List ℕ) → DumpProgress A → Type 0
   FeedingAllLeadsTo = FoldsTo (λ old datagram new. (answer : Result Unit DumpError)

@@ -51,9 +51,10 @@ ghost use Rattle.netlink_packet_sock_diag.specs.Message.{netlink_message_codec};
 ghost use Rattle.sock_diag_records.specs.ResponseKind.{MessageKind, inet_request, inet_response};
 ghost use Rattle.sock_diag_records.specs.ResponseKind.{unix_request, unix_response};
 
-use crate::dump::{DumpViews as Views, PayloadView as View};
+use crate::constants::{SOCK_DESTROY, SOCK_DIAG_BY_FAMILY};
+use crate::dump::{DumpViews as BorrowedPayloads, PayloadView as BorrowedPayload};
 use crate::inet::{InetResponse, InetResponseView};
-use crate::message::{SockDiagDestroy as SockDiagDestroyed, SockDiagMessage, SockDiagView};
+use crate::message::{SockDiagDestroy as DestroyRequest, SockDiagMessage, SockDiagView};
 use crate::unix::{UnixResponse, UnixResponseView};
 use netlink_core::{Emitable, NetlinkSerializable, Readable, laws};
 use std::alloc::{AllocError, Global};
@@ -92,11 +93,8 @@ pub fn parsed_messages_are_replies()
 
 /// The message type of each request to close sockets is 21 (`SOCK_DESTROY`), and that of each
 /// message is 20 (`SOCK_DIAG_BY_FAMILY`). Returns both.
-pub fn serialized_message_types(
-    destroy: &SockDiagDestroyed,
-    message: &SockDiagMessage,
-) -> (u16, u16)
-    ensures { result ≡ (21, 20) }
+pub fn serialized_message_types(destroy: &DestroyRequest, message: &SockDiagMessage) -> (u16, u16)
+    ensures { result ≡ (SOCK_DESTROY, SOCK_DIAG_BY_FAMILY) }
 {
     (
         NetlinkSerializable::message_type(destroy),
@@ -288,8 +286,8 @@ pub fn split_changes_no_dump()
 /// - `same`: both readers have the same progress: messages, state, error number, interruption.
 /// - `whole`: feeding all bytes as one datagram leads to this progress, too.
 pub fn split_changes_no_feed()
-    // `FeedingAllLeadsTo is old datagrams new`: feeding these datagrams in order to a reader with
-    // the progress `old` leads to the progress `new`, and no allocation fails. `new_dump`: the
+    // `FeedingAllLeadsTo item_is old datagrams new`: feeding these datagrams in order to a reader
+    // with the progress `old` leads to the progress `new`, and no allocation fails. `new_dump`: the
     // progress of a new reader. `IsCompleteSplit datagrams`: every datagram except the last
     // consists of complete messages with all their padding. `concat datagrams`: all bytes.
     ensures same { (datagrams others : List (List ℕ)) → AreSplitsOfSameBytes datagrams others
@@ -391,7 +389,7 @@ pub fn complete_views_are_the_datagram()
 {}
 
 /// The clone of a `DumpViews` has the same bytes left, and cloning does not fail.
-pub fn copied_views<'a>(walk: &Views<'a>) -> Result<Views<'a>, AllocError>
+pub fn copied_views<'a>(walk: &BorrowedPayloads<'a>) -> Result<BorrowedPayloads<'a>, AllocError>
     ensures ok { IsOk result }
     ensures same { IfOk result
         (λ copy. unread_views copy ≡ unread_views walk.now) }
@@ -417,7 +415,7 @@ pub fn equal_inet_views(v: &InetResponseView<'_>, w: &InetResponseView<'_>) -> b
 
 /// `==` of two borrowed payloads is true if and only if their models are equal.
 #[tactic(auto, using(crate::specs::laws::EqualMessage::view_equal))]
-pub fn equal_payload_views(v: &View<'_>, w: &View<'_>) -> bool
+pub fn equal_payload_views(v: &BorrowedPayload<'_>, w: &BorrowedPayload<'_>) -> bool
     // `payload_view_model`: the payload, with the model of its inner message or with its bytes.
     ensures { IsTrue result ↔ (payload_view_model v.now ≡ payload_view_model w.now) }
 {
@@ -459,7 +457,9 @@ pub fn copied_message_view<'a>(view: &SockDiagView<'a>) -> Result<SockDiagView<'
 }
 
 /// The clone of a borrowed payload has the same model, and cloning does not fail.
-pub fn copied_payload_view<'a>(view: &View<'a>) -> Result<View<'a>, AllocError>
+pub fn copied_payload_view<'a>(
+    view: &BorrowedPayload<'a>,
+) -> Result<BorrowedPayload<'a>, AllocError>
     ensures ok { IsOk result }
     ensures same { IfOk result (λ copy. payload_view_model copy ≡ payload_view_model view.now) }
 {

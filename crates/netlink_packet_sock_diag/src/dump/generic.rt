@@ -21,10 +21,11 @@ use std::alloc::Global;
 
 // Returns whether a dump is interrupted after a message with this header.
 #[inline(always)]
-fn interrupted_by(was: bool, header: &NetlinkHeader) -> bool
-    ensures { IsTrue result ↔ (IsTrue was ⊎ IsBitSet header.now.flags 4) }
+fn interrupted_by(was_interrupted: bool, header: &NetlinkHeader) -> bool
+    // Bit 4 is `NLM_F_DUMP_INTR`.
+    ensures { IsTrue result ↔ (IsTrue was_interrupted ⊎ IsBitSet header.now.flags 4) }
 {
-    was || header.flags & NLM_F_DUMP_INTR != 0
+    was_interrupted || header.flags & NLM_F_DUMP_INTR != 0
 }
 
 // Reads the messages of a datagram up to the end of the dump, and returns the new state of the dump
@@ -37,11 +38,11 @@ fn take_messages<I: DumpEntry>(
     interrupted: &mut bool,
     datagram: &[u8],
 ) -> Result<(DumpState, Option<i32>), DecodeError>
-    // `ReadsDatagram is old datagram new end`: the datagram extends the messages of `old` to those
-    // of `new`, and leads to this end. `AllocationFailsAt is entry old datagram new`: the message
-    // with this entry was not kept, because an allocation failed, and `new` has the messages before
-    // it. `dump_with messages end interrupted`: a progress. The last condition is that the list has
-    // no free slot.
+    // `ReadsDatagram item_is old datagram new end`: the datagram extends the messages of `old` to
+    // those of `new`, and leads to this end. `AllocationFailsAt item_is entry old datagram new`:
+    // the message with this entry was not kept, because an allocation failed, and `new` has the
+    // messages before it. `dump_with messages end interrupted`: a progress. The last condition is
+    // that the list has no free slot.
     ensures { MatchResult result
         (λ end. ReadsDatagram I.item_is
         (dump_with (map I.model messages.old.items) (Reading, None) interrupted.old) datagram.now
@@ -138,8 +139,8 @@ impl<I: DumpEntry> GenericDump<I> {
         ensures leaves { FeedLeadsTo I.item_is (generic_dump_progress I.model self.old) datagram.now
             (generic_dump_progress I.model self.new) result }
         // Memory runs out at an entry that may need some, or because the list has to grow.
-        // `AllocationFailsAt is entry old datagram new`: the message with this entry was not kept,
-        // and `new` has the messages before it. `IsFull`: the list has no free slot.
+        // `AllocationFailsAt item_is entry old datagram new`: the message with this entry was not
+        // kept, and `new` has the messages before it. `IsFull`: the list has no free slot.
         ensures memory { result ≡ err (Fault Memory) → (entry : I.Entry)
             × AllocationFailsAt I.item_is entry
             (generic_dump_progress I.model self.old) datagram.now

@@ -50,14 +50,15 @@ impl LossyDump {
     /// An allocation can fail only at a valid message, or if the list of entries has to grow: the
     /// entry of an invalid message needs a slot in the list too.
     pub fn feed(&mut self, datagram: &[u8]) -> Result<(), DumpError>
-        // `FeedLeadsTo is old datagram new result`: what a call does to the progress of the reader.
-        // `HasLossyEntry`: the item of an inner message is an entry, its value or its decode error.
+        // `FeedLeadsTo item_is old datagram new result`: what a call does to the progress of the
+        // reader. `HasLossyEntry`: the item of an inner message is an entry, its value or its
+        // decode error.
         ensures leaves { FeedLeadsTo (HasLossyEntry message_codec)
             (lossy_progress self.old) datagram.now
             (lossy_progress self.new) result }
         // If an allocation failed: it failed at a valid message `m`, or the list of entries has no
-        // free slot after the call. `AllocationFailsAt is entry old datagram new`: the message with
-        // this entry was not kept, and `new` has the entries before it.
+        // free slot after the call. `AllocationFailsAt item_is entry old datagram new`: the message
+        // with this entry was not kept, and `new` has the entries before it.
         ensures memory { result ≡ Err (Fault Memory) → ((m : Message)
             × AllocationFailsAt (HasLossyEntry message_codec) (ok m)
             (lossy_progress self.old) datagram.now

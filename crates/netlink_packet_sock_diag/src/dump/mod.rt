@@ -91,10 +91,11 @@ impl DumpReader {
     /// Unless the dump had already ended, it is interrupted from then on if a message that was
     /// read, up to and including the one that ends it or fails, has the flag `NLM_F_DUMP_INTR`.
     pub fn feed(&mut self, datagram: &[u8]) -> Result<(), DumpError>
-        // `FeedLeadsTo is old datagram new result`, by the result. `Ok`: the inner messages up to
-        // the end are appended, and state and error number are those of the end. `Err Ended`: `new`
-        // is `old`. `Err (Fault e)`: the state is `Failed`, and the inner messages before the error
-        // are appended. `IsItemOf`: the item of a message is its payload, or its decode error.
+        // `FeedLeadsTo item_is old datagram new result`, by the result. `Ok`: the inner messages up
+        // to the end are appended, and state and error number are those of the end. `Err Ended`:
+        // `new` is `old`. `Err (Fault e)`: the state is `Failed`, and the inner messages before the
+        // error are appended. `IsItemOf`: the item of a message is its payload, or its decode
+        // error.
         ensures leaves { FeedLeadsTo (IsItemOf message_codec)
             (reader_progress self.old) datagram.now
             (reader_progress self.new) result }
