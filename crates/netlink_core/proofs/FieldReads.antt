@@ -1,12 +1,13 @@
 -- Numbers and bytes that were read from consecutive positions are the numbers of the table's
--- fields, and numbers within their width fit these fields.
-use Rattle.std.proofs.Common.{◌≡◌, ℕ, zero, suc, ◌+◌, ◌-◌, ◌*◌, ◌^◌, ◌<◌, ◌≤◌, List, [], ◌∷◌, ◌++◌}
+-- fields, and bytes fit fields of bytes.
+use Rattle.std.proofs.Common.{◌≡◌, ℕ, zero, suc, ◌+◌, ◌-◌, ◌*◌, ◌<◌, ◌≤◌, List, [], ◌∷◌, ◌++◌}
 use Rattle.std.proofs.Common.{length, take, drop, slice_index, refl, sym, ap, ◌∙◌, arith}
 use Rattle.std.proofs.Common.{mul-le-mul_left, mul-suc}
+use Rattle.std.specs.List.{AllByRecursion}
 use Rattle.std.proofs.lemmas.List.{ext_get_or, drop-take, drop-drop, drop_more}
 use Rattle.byteorder.specs.Endian.{IsRead}
 use Rattle.netlink_core.specs.Bytes.{IsBytes}
-use Rattle.netlink_core.specs.Table.{Field, number, unread}
+use Rattle.netlink_core.specs.Table.{Field, unread}
 use Rattle.netlink_core.specs.Table.{bytes_at, array, values_of, first_numbers, FitFields}
 use Rattle.netlink_core.proofs.Numbers.{Order, field_in, number_in, number-take}
 use Rattle.netlink_core.proofs.TableLaws.{AreBytes-drop}
@@ -79,13 +80,11 @@ fit-bytes offset zero bytes in_range = tt
 fit-bytes offset (suc count) bytes in_range =
     grind (arith, fit-bytes (offset + 1) count (drop 1 bytes) (AreBytes-drop 1 bytes in_range))
 
--- numbers below 256^width fit an array of fields of this width
-pub numbers_fit_array : (offset width : ℕ) (xs : List ℕ)
-    → ((i : ℕ) → slice_index xs i < 256 ^ width)
-    → FitFields (array number offset width (length xs)) xs
-numbers_fit_array offset width [] below = tt
-numbers_fit_array offset width (x ∷ xs) below =
-    (below 0, numbers_fit_array (offset + width) width xs (λ i. below (suc i)))
+-- a bound on the number at each index is a bound on each number
+pub each_number_below : (bound : ℕ) (xs : List ℕ) → ((i : ℕ) → slice_index xs i < bound)
+    → AllByRecursion (λ n. n < bound) xs
+each_number_below bound [] below = tt
+each_number_below bound (x ∷ xs) below = (below 0, each_number_below bound xs (λ i. below (suc i)))
 
 -- ---- arrays
 

@@ -70,14 +70,14 @@ pub trait FamilyNla: Nla + PartialEq + MadeWith<Global> + Drop + Sized {
         ensures equal { IfOk result (λ copy. model copy ≡ model self.now) }
         ensures needs_no_memory { NeedsNoMemoryIn attribute_set (model self.now) → IsOk result };
 
-    /// Proof only: puts the range of each number in scope. No run-time effect.
-    fn prove_value_in_range(&self)
-        // IsInRangeIn set value: each number of the decoded value fits its field.
-        ensures { IsInRangeIn attribute_set (model self.now) };
-
     // An attribute serializes as what it decodes to, and `==` compares what it decodes to.
     ghost attribute_by_model: { (nla : Self)
         → Self.Nla.attribute nla ≡ encode_attribute attribute_set (model nla) };
+
+    // An attribute that is in range decodes to a value that is in range: each of its numbers fits
+    // its field (`IsInRangeIn`).
+    ghost in_range_by_model: { (nla : Self) → Self.Nla.in_range nla
+        → IsInRangeIn attribute_set (model nla) };
 
     ghost eq_is_model: { (v w : Self) → IsTrue (Self.PartialEq.eq v w) ↔ (model v ≡ model w) };
 }

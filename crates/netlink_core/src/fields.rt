@@ -1,7 +1,10 @@
-//! Reads the fields of a record from its bytes.
+//! Reads the fields of a record from its bytes, and writes them.
 
-ghost use Rattle.std.specs.Prelude.{◌≡◌, ◌≤◌, ◌+◌, ◌*◌, ℕ, length};
-ghost use Rattle.netlink_core.specs.Table.{bytes_at, network, number, array, values_of, FitFields};
+ghost use Rattle.std.specs.Prelude.{◌≡◌, ◌≤◌, ◌<◌, ◌+◌, ◌*◌, ◌^◌, ℕ, length, slice_index};
+ghost use Rattle.std.specs.List.{AllByRecursion, flat_map};
+ghost use Rattle.byteorder.specs.Endian.{little_bytes, big_bytes};
+ghost use Rattle.netlink_core.specs.Bytes.{IsBytes};
+ghost use Rattle.netlink_core.specs.Table.{bytes_at, network, number, array, values_of};
 
 use byteorder::{BigEndian, ByteOrder, LittleEndian};
 
@@ -56,17 +59,66 @@ pub fn u16s_be_at<const N: usize>(bytes: &[u8], offset: usize) -> [u16; N]
     array
 }
 
-/// Proof only: puts in scope that each number is below 2^32, so that it fits a field of 4 bytes, at
-/// any offset. No run-time effect.
-#[tactic(auto, using(crate::proofs::FieldReads::numbers_fit_array))]
-pub fn prove_u32s_in_range(_words: &[u32])
-    // FitFields fields numbers: there is one number for each field, and it fits the field's width.
-    ensures { (offset : ℕ) → FitFields (array number offset 4 (length _words.now)) _words.now }
-{}
+/// Replaces the content of the buffer by the bytes. The buffer must have exactly their length.
+#[tactic(auto, using(crate::proofs::FieldReads::each_number_below))]
+#[inline(always)]
+pub fn write_bytes(bytes: &[u8], buffer: &mut [u8])
+    requires { length buffer.old ≡ length bytes.now }
+    ensures written { buffer.new ≡ bytes.now }
+    // AllByRecursion P xs: `P` holds of each element of `xs`. This is so for all Rust values; it is
+    // stated for the laws.
+    ensures in_range { AllByRecursion (λ b. b < 2 ^ 8) bytes.now }
+    // IsBytes bytes: the byte at each index is below 256.
+    ensures by_index { IsBytes bytes.now }
+{
+    buffer.copy_from_slice(bytes);
+}
 
-/// Proof only: puts in scope that each number is below 2^64, so that it fits a field of 8 bytes, at
-/// any offset. No run-time effect.
-#[tactic(auto, using(crate::proofs::FieldReads::numbers_fit_array))]
-pub fn prove_u64s_in_range(_words: &[u64])
-    ensures { (offset : ℕ) → FitFields (array number offset 8 (length _words.now)) _words.now }
-{}
+/// Replaces the content of the buffer by the numbers, two bytes each, little-endian. The buffer
+/// must have exactly their length.
+#[tactic(auto, using(crate::proofs::FieldReads::each_number_below))]
+#[inline(always)]
+pub fn write_u16s(numbers: &[u16], buffer: &mut [u8])
+    requires { length buffer.old ≡ 2 * length numbers.now }
+    ensures written { buffer.new ≡ flat_map (little_bytes 2) numbers.now }
+    ensures in_range { AllByRecursion (λ n. n < 2 ^ 16) numbers.now }
+{
+    LittleEndian::write_u16_into(numbers, buffer);
+}
+
+/// Replaces the content of the buffer by the numbers, four bytes each, little-endian. The buffer
+/// must have exactly their length.
+#[tactic(auto, using(crate::proofs::FieldReads::each_number_below))]
+#[inline(always)]
+pub fn write_u32s(numbers: &[u32], buffer: &mut [u8])
+    requires { length buffer.old ≡ 4 * length numbers.now }
+    ensures written { buffer.new ≡ flat_map (little_bytes 4) numbers.now }
+    ensures in_range { AllByRecursion (λ n. n < 2 ^ 32) numbers.now }
+{
+    LittleEndian::write_u32_into(numbers, buffer);
+}
+
+/// Replaces the content of the buffer by the numbers, eight bytes each, little-endian. The buffer
+/// must have exactly their length.
+#[tactic(auto, using(crate::proofs::FieldReads::each_number_below))]
+#[inline(always)]
+pub fn write_u64s(numbers: &[u64], buffer: &mut [u8])
+    requires { length buffer.old ≡ 8 * length numbers.now }
+    ensures written { buffer.new ≡ flat_map (little_bytes 8) numbers.now }
+    ensures in_range { AllByRecursion (λ n. n < 2 ^ 64) numbers.now }
+{
+    LittleEndian::write_u64_into(numbers, buffer);
+}
+
+/// Replaces the content of the buffer by the numbers, two bytes each, in network byte order. The
+/// buffer must have exactly their length.
+#[tactic(auto, using(crate::proofs::FieldReads::each_number_below))]
+#[inline(always)]
+pub fn write_u16s_be(numbers: &[u16], buffer: &mut [u8])
+    requires { length buffer.old ≡ 2 * length numbers.now }
+    ensures written { buffer.new ≡ flat_map (big_bytes 2) numbers.now }
+    ensures in_range { AllByRecursion (λ n. n < 2 ^ 16) numbers.now }
+    ensures by_index { (i : ℕ) → slice_index numbers.now i < 2 ^ 16 }
+{
+    BigEndian::write_u16_into(numbers, buffer);
+}

@@ -6,6 +6,7 @@ ghost use Rattle.netlink_core.specs.Header.{header_bytes, header_values};
 ghost use Rattle.netlink_core.specs.Table.{FitFields};
 
 use crate::error::DecodeError;
+use crate::fields::{write_u16s, write_u32s};
 use byteorder::{ByteOrder, LittleEndian};
 
 /// The size of the header of a netlink message, in bytes.
@@ -62,29 +63,17 @@ impl NetlinkHeader {
         })
     }
 
-    /// Proof only: puts the range of each field in scope. No run-time effect.
-    pub fn prove_in_range(&self)
-        // FitFields fields numbers: each number fits the width of its field.
-        ensures { FitFields header_fields (header_values self.now) }
-    {
-        let NetlinkHeader {
-            length: _length,
-            message_type: _message_type,
-            flags: _flags,
-            sequence_number: _sequence_number,
-            port_number: _port_number,
-        } = *self;
-    }
-
     // Writes the five fields over any sixteen bytes.
     pub(crate) fn write_fields(&self, buffer: &mut [u8])
         requires { length buffer.old ≡ 16 }
-        ensures { buffer.new ≡ header_bytes self.now }
+        ensures written { buffer.new ≡ header_bytes self.now }
+        // FitFields fields numbers: each number fits the width of its field.
+        ensures in_range { FitFields header_fields (header_values self.now) }
     {
         let (length, rest) = buffer.split_at_mut(4);
         let (kind, numbers) = rest.split_at_mut(4);
-        LittleEndian::write_u32_into(&[self.length], length);
-        LittleEndian::write_u16_into(&[self.message_type, self.flags], kind);
-        LittleEndian::write_u32_into(&[self.sequence_number, self.port_number], numbers);
+        write_u32s(&[self.length], length);
+        write_u16s(&[self.message_type, self.flags], kind);
+        write_u32s(&[self.sequence_number, self.port_number], numbers);
     }
 }

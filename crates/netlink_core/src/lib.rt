@@ -37,5 +37,5 @@ pub use crate::nla::{
 };
 pub use crate::parse::{emit_u32, parse_str, parse_string, parse_u8, parse_u32, text_bytes};
 pub use crate::record::{Fills, Record, RecordBuffer, read_record};
-pub use crate::wire::{HasCodec, Wire, prove_bytes_in_range, prove_u32_in_range, write_new};
+pub use crate::wire::{HasCodec, Wire, write_new};
 pub use exact_values::Exact;

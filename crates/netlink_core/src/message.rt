@@ -94,8 +94,11 @@ pub trait NetlinkSerializable: HasCodec<Param = u16> {
         requires writable { Self.codec.is_writable (Self.model self.now) }
         requires room { length (Self.codec.serialized (Self.model self.now)) ≤ length buffer.old }
         // HoldsAtStart bytes old new: `new` is `bytes`, and then `old` from this offset on.
-        ensures { HoldsAtStart
-            (Self.codec.serialized (Self.model self.now)) buffer.old buffer.new };
+        ensures written { HoldsAtStart
+            (Self.codec.serialized (Self.model self.now)) buffer.old buffer.new }
+        // Each number of the message fits its field. This is so for all Rust values; it is stated
+        // for the laws.
+        ensures in_range { Self.codec.is_in_range (Self.model self.now) };
 }
 
 /// A message of a protocol that is parsed from the payload of a netlink message, under the type in
@@ -249,8 +252,10 @@ impl<I: NetlinkSerializable> NetlinkPayload<I> {
         requires room { length
             (payload_bytes I.codec.serialized (payload_model vec_items I.model self.now))
             ≤ length buffer.old }
-        ensures { HoldsAtStart (payload_bytes I.codec.serialized
+        ensures written { HoldsAtStart (payload_bytes I.codec.serialized
             (payload_model vec_items I.model self.now)) buffer.old buffer.new }
+        ensures in_range { HoldsOfInnerMessage I.codec.is_in_range
+            (payload_model vec_items I.model self.now) }
     {
         match self {
             NetlinkPayload::Done(bytes)
@@ -314,22 +319,6 @@ impl<I> NetlinkMessage<I> {
     }
 }
 
-impl<I: HasCodec<Param = u16>> NetlinkMessage<I> {
-    /// Proof only: puts the range of each number in scope, so that the laws of messages apply. No
-    /// run-time effect.
-    pub fn prove_in_range(&self)
-        // netlink_codec codec: the codec of netlink messages, given that of their inner messages.
-        // netlink_message_model model message: the header and the payload, with the raw bytes as a
-        // list, or with the model of the inner message.
-        ensures { (netlink_codec I.codec).is_in_range (netlink_message_model I.model self.now) }
-    {
-        self.header.prove_in_range();
-        if let NetlinkPayload::InnerMessage(message) = &self.payload {
-            message.prove_in_range();
-        }
-    }
-}
-
 impl<I: NetlinkDeserializable> NetlinkMessage<I> {
     /// Parses the message at the start of the bytes. Bytes after the message's length are ignored.
     ///
@@ -340,7 +329,9 @@ impl<I: NetlinkDeserializable> NetlinkMessage<I> {
     /// message, and its type is not `NLMSG_NOOP`, whose payload is dropped.
     pub fn deserialize(alloc: Global, bytes: &[u8]) -> Result<Self, DecodeError>
         // The bytes start with this header, and the payload up to the header's length parses by the
-        // header's type.
+        // header's type. netlink_codec codec: the codec of netlink messages, given that of their
+        // inner messages. netlink_message_model model message: the header and the payload, with the
+        // raw bytes as a list, or with the model of the inner message.
         ensures value { IfOk result
             (λ m. (netlink_codec I.codec).parses bytes.now tt (netlink_message_model I.model m)) }
         ensures error { IfErr result (λ e. e ≢ Memory
@@ -412,8 +403,12 @@ impl<I: NetlinkSerializable> NetlinkMessage<I> {
         requires room { length ((netlink_codec I.codec).serialized
             (netlink_message_model I.model self.now))
             ≤ length buffer.old }
-        ensures { HoldsAtStart ((netlink_codec I.codec).serialized
+        ensures written { HoldsAtStart ((netlink_codec I.codec).serialized
             (netlink_message_model I.model self.now)) buffer.old buffer.new }
+        // Each number of the message fits its field. This is so for all Rust values; it is stated
+        // for the laws.
+        ensures in_range { (netlink_codec I.codec).is_in_range
+            (netlink_message_model I.model self.now) }
     {
         let (header, rest) = buffer.split_at_mut(NETLINK_HEADER_LEN);
         self.header.write_fields(header);

@@ -1,12 +1,13 @@
 //! Serializing attributes, and the attribute of any kind.
 
 ghost use Rattle.std.specs.Prelude.{◌≡◌, ◌≤◌, ◌<◌, ◌↔◌, replicate, length, [], map, true, refl};
-ghost use Rattle.std.specs.Prelude.{IsTrue, IsOk, IfOk, SomeIff};
-ghost use Rattle.std.specs.List.{flat_map};
+ghost use Rattle.std.specs.Prelude.{IsTrue, IsOk, IfOk, SomeIff, ⊤, ◌^◌};
+ghost use Rattle.std.specs.List.{AllByRecursion, flat_map};
 ghost use Rattle.std.proofs.Common.{rules};
-ghost use Rattle.netlink_core.specs.Bytes.{HoldsAtStart};
+ghost use Rattle.netlink_core.specs.Bytes.{HoldsAtStart, IsBytes};
 ghost use Rattle.netlink_core.specs.Attribute.{Attribute, FitsLengthField, AreWritableWithin};
 ghost use Rattle.netlink_core.specs.Attribute.{attribute_bytes};
+ghost use Rattle.netlink_core.specs.AttributeSet.{IsInRangeIn};
 ghost use Rattle.netlink_core.specs.FirstAttribute.{first_attribute_codec};
 ghost use Rattle.netlink_core.specs.laws.FirstAttribute.{first_attribute_codec_laws};
 
@@ -14,7 +15,8 @@ use crate::attribute::{MAX_VALUE, NLA_HEADER_SIZE, NlaBuffer, padded};
 use crate::canonical_form::CanonError;
 use crate::codec::{Emitable, Parseable, Readable};
 use crate::error::DecodeError;
-use crate::wire::{HasCodec, Wire, prove_bytes_in_range, write_new};
+use crate::fields::write_bytes;
+use crate::wire::{HasCodec, Wire, write_new};
 use byteorder::{ByteOrder, LittleEndian};
 use std::alloc::{AllocError, Global};
 
@@ -22,6 +24,10 @@ use std::alloc::{AllocError, Global};
 pub trait Nla {
     // The attribute that the value serializes as.
     ghost attribute: { Self → Attribute };
+
+    // Each number of the value fits its field. A type with a codec defines it, for the codec's laws
+    // (`in_range_by_codec` of `Wire`). By default `emit_value` states nothing.
+    ghost in_range: { Self → Type 0 } = { λ _. ⊤ };
 
     /// Returns the number of the value's bytes, without header and padding.
     fn value_len(&self) -> usize
@@ -37,7 +43,9 @@ pub trait Nla {
     fn emit_value(&self, buffer: &mut [u8])
         requires fits { FitsLengthField (attribute self.now) }
         requires room { length (attribute self.now).value ≤ length buffer.old }
-        ensures { HoldsAtStart ((attribute self.now).value) buffer.old buffer.new };
+        ensures written { HoldsAtStart ((attribute self.now).value) buffer.old buffer.new }
+        // This is so for all Rust values; it is stated for the laws.
+        ensures in_range { in_range self.now };
 
     /// Returns whether the value has at most 65,531 bytes, so that its length fits the length
     /// field.
@@ -76,7 +84,11 @@ pub fn emit_nla<T: Nla>(nla: &T, buffer: &mut [u8])
     // `old` from this offset on.
     requires fits { FitsLengthField (T.attribute nla.now) }
     requires room { length (attribute_bytes (T.attribute nla.now)) ≤ length buffer.old }
-    ensures { HoldsAtStart (attribute_bytes (T.attribute nla.now)) buffer.old buffer.new }
+    ensures written { HoldsAtStart (attribute_bytes (T.attribute nla.now)) buffer.old buffer.new }
+    // The type field has 16 bits, and each number of the value fits its field. This is so for all
+    // Rust values.
+    ensures kind { (T.attribute nla.now).type_word < 2 ^ 16 }
+    ensures in_range { T.in_range nla.now }
 {
     // Both are computed before a byte is written, so that one branch on the kind is enough.
     let len = nla.value_len();
@@ -160,8 +172,10 @@ pub fn emit_nlas<T: Nla>(nlas: &[T], buffer: &mut [u8])
     requires fits { AreWritableWithin (map T.attribute nlas.now) 4294967295 }
     requires room { length (flat_map attribute_bytes (map T.attribute nlas.now))
         ≤ length buffer.old }
-    ensures { HoldsAtStart (flat_map attribute_bytes (map T.attribute nlas.now)) buffer.old
+    ensures written { HoldsAtStart (flat_map attribute_bytes (map T.attribute nlas.now)) buffer.old
         buffer.new }
+    // Each number of each value fits its field. This is so for all Rust values.
+    ensures in_range { AllByRecursion T.in_range nlas.now }
 {
     let mut at = 0;
     for nla in nlas {
@@ -259,6 +273,8 @@ impl Nla for DefaultNla {
 
     ghost attribute = { raw_attribute };
 
+    ghost in_range = { λ v. IsBytes (raw_attribute v).value };
+
     fn value_len(&self) -> usize {
         self.value.len()
     }
@@ -268,7 +284,7 @@ impl Nla for DefaultNla {
     }
 
     fn emit_value(&self, buffer: &mut [u8]) {
-        buffer[..self.value.len()].copy_from_slice(&self.value);
+        write_bytes(&self.value, &mut buffer[..self.value.len()]);
     }
 }
 
@@ -278,6 +294,8 @@ impl Emitable for DefaultNla {
     ghost bytes = { λ v. attribute_bytes (raw_attribute v) };
 
     ghost writable = { λ v. FitsLengthField (raw_attribute v) };
+
+    ghost in_range = { λ v. IsInRangeIn [] (raw_attribute v) };
 
     fn is_writable(&self) -> bool {
         self.value_fits()
@@ -304,11 +322,6 @@ impl HasCodec for DefaultNla {
 
     ghost serialized_type = { λ _. 0 };
 
-    fn prove_in_range(&self) {
-        let _kind = self.kind;
-        prove_bytes_in_range(self.value.as_slice());
-    }
-
     ghost eq_is_model = { Prim.search rules };
 
     ghost laws = { first_attribute_codec_laws [] tt };
@@ -331,6 +344,8 @@ impl Wire for DefaultNla {
     ghost bytes_by_codec = { λ v. refl };
 
     ghost writable_by_codec = { λ v. (λ h. h, λ h. h) };
+
+    ghost in_range_by_codec = { λ _ h. h };
 }
 
 impl WireNla for DefaultNla {

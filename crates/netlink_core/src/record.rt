@@ -49,12 +49,10 @@ pub trait Record: Exact + Sized {
     /// must have exactly their length.
     fn write_fields(&self, buffer: &mut [u8])
         requires { length buffer.old ≡ length (record_bytes layout self.now) }
-        ensures { buffer.new ≡ record_bytes layout self.now };
-
-    /// Proof only: puts the range of each field in scope. No run-time effect.
-    fn prove_fields_in_range(&self)
-        // IsInRange layout value: arrays have their lengths, and each number fits its field.
-        ensures { IsInRange layout self.now };
+        ensures written { buffer.new ≡ record_bytes layout self.now }
+        // IsInRange layout value: arrays have their lengths, and each number fits its field. This
+        // is so for all Rust values; it is stated for the laws.
+        ensures in_range { IsInRange layout self.now };
 
     // Bytes parse as a value if and only if they contain it, and the codec laws hold.
     ghost laws: { RecordLaws layout };
@@ -101,6 +99,8 @@ impl<T: Record> Emitable for T {
 
     ghost writable = { λ _. ⊤ };
 
+    ghost in_range = { IsInRange T.layout };
+
     fn is_writable(&self) -> bool {
         true
     }
@@ -123,10 +123,6 @@ impl<T: Record> HasCodec for T {
 
     ghost serialized_type = { λ _. 0 };
 
-    fn prove_in_range(&self) {
-        self.prove_fields_in_range();
-    }
-
     ghost eq_is_model = { T.exact.0 };
 
     ghost laws = { T.Record.laws.codec };
@@ -137,13 +133,13 @@ impl<T: Record> Wire for T {
 
     ghost writable_by_codec = { λ _. (λ h. h, λ h. h) };
 
+    ghost in_range_by_codec = { λ _ h. h };
+
     fn read(_alloc: Global, bytes: &[u8], param: T::Param) -> Result<Self, DecodeError> {
-        param.prove_in_range();
         read_record(bytes, param)
     }
 
     fn rewrite(alloc: Global, bytes: &[u8], param: T::Param) -> Result<Vec<u8>, CanonError> {
-        param.prove_in_range();
         // Borrowed, as moving a large value takes longer than serializing it.
         match &read_record::<T>(bytes, param) {
             Ok(value) => write_new(alloc, value),

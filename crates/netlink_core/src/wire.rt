@@ -1,6 +1,6 @@
 //! Codecs: a parser and a serializer, with the properties that relate them.
 
-ghost use Rattle.std.specs.Prelude.{◌≡◌, ◌≢◌, ◌<◌, ◌^◌, ◌↔◌, ℕ, List, IfOk, IfErr, IsTrue, refl};
+ghost use Rattle.std.specs.Prelude.{◌≡◌, ◌≢◌, ◌↔◌, ℕ, List, IfOk, IfErr, IsTrue, refl};
 ghost use Rattle.std.proofs.Common.{sym, ap, ◌∙◌, subst};
 ghost use Rattle.netlink_core.specs.Bytes.{IsBytes};
 ghost use Rattle.netlink_core.specs.Canonical.{CanonicalFails, HasCanonicalForm};
@@ -32,10 +32,6 @@ pub trait HasCodec: PartialEq + Sized {
     {
         self == other
     }
-
-    /// Proof only: puts the range of each number in scope. No run-time effect.
-    fn prove_in_range(&self)
-        ensures { codec.is_in_range (model self.now) };
 
     // `==` compares the models.
     ghost eq_is_model: { (v w : Self) → IsTrue (Self.eq v w) ↔ (model v ≡ model w) };
@@ -122,10 +118,9 @@ pub trait Wire: HasCodec + Readable + Emitable {
     /// Parses a value, or returns the first decode error. Fails with `Memory` only if a parser of
     /// the type can (`TAKES_MEMORY`), and if the bytes have a value that needs to allocate.
     fn read(alloc: Global, bytes: &[u8], param: Self::Param) -> Result<Self, DecodeError>
-        // The bytes are below 256, and the parameter fits its type. This is so for all Rust values;
-        // it is stated for the proofs of callers.
+        // The bytes are below 256. This is so for all Rust values; it is stated for the proofs of
+        // callers.
         ensures in_range { IsBytes bytes.now }
-        ensures param_in_range { Self.Param.is_in_range param }
         ensures value { IfOk result (λ v. Self.codec.parses bytes.now param (Self.model v)) }
         ensures error { IfErr result (λ e. e ≢ Memory → Self.codec.rejects bytes.now param e) }
         ensures memory { IfErr result (λ e. e ≡ Memory → IsTrue Self.TAKES_MEMORY) }
@@ -158,6 +153,10 @@ pub trait Wire: HasCodec + Readable + Emitable {
     // A value is writable for `Emitable` if and only if it is writable by the codec.
     ghost writable_by_codec: { (v : Self) → (Self.writable v
         ↔ Self.codec.is_writable (Self.model v)) };
+
+    // A value that is in range for `Emitable` is in range by the codec.
+    ghost in_range_by_codec: { (v : Self) → Self.in_range v
+        → Self.codec.is_in_range (Self.model v) };
 }
 
 /// Serializes a value to a new vector of exactly its bytes. Fails with `Unwritable` if the value is
@@ -175,15 +174,3 @@ pub fn write_new<T: Emitable>(alloc: Global, value: &T) -> Result<Vec<u8>, Canon
     value.emit(&mut written);
     Ok(written)
 }
-
-/// Proof only: puts in scope that each byte is below 256. No run-time effect. Like
-/// [`prove_u32_in_range`] it is for implementations of [`HasCodec::prove_in_range`].
-pub fn prove_bytes_in_range(_bytes: &[u8])
-    ensures { IsBytes _bytes.now }
-{}
-
-/// Proof only: puts in scope that the number is below 2^32. No run-time effect. It is for
-/// implementations of [`HasCodec::prove_in_range`].
-pub fn prove_u32_in_range(_word: u32)
-    ensures { _word < 256 ^ 4 }
-{}

@@ -24,9 +24,10 @@ loop-nla-preserved g c =
       fits = grind (arith, common_steps);
       len = grind (arith, common_steps);
       done = one_more_attribute_written (g.T.Nla.attribute c.nla-item.result) _ _ c.loop-nla.buffer
-          c.emit_nla.new.buffer _ c.loop-nla.at end next c.emit_nla.ensures end-is in_buffer
-          c.loop-nla.invariant.done;
+          c.emit_nla.new.buffer _ c.loop-nla.at end next c.emit_nla.ensures.written end-is
+          in_buffer c.loop-nla.invariant.done;
       left = unchanged_after_one_more (g.T.Nla.attribute c.nla-item.result) c.loop-nla.buffer
-          c.args.buffer.now c.emit_nla.new.buffer c.loop-nla.at end c.emit_nla.ensures end-is
-          in_buffer c.loop-nla.invariant.left;
+          c.args.buffer.now c.emit_nla.new.buffer c.loop-nla.at end c.emit_nla.ensures.written
+          end-is in_buffer c.loop-nla.invariant.left;
+      in_range = grind (arith, common_steps);
     }

@@ -1,11 +1,11 @@
 use Rattle.std.proofs.Common.{◌≡◌, ◌+◌, ◌++◌, take, drop, length}
 use Rattle.std.specs.Prelude.{map}
-use Rattle.std.specs.List.{flat_map}
+use Rattle.std.specs.List.{AllByRecursion, flat_map}
 use Rattle.netlink_core.specs.Attribute.{AreWritableWithin, attribute_bytes}
 use Rattle.netlink_core.proofs.nla.emit_nlas.Given as goal
 
 -- the written bytes and the bytes of the remaining attributes are the whole, and the buffer after
--- the written bytes is unchanged
+-- the written bytes is unchanged; if the remaining attributes are in range, all are
 abbrev pub invariant-loop-nla : goal.invariant-loop-nla
 invariant-loop-nla g l = record {
   fits : AreWritableWithin (map g.T.Nla.attribute (drop l.nla-index l.nlas)) 4294967295;
@@ -15,4 +15,6 @@ invariant-loop-nla g l = record {
       (map g.T.Nla.attribute (drop l.nla-index l.nlas))
       ≡ flat_map attribute_bytes (map g.T.Nla.attribute l.nlas);
   left : drop l.at l.buffer ≡ drop l.at l.fn.buffer;
+  in_range : AllByRecursion g.T.Nla.in_range (drop l.nla-index l.nlas)
+      → AllByRecursion g.T.Nla.in_range l.nlas;
 }
