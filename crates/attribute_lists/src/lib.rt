@@ -8,7 +8,5 @@ mod owned;
 mod views;
 
 pub use checked::CheckedNlas;
-pub use owned::{
-    copy_nlas, emit_values, own_nlas, prove_nlas_in_range, values_len, values_len_within,
-};
+pub use owned::{copy_nlas, emit_values, own_nlas, values_len, values_len_within};
 pub use views::{check_nlas, check_nlas_len, emit_views, next_view, views_len};

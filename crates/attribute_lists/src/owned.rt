@@ -113,16 +113,6 @@ fn make_room<T: MadeWith<Global> + Drop>(
     nlas.reserve_exact(count)
 }
 
-/// Proof only: puts the range of each number of each attribute in scope. No run-time effect.
-pub fn prove_nlas_in_range<T: FamilyNla>(nlas: &[T])
-    // IsInRangeIn set value: each number of the decoded value fits its field.
-    ensures { AllByRecursion (IsInRangeIn T.attribute_set) (map T.model nlas.now) }
-{
-    for nla in nlas {
-        nla.prove_value_in_range();
-    }
-}
-
 /// Returns the number of bytes that the attributes serialize to, with headers and paddings. Returns
 /// `None` if a value does not fit its length field, that is, has more than 65,531 bytes, or if the
 /// attributes have more than `limit` bytes.
@@ -161,8 +151,11 @@ pub fn emit_values<T: FamilyNla>(nlas: &[T], buffer: &mut [u8])
         (map (encode_attribute T.attribute_set) (map T.model nlas.now)))
         ≤ length buffer.old }
     // HoldsAtStart bytes old new: `new` is `bytes`, and then `old` from this offset on.
-    ensures { HoldsAtStart (flat_map attribute_bytes (map (encode_attribute T.attribute_set)
+    ensures written { HoldsAtStart (flat_map attribute_bytes (map (encode_attribute T.attribute_set)
         (map T.model nlas.now))) buffer.old buffer.new }
+    // IsInRangeIn set value: each number of the decoded value fits its field. This is so for all
+    // Rust values.
+    ensures in_range { AllByRecursion (IsInRangeIn T.attribute_set) (map T.model nlas.now) }
 {
     emit_nlas(nlas, buffer);
 }

@@ -1,11 +1,12 @@
--- The values of each group of consecutive fields of `tcp_info` of one width, and the bytes of
--- several groups.
+-- The values of each group of consecutive fields of `tcp_info` of one width, the bytes of several
+-- groups, and that the values of these groups fit their fields.
 use Rattle.std.specs.Prelude.{ℕ, List, ◌++◌, take, drop}
 use Rattle.std.specs.List.{flat_map}
 use Rattle.byteorder.specs.Endian.{little_bytes}
 use Rattle.sock_diag_values.specs.declared.inet.tcp_info.TcpInfo.{TcpInfo}
 use Rattle.sock_diag_values.specs.TcpInfo.{tcp_info_rows}
 use Rattle.netlink_core.specs.Rows.{numbers_of}
+use Rattle.netlink_core.specs.Table.{number, array, bytes_at, FitFields}
 
 -- the eight `u8` at offset 0
 abbrev pub u8s_at_0 : TcpInfo → List ℕ
@@ -69,3 +70,23 @@ abbrev pub bytes_192_to_232 : TcpInfo → List ℕ
 bytes_192_to_232 value = flat_map (little_bytes 4) (u32s_at_192 value)
     ++ (flat_map (little_bytes 8) (u64s_at_200 value)
     ++ flat_map (little_bytes 4) (u32s_at_216 value))
+
+-- each value in the bytes 0..92 fits its field
+abbrev pub FitIn0To92 : TcpInfo → Type 0
+FitIn0To92 value = FitFields (bytes_at 0 8) (u8s_at_0 value)
+    × FitFields (array number 8 4 9) (u32s_at_8 value)
+    × FitFields (array number 44 4 4) (u32s_at_44 value)
+    × FitFields (array number 60 4 8) (u32s_at_60 value)
+
+-- each value in the bytes 92..192 fits its field
+abbrev pub FitIn92To192 : TcpInfo → Type 0
+FitIn92To192 value = FitFields (array number 92 4 3) (u32s_at_92 value)
+    × FitFields (array number 104 8 4) (u64s_at_104 value)
+    × FitFields (array number 136 4 6) (u32s_at_136 value)
+    × FitFields (array number 160 8 4) (u64s_at_160 value)
+
+-- each value in the bytes 192..232 fits its field
+abbrev pub FitIn192To232 : TcpInfo → Type 0
+FitIn192To232 value = FitFields (array number 192 4 2) (u32s_at_192 value)
+    × FitFields (array number 200 8 2) (u64s_at_200 value)
+    × FitFields (array number 216 4 4) (u32s_at_216 value)

@@ -6,8 +6,7 @@ ghost use Rattle.netlink_core.specs.Layout.{parse_record};
 ghost use Rattle.netlink_core.proofs.LayoutLaws.{plain_sound, record_laws};
 ghost use Rattle.sock_diag_values.specs.LegacyMemInfo.{legacy_mem_info};
 
-use byteorder::{ByteOrder, LittleEndian};
-use netlink_core::fields::u32s_at;
+use netlink_core::fields::{u32s_at, write_u32s};
 use netlink_core::{DecodeError, Exact, Fills, Record, RecordBuffer, RecordName, read_record};
 
 /// Size of `struct inet_diag_meminfo` in bytes.
@@ -65,7 +64,7 @@ impl Record for LegacyMemInfo {
     }
 
     fn write_fields(&self, buffer: &mut [u8]) {
-        LittleEndian::write_u32_into(
+        write_u32s(
             &[
                 self.receive_queue,
                 self.bottom_send_queue,
@@ -74,15 +73,6 @@ impl Record for LegacyMemInfo {
             ],
             buffer,
         );
-    }
-
-    fn prove_fields_in_range(&self) {
-        let LegacyMemInfo {
-            receive_queue: _a,
-            bottom_send_queue: _b,
-            cache: _c,
-            send_queue: _d,
-        } = *self;
     }
 
     ghost laws = { record_laws legacy_mem_info (plain_sound refl (λ _. refl) (λ _. refl) (λ _. tt)

@@ -3,9 +3,8 @@
 ghost use Rattle.std.specs.Prelude.{ℕ, ◌≡◌, ◌≤◌, ◌+◌, ◌*◌, ◌↔◌, ◌<◌, ◌^◌, length, take, drop};
 ghost use Rattle.std.specs.Prelude.{SomeIff, IfSome, IsSome};
 ghost use Rattle.std.proofs.Common.{rules};
-ghost use Rattle.netlink_core.specs.Layout.{parse_record, record_bytes, field_numbers};
+ghost use Rattle.netlink_core.specs.Layout.{parse_record, record_bytes};
 ghost use Rattle.netlink_core.proofs.LayoutLaws.{record_laws};
-ghost use Rattle.netlink_core.specs.Table.{FitFields, number, array};
 ghost use Rattle.sock_diag_values.specs.MemInfo.{mem_info_u32_count, mem_info};
 ghost use Rattle.sock_diag_values.specs.MemInfo.{mem_info_buffer_bytes};
 ghost use Rattle.sock_diag_values.specs.laws.MemInfo.{mem_info_sound};
@@ -14,8 +13,8 @@ ghost use Rattle.sock_diag_values.specs.laws.MemInfoEqual.{mem_info_equal};
 ghost use Rattle.byteorder.specs.Endian.{little_number};
 
 use byteorder::{ByteOrder, LittleEndian};
-use netlink_core::fields::u32s_at;
-use netlink_core::{DecodeError, Exact, Record, RecordName, prove_u32_in_range, read_record};
+use netlink_core::fields::{u32s_at, write_u32s};
+use netlink_core::{DecodeError, Exact, Record, RecordName, read_record};
 
 /// Size of the value of `INET_DIAG_SKMEMINFO` in bytes, with all nine `u32`.
 pub const MEM_INFO_LEN: usize = 36;
@@ -133,7 +132,7 @@ impl Record for MemInfo {
 
     fn write_fields(&self, buffer: &mut [u8]) {
         let (words, rest) = buffer.split_at_mut(MEM_INFO_SEVEN_LEN);
-        LittleEndian::write_u32_into(
+        write_u32s(
             &[
                 self.receive_queue,
                 self.receive_queue_max,
@@ -146,23 +145,8 @@ impl Record for MemInfo {
             words,
         );
         match (self.backlog_queue_length, self.drops) {
-            (backlog, Some(drops)) => {
-                LittleEndian::write_u32_into(&[backlog.unwrap_or(0), drops], rest)
-            }
-            (Some(backlog), None) => LittleEndian::write_u32_into(&[backlog], rest),
-            (None, None) => {}
-        }
-    }
-
-    fn prove_fields_in_range(&self) {
-        self.prove_fields_are_in_range();
-        match (self.backlog_queue_length, self.drops) {
-            (Some(backlog), Some(drops)) => {
-                prove_u32_in_range(backlog);
-                prove_u32_in_range(drops);
-            }
-            (None, Some(drops)) => prove_u32_in_range(drops),
-            (Some(backlog), None) => prove_u32_in_range(backlog),
+            (backlog, Some(drops)) => write_u32s(&[backlog.unwrap_or(0), drops], rest),
+            (Some(backlog), None) => write_u32s(&[backlog], rest),
             (None, None) => {}
         }
     }
@@ -171,19 +155,6 @@ impl Record for MemInfo {
 }
 
 impl MemInfo {
-    // Proof only: puts the range of the first seven fields in scope. No run-time effect.
-    fn prove_fields_are_in_range(&self)
-        ensures { FitFields (array number 0 4 7) (take 7 (field_numbers mem_info self.now)) }
-    {
-        let _receive_queue = self.receive_queue;
-        let _receive_queue_max = self.receive_queue_max;
-        let _bottom_send_queues = self.bottom_send_queues;
-        let _send_queue_max = self.send_queue_max;
-        let _cache = self.cache;
-        let _send_queue = self.send_queue;
-        let _options = self.options;
-    }
-
     /// Parses the longest prefix of 36, 32 or 28 bytes, and ignores the bytes after it. A prefix of
     /// 32 bytes has no drops, and one of 28 bytes neither a backlog nor drops: these fields are
     /// `None`. Fewer than 28 bytes are [`DecodeError::BufferTooSmall`].

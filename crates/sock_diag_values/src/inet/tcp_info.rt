@@ -10,14 +10,13 @@ ghost use Rattle.sock_diag_values.specs.private.TcpInfo.{u32s_at_60, u32s_at_92,
 ghost use Rattle.sock_diag_values.specs.private.TcpInfo.{u32s_at_136, u64s_at_160, u32s_at_192};
 ghost use Rattle.sock_diag_values.specs.private.TcpInfo.{u64s_at_200, u32s_at_216, bytes_0_to_92};
 ghost use Rattle.sock_diag_values.specs.private.TcpInfo.{bytes_92_to_192, bytes_192_to_232};
+ghost use Rattle.sock_diag_values.specs.private.TcpInfo.{FitIn0To92, FitIn92To192};
+ghost use Rattle.sock_diag_values.specs.private.TcpInfo.{FitIn192To232};
 ghost use Rattle.sock_diag_values.specs.laws.TcpInfoEqual.{tcp_info_equal};
 ghost use Rattle.sock_diag_values.specs.laws.TcpInfo.{tcp_info_sound};
 
-use byteorder::{ByteOrder, LittleEndian};
-use netlink_core::fields::{array_at, prove_u32s_in_range, prove_u64s_in_range, u32s_at, u64s_at};
-use netlink_core::{
-    DecodeError, Exact, Fills, Record, RecordBuffer, RecordName, prove_bytes_in_range, read_record,
-};
+use netlink_core::fields::{array_at, u32s_at, u64s_at, write_bytes, write_u32s, write_u64s};
+use netlink_core::{DecodeError, Exact, Fills, Record, RecordBuffer, RecordName, read_record};
 use std::alloc::AllocError;
 
 /// Size in bytes of the part of `struct tcp_info` that [`TcpInfo`] represents. Newer kernels append
@@ -278,20 +277,6 @@ impl Record for TcpInfo {
         self.write_back(back);
     }
 
-    fn prove_fields_in_range(&self) {
-        prove_bytes_in_range(&self.u8s_at_0());
-        prove_u32s_in_range(&self.u32s_at_8());
-        prove_u32s_in_range(&self.u32s_at_44());
-        prove_u32s_in_range(&self.u32s_at_60());
-        prove_u32s_in_range(&self.u32s_at_92());
-        prove_u64s_in_range(&self.u64s_at_104());
-        prove_u32s_in_range(&self.u32s_at_136());
-        prove_u64s_in_range(&self.u64s_at_160());
-        prove_u32s_in_range(&self.u32s_at_192());
-        prove_u64s_in_range(&self.u64s_at_200());
-        prove_u32s_in_range(&self.u32s_at_216());
-    }
-
     ghost laws = { record_laws tcp_info tcp_info_sound };
 }
 
@@ -315,41 +300,44 @@ impl TcpInfo {
     // Writes the fields at offsets 0 to 91.
     fn write_front(&self, buffer: &mut [u8])
         requires { length buffer.old ≡ 92 }
-        ensures { buffer.new ≡ bytes_0_to_92 self.now }
+        ensures written { buffer.new ≡ bytes_0_to_92 self.now }
+        ensures in_range { FitIn0To92 self.now }
     {
         let (u8s_at_0, rest) = buffer.split_at_mut(8);
         let (u32s_at_8, rest) = rest.split_at_mut(36);
         let (u32s_at_44, u32s_at_60) = rest.split_at_mut(16);
-        u8s_at_0.copy_from_slice(&self.u8s_at_0());
-        LittleEndian::write_u32_into(&self.u32s_at_8(), u32s_at_8);
-        LittleEndian::write_u32_into(&self.u32s_at_44(), u32s_at_44);
-        LittleEndian::write_u32_into(&self.u32s_at_60(), u32s_at_60);
+        write_bytes(&self.u8s_at_0(), u8s_at_0);
+        write_u32s(&self.u32s_at_8(), u32s_at_8);
+        write_u32s(&self.u32s_at_44(), u32s_at_44);
+        write_u32s(&self.u32s_at_60(), u32s_at_60);
     }
 
     // Writes the fields at offsets 92 to 191.
     fn write_middle(&self, buffer: &mut [u8])
         requires { length buffer.old ≡ 100 }
-        ensures { buffer.new ≡ bytes_92_to_192 self.now }
+        ensures written { buffer.new ≡ bytes_92_to_192 self.now }
+        ensures in_range { FitIn92To192 self.now }
     {
         let (u32s_at_92, rest) = buffer.split_at_mut(12);
         let (u64s_at_104, rest) = rest.split_at_mut(32);
         let (u32s_at_136, u64s_at_160) = rest.split_at_mut(24);
-        LittleEndian::write_u32_into(&self.u32s_at_92(), u32s_at_92);
-        LittleEndian::write_u64_into(&self.u64s_at_104(), u64s_at_104);
-        LittleEndian::write_u32_into(&self.u32s_at_136(), u32s_at_136);
-        LittleEndian::write_u64_into(&self.u64s_at_160(), u64s_at_160);
+        write_u32s(&self.u32s_at_92(), u32s_at_92);
+        write_u64s(&self.u64s_at_104(), u64s_at_104);
+        write_u32s(&self.u32s_at_136(), u32s_at_136);
+        write_u64s(&self.u64s_at_160(), u64s_at_160);
     }
 
     // Writes the fields at offsets 192 to 231.
     fn write_back(&self, buffer: &mut [u8])
         requires { length buffer.old ≡ 40 }
-        ensures { buffer.new ≡ bytes_192_to_232 self.now }
+        ensures written { buffer.new ≡ bytes_192_to_232 self.now }
+        ensures in_range { FitIn192To232 self.now }
     {
         let (u32s_at_192, rest) = buffer.split_at_mut(8);
         let (u64s_at_200, u32s_at_216) = rest.split_at_mut(16);
-        LittleEndian::write_u32_into(&self.u32s_at_192(), u32s_at_192);
-        LittleEndian::write_u64_into(&self.u64s_at_200(), u64s_at_200);
-        LittleEndian::write_u32_into(&self.u32s_at_216(), u32s_at_216);
+        write_u32s(&self.u32s_at_192(), u32s_at_192);
+        write_u64s(&self.u64s_at_200(), u64s_at_200);
+        write_u32s(&self.u32s_at_216(), u32s_at_216);
     }
 
     // Returns the eight `u8` at offset 0.

@@ -6,8 +6,7 @@ ghost use Rattle.netlink_core.specs.Layout.{parse_record};
 ghost use Rattle.netlink_core.proofs.LayoutLaws.{plain_sound, record_laws};
 ghost use Rattle.sock_diag_values.specs.UnixMemInfo.{unix_mem_info};
 
-use byteorder::{ByteOrder, LittleEndian};
-use netlink_core::fields::u32s_at;
+use netlink_core::fields::{u32s_at, write_u32s};
 use netlink_core::{DecodeError, Exact, Fills, Record, RecordBuffer, RecordName, read_record};
 
 /// Size of the value of `UNIX_DIAG_MEMINFO` in bytes.
@@ -73,15 +72,7 @@ impl Record for MemInfo {
             0,
             0,
         ];
-        LittleEndian::write_u32_into(&words, buffer);
-    }
-
-    fn prove_fields_in_range(&self) {
-        let MemInfo {
-            so_rcvbuf: _a,
-            max_datagram_size: _b,
-            alloc: _c,
-        } = *self;
+        write_u32s(&words, buffer);
     }
 
     ghost laws = { record_laws unix_mem_info (plain_sound refl (λ _. refl) (λ _. refl) (λ _. tt)

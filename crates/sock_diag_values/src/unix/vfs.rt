@@ -6,8 +6,7 @@ ghost use Rattle.netlink_core.specs.Layout.{parse_record};
 ghost use Rattle.netlink_core.proofs.LayoutLaws.{plain_sound, record_laws};
 ghost use Rattle.sock_diag_values.specs.Vfs.{vfs};
 
-use byteorder::{ByteOrder, LittleEndian};
-use netlink_core::fields::u32s_at;
+use netlink_core::fields::{u32s_at, write_u32s};
 use netlink_core::{DecodeError, Exact, Fills, Record, RecordBuffer, RecordName, read_record};
 
 /// Size of `struct unix_diag_vfs` in bytes.
@@ -51,11 +50,7 @@ impl Record for Vfs {
     }
 
     fn write_fields(&self, buffer: &mut [u8]) {
-        LittleEndian::write_u32_into(&[self.inode, self.device], buffer);
-    }
-
-    fn prove_fields_in_range(&self) {
-        let (_inode, _device) = (self.inode, self.device);
+        write_u32s(&[self.inode, self.device], buffer);
     }
 
     ghost laws = { record_laws vfs (plain_sound refl (λ _. refl) (λ _. refl) (λ _. tt)

@@ -26,7 +26,7 @@ loop-view-preserved g c =
       len = omega arith;
       done = one_more_attribute_written a _ (flat_map attribute_bytes later) _ _ _ _ _
           (ap (flat_map attribute_bytes) parts)
-          c.emit_nla.ensures (omega arith) in_buffer c.loop-view.invariant.done;
-      left = unchanged_after_one_more a _ _ _ _ _ c.emit_nla.ensures (omega arith) in_buffer
+          c.emit_nla.ensures.written (omega arith) in_buffer c.loop-view.invariant.done;
+      left = unchanged_after_one_more a _ _ _ _ _ c.emit_nla.ensures.written (omega arith) in_buffer
           c.loop-view.invariant.left;
     }

@@ -1,6 +1,14 @@
 use Rattle.std.proofs.Common.{arith}
 use Rattle.sock_diag_values.proofs.inet.tcp_info.TcpInfo.write_middle.Goals as goal
 
-pub returns : goal.returns
-returns c =
+pub returns-clause-written : goal.returns-clause-written
+returns-clause-written c =
     grind arith
+
+pub returns-clause-in_range : goal.returns-clause-in_range
+returns-clause-in_range c = (
+  rw c.u32s_at_92.ensures at c.write_u32s.ensures.in_range,
+  rw c.u64s_at_104.ensures at c.write_u64s.ensures.in_range,
+  rw c.u32s_at_136.ensures at c.write_u32s-2.ensures.in_range,
+  rw c.u64s_at_160.ensures at c.write_u64s-2.ensures.in_range,
+)
