@@ -8,8 +8,7 @@ ghost use Rattle.sock_diag_records.specs.laws.InetRequest.{inet_request_has_fixe
 
 use super::{ExtensionFlags, SocketId, StateFlags};
 use bitflags::Flags;
-use byteorder::{ByteOrder, LittleEndian};
-use netlink_core::fields::u32s_at;
+use netlink_core::fields::{u32s_at, write_bytes, write_u32s};
 use netlink_core::{DecodeError, Fills, Record, RecordBuffer, RecordName};
 
 /// Kind of no attribute. The kinds `INET_DIAG_REQ_..` (linux/inet_diag.h) are those of attributes
@@ -84,22 +83,16 @@ impl Record for InetRequest {
         })
     }
 
-    #[tactic(auto, unfolding(crate::specs::InetRequest::inet_request, crate::specs::SocketId::socket_id))]
+    #[tactic(auto, unfolding(crate::specs::InetRequest::inet_request, crate::specs::SocketId::socket_id), using(crate::specs::laws::SocketId::nested_socket_id_fits))]
     fn write_fields(&self, buffer: &mut [u8]) {
         let (start, rest) = buffer.split_at_mut(4);
         let (states, socket_id) = rest.split_at_mut(4);
-        start.copy_from_slice(&[self.family, self.protocol, self.extensions.bits(), 0]);
-        LittleEndian::write_u32_into(&[self.states.bits()], states);
+        write_bytes(
+            &[self.family, self.protocol, self.extensions.bits(), 0],
+            start,
+        );
+        write_u32s(&[self.states.bits()], states);
         self.socket_id.write_fields(socket_id);
-    }
-
-    #[tactic(auto, unfolding(crate::specs::InetRequest::inet_request, crate::specs::SocketId::socket_id), using(crate::specs::laws::SocketId::nested_socket_id_fits))]
-    fn prove_fields_in_range(&self) {
-        let _family = self.family;
-        let _protocol = self.protocol;
-        let _extensions = self.extensions.bits();
-        let _states = self.states.bits();
-        self.socket_id.prove_fields_in_range();
     }
 
     ghost laws = { record_laws inet_request inet_request_sound };

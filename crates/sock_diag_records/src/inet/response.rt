@@ -1,7 +1,7 @@
 //! The header of a reply about an IPv4 or IPv6 socket.
 
 ghost use Rattle.std.proofs.Common.{rules};
-ghost use Rattle.std.specs.Prelude.{ℕ, ◌≡◌, ◌≢◌, ◌<◌, IfErr};
+ghost use Rattle.std.specs.Prelude.{ℕ, ◌≡◌, ◌≢◌, IfErr};
 ghost use Rattle.netlink_core.specs.declared.error.DecodeError.TheVariants.{Memory};
 ghost use Rattle.netlink_core.specs.Layout.{parse_record};
 ghost use Rattle.netlink_core.proofs.LayoutLaws.{record_laws};
@@ -13,8 +13,7 @@ ghost use Rattle.sock_diag_records.specs.laws.InetResponse.{inet_response_header
 ghost use Rattle.sock_diag_records.specs.laws.InetResponse.{inet_response_header_has_fixed_length};
 
 use super::{SOCKET_ID_LEN, SocketId};
-use byteorder::{ByteOrder, LittleEndian};
-use netlink_core::fields::u32s_at;
+use netlink_core::fields::{u32s_at, write_bytes, write_u32s};
 use netlink_core::{DecodeError, Exact, Fills, Record, RecordBuffer, RecordName, read_record};
 use std::time::Duration;
 
@@ -118,7 +117,7 @@ impl Record for InetResponseHeader {
         let (timer, retransmits, expires) = timer_fields(&self.timer);
         let (start, rest) = buffer.split_at_mut(4);
         let (socket_id, rest) = rest.split_at_mut(SOCKET_ID_LEN);
-        start.copy_from_slice(&[self.family, self.state, timer, retransmits]);
+        write_bytes(&[self.family, self.state, timer, retransmits], start);
         self.socket_id.write_fields(socket_id);
         let words = [
             expires,
@@ -127,19 +126,7 @@ impl Record for InetResponseHeader {
             self.uid,
             self.inode,
         ];
-        LittleEndian::write_u32_into(&words, rest);
-    }
-
-    #[tactic(auto, unfolding(crate::specs::InetResponse::inet_response_header, crate::specs::SocketId::socket_id))]
-    fn prove_fields_in_range(&self) {
-        let _family = self.family;
-        let _state = self.state;
-        prove_timer_in_range(&self.timer);
-        self.socket_id.prove_fields_in_range();
-        let _recv_queue = self.recv_queue;
-        let _send_queue = self.send_queue;
-        let _uid = self.uid;
-        let _inode = self.inode;
+        write_u32s(&words, rest);
     }
 
     ghost laws = { record_laws inet_response_header inet_response_header_sound };
@@ -202,14 +189,5 @@ fn timer_from(timer: u8, retransmits: u8, milliseconds: u32) -> Option<Timer>
         3 => Some(Timer::TimeWait),
         4 => Some(Timer::Probe(expires)),
         _ => None,
-    }
-}
-
-// Proof only: puts the range of the number of retransmits in scope. No run-time effect.
-fn prove_timer_in_range(timer: &Option<Timer>)
-    ensures { (timer_data timer.now).1 < 256 }
-{
-    if let Some(Timer::Retransmit(_, retransmits)) = timer {
-        let _retransmits = *retransmits;
     }
 }

@@ -1,8 +1,7 @@
 //! The id of an IPv4 or IPv6 socket.
 
 ghost use Rattle.std.proofs.Common.{rules};
-ghost use Rattle.std.specs.Prelude.{◌≡◌, ◌≢◌, ◌≤◌, ◌+◌, length, replicate, IfErr, ℕ, slice_index};
-ghost use Rattle.std.specs.Prelude.{◌<◌};
+ghost use Rattle.std.specs.Prelude.{◌≡◌, ◌≢◌, ◌≤◌, ◌+◌, length, replicate, IfErr, ℕ};
 ghost use Rattle.std.specs.declared.net.ip_addr.IpAddr.TheVariants.{V4, V6};
 ghost use Rattle.std.specs.Net.Addr.{ipv4_octets, ipv6_segments};
 ghost use Rattle.netlink_core.specs.Table.{bytes_at, values_of, FitFields, network, array};
@@ -17,11 +16,8 @@ ghost use Rattle.sock_diag_records.specs.laws.SocketId.{socket_id_sound};
 ghost use Rattle.sock_diag_records.specs.laws.SocketId.{socket_id_has_fixed_length};
 
 use crate::constants::{AF_INET, AF_INET6};
-use byteorder::{BigEndian, ByteOrder, LittleEndian};
-use netlink_core::fields::{array_at, u16s_be_at, u32s_at};
-use netlink_core::{
-    DecodeError, Exact, Fills, Record, RecordBuffer, RecordName, prove_bytes_in_range, read_record,
-};
+use netlink_core::fields::{array_at, u16s_be_at, u32s_at, write_bytes, write_u16s_be, write_u32s};
+use netlink_core::{DecodeError, Exact, Fills, Record, RecordBuffer, RecordName, read_record};
 use std::net::{IpAddr, Ipv4Addr, Ipv6Addr};
 
 /// Size of `struct inet_diag_sockid` in bytes.
@@ -126,14 +122,17 @@ fn ipv6_at(bytes: &[u8], offset: usize) -> Ipv6Addr
 // Writes an address. Zeros follow the four bytes of an IPv4 address.
 fn write_address(address: IpAddr, buffer: &mut [u8])
     requires { length buffer.old ≡ 16 }
-    ensures { buffer.new ≡ address_field_bytes address }
+    ensures written { buffer.new ≡ address_field_bytes address }
+    ensures shaped { IsAddress address }
+    ensures in_range { (offset : ℕ)
+        → FitFields (address_fields offset (address_data address).0) (address_values address) }
 {
     match address {
         IpAddr::V4(ip) => {
-            buffer[..4].copy_from_slice(&ip.octets());
+            write_bytes(&ip.octets(), &mut buffer[..4]);
             buffer[4..].fill(0);
         }
-        IpAddr::V6(ip) => BigEndian::write_u16_into(&ip.segments(), buffer),
+        IpAddr::V6(ip) => write_u16s_be(&ip.segments(), buffer),
     }
 }
 
@@ -193,20 +192,11 @@ impl Record for SocketId {
         let (source, rest) = rest.split_at_mut(16);
         let (destination, rest) = rest.split_at_mut(16);
         let (interface, cookie) = rest.split_at_mut(4);
-        BigEndian::write_u16_into(&[self.source_port, self.destination_port], ports);
+        write_u16s_be(&[self.source_port, self.destination_port], ports);
         write_address(self.source_address, source);
         write_address(self.destination_address, destination);
-        LittleEndian::write_u32_into(&[self.interface_id], interface);
-        cookie.copy_from_slice(&self.cookie);
-    }
-
-    fn prove_fields_in_range(&self) {
-        let _source_port = self.source_port;
-        let _destination_port = self.destination_port;
-        prove_address_in_range(self.source_address);
-        prove_address_in_range(self.destination_address);
-        let _interface_id = self.interface_id;
-        prove_bytes_in_range(&self.cookie);
+        write_u32s(&[self.interface_id], interface);
+        write_bytes(&self.cookie, cookie);
     }
 
     ghost laws = { record_laws socket_id socket_id_sound };
@@ -230,20 +220,3 @@ impl SocketId {
 impl Fills<SOCKET_ID_LEN> for SocketId {
     ghost fills = { socket_id_has_fixed_length };
 }
-
-// Proof only: puts the range of the octets or segments in scope. No run-time effect.
-fn prove_address_in_range(address: IpAddr)
-    ensures shaped { IsAddress address }
-    ensures fit { (offset : ℕ)
-        → FitFields (address_fields offset (address_data address).0) (address_values address) }
-{
-    match address {
-        IpAddr::V4(ip) => prove_bytes_in_range(&ip.octets()),
-        IpAddr::V6(ip) => prove_u16s_in_range(&ip.segments()),
-    }
-}
-
-// Proof only: puts the range of each number in scope. No run-time effect.
-fn prove_u16s_in_range(_numbers: &[u16])
-    ensures { (i : ℕ) → slice_index _numbers.now i < 65536 }
-{}

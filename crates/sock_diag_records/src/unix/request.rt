@@ -9,11 +9,8 @@ ghost use Rattle.sock_diag_records.specs.laws.UnixRequest.{unix_request_sound};
 use super::{ShowFlags, StateFlags};
 use crate::constants::AF_UNIX;
 use bitflags::Flags;
-use byteorder::{ByteOrder, LittleEndian};
-use netlink_core::fields::{array_at, u32s_at};
-use netlink_core::{
-    DecodeError, Exact, Fills, Record, RecordBuffer, RecordName, prove_bytes_in_range,
-};
+use netlink_core::fields::{array_at, u32s_at, write_bytes, write_u32s};
+use netlink_core::{DecodeError, Exact, Fills, Record, RecordBuffer, RecordName};
 
 /// Size of `struct unix_diag_req` in bytes.
 pub const UNIX_REQUEST_LEN: usize = 24;
@@ -71,19 +68,12 @@ impl Record for UnixRequest {
     fn write_fields(&self, buffer: &mut [u8]) {
         let (start, rest) = buffer.split_at_mut(4);
         let (words, cookie) = rest.split_at_mut(12);
-        start.copy_from_slice(&[AF_UNIX, 0, 0, 0]);
-        LittleEndian::write_u32_into(
+        write_bytes(&[AF_UNIX, 0, 0, 0], start);
+        write_u32s(
             &[self.state_flags.bits(), self.inode, self.show_flags.bits()],
             words,
         );
-        cookie.copy_from_slice(&self.cookie);
-    }
-
-    fn prove_fields_in_range(&self) {
-        let _state_flags = self.state_flags.bits();
-        let _inode = self.inode;
-        let _show_flags = self.show_flags.bits();
-        prove_bytes_in_range(&self.cookie);
+        write_bytes(&self.cookie, cookie);
     }
 
     ghost laws = { record_laws unix_request unix_request_sound };

@@ -8,11 +8,8 @@ ghost use Rattle.sock_diag_records.specs.UnixResponseHeader.{unix_response_heade
 ghost use Rattle.sock_diag_records.specs.laws.UnixResponseHeader.{unix_response_header_sound};
 
 use crate::constants::AF_UNIX;
-use byteorder::{ByteOrder, LittleEndian};
-use netlink_core::fields::{array_at, u32s_at};
-use netlink_core::{
-    DecodeError, Exact, Fills, Record, RecordBuffer, RecordName, prove_bytes_in_range, read_record,
-};
+use netlink_core::fields::{array_at, u32s_at, write_bytes, write_u32s};
+use netlink_core::{DecodeError, Exact, Fills, Record, RecordBuffer, RecordName, read_record};
 
 /// Size of `struct unix_diag_msg` in bytes.
 pub const UNIX_RESPONSE_HEADER_LEN: usize = 16;
@@ -68,14 +65,9 @@ impl Record for UnixResponseHeader {
     fn write_fields(&self, buffer: &mut [u8]) {
         let (start, rest) = buffer.split_at_mut(4);
         let (inode, cookie) = rest.split_at_mut(4);
-        start.copy_from_slice(&[AF_UNIX, self.kind, self.state, 0]);
-        LittleEndian::write_u32_into(&[self.inode], inode);
-        cookie.copy_from_slice(&self.cookie);
-    }
-
-    fn prove_fields_in_range(&self) {
-        let (_kind, _state, _inode) = (self.kind, self.state, self.inode);
-        prove_bytes_in_range(&self.cookie);
+        write_bytes(&[AF_UNIX, self.kind, self.state, 0], start);
+        write_u32s(&[self.inode], inode);
+        write_bytes(&self.cookie, cookie);
     }
 
     ghost laws = { record_laws unix_response_header unix_response_header_sound };
