@@ -5,8 +5,7 @@ ghost use Rattle.netlink_core.proofs.LayoutLaws.{record_laws};
 ghost use Rattle.sock_diag_families.specs.laws.Record.{show_request_sound};
 ghost use Rattle.sock_diag_families.specs.ShowRequest.{show_request};
 
-use byteorder::{ByteOrder, LittleEndian};
-use netlink_core::fields::{u32s_at, u64s_at};
+use netlink_core::fields::{u32s_at, u64s_at, write_bytes, write_u32s, write_u64s};
 use netlink_core::{DecodeError, Exact, Record, RecordName};
 
 /// Size of `struct netlink_diag_req`, `packet_diag_req` and `xdp_diag_req` in bytes.
@@ -65,14 +64,9 @@ impl<const FAMILY: u8> Record for ShowRequest<FAMILY> {
     fn write_fields(&self, buffer: &mut [u8]) {
         let (start, rest) = buffer.split_at_mut(4);
         let (words, cookie) = rest.split_at_mut(8);
-        start.copy_from_slice(&[FAMILY, self.protocol, 0, 0]);
-        LittleEndian::write_u32_into(&[self.inode, self.show], words);
-        LittleEndian::write_u64(cookie, self.cookie);
-    }
-
-    fn prove_fields_in_range(&self) {
-        let (_protocol, _inode) = (self.protocol, self.inode);
-        let (_show, _cookie) = (self.show, self.cookie);
+        write_bytes(&[FAMILY, self.protocol, 0, 0], start);
+        write_u32s(&[self.inode, self.show], words);
+        write_u64s(&[self.cookie], cookie);
     }
 
     ghost laws = { record_laws (show_request FAMILY) (show_request_sound FAMILY) };

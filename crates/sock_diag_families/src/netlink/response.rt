@@ -5,8 +5,7 @@ ghost use Rattle.netlink_core.proofs.LayoutLaws.{record_laws};
 ghost use Rattle.sock_diag_families.specs.NetlinkResponseHeader.{netlink_header};
 ghost use Rattle.sock_diag_families.specs.laws.Record.{netlink_header_sound};
 
-use byteorder::{ByteOrder, LittleEndian};
-use netlink_core::fields::{u32s_at, u64s_at};
+use netlink_core::fields::{u32s_at, u64s_at, write_bytes, write_u32s, write_u64s};
 use netlink_core::{DecodeError, Exact, Record, RecordName};
 use sock_diag_records::constants::AF_NETLINK;
 
@@ -80,21 +79,15 @@ impl Record for NetlinkResponseHeader {
     fn write_fields(&self, buffer: &mut [u8]) {
         let (start, rest) = buffer.split_at_mut(4);
         let (words, cookie) = rest.split_at_mut(16);
-        start.copy_from_slice(&[AF_NETLINK, self.kind, self.protocol, self.state]);
+        write_bytes(&[AF_NETLINK, self.kind, self.protocol, self.state], start);
         let numbers = [
             self.port,
             self.destination_port,
             self.destination_group,
             self.inode,
         ];
-        LittleEndian::write_u32_into(&numbers, words);
-        LittleEndian::write_u64(cookie, self.cookie);
-    }
-
-    fn prove_fields_in_range(&self) {
-        let (_kind, _protocol, _state) = (self.kind, self.protocol, self.state);
-        let (_port, _to_port) = (self.port, self.destination_port);
-        let (_group, _inode, _cookie) = (self.destination_group, self.inode, self.cookie);
+        write_u32s(&numbers, words);
+        write_u64s(&[self.cookie], cookie);
     }
 
     ghost laws = { record_laws netlink_header netlink_header_sound };

@@ -6,7 +6,7 @@ ghost use Rattle.sock_diag_families.specs.PacketResponseHeader.{packet_header};
 ghost use Rattle.sock_diag_families.specs.laws.Record.{packet_header_sound};
 
 use byteorder::{ByteOrder, LittleEndian};
-use netlink_core::fields::{u32s_at, u64s_at};
+use netlink_core::fields::{u32s_at, u64s_at, write_bytes, write_u16s, write_u32s, write_u64s};
 use netlink_core::{DecodeError, Exact, Record, RecordName};
 use sock_diag_records::constants::AF_PACKET;
 
@@ -68,15 +68,10 @@ impl Record for PacketResponseHeader {
         let (start, rest) = buffer.split_at_mut(2);
         let (protocol, rest) = rest.split_at_mut(2);
         let (inode, cookie) = rest.split_at_mut(4);
-        start.copy_from_slice(&[AF_PACKET, self.kind]);
-        LittleEndian::write_u16(protocol, self.protocol);
-        LittleEndian::write_u32(inode, self.inode);
-        LittleEndian::write_u64(cookie, self.cookie);
-    }
-
-    fn prove_fields_in_range(&self) {
-        let (_kind, _protocol) = (self.kind, self.protocol);
-        let (_inode, _cookie) = (self.inode, self.cookie);
+        write_bytes(&[AF_PACKET, self.kind], start);
+        write_u16s(&[self.protocol], protocol);
+        write_u32s(&[self.inode], inode);
+        write_u64s(&[self.cookie], cookie);
     }
 
     ghost laws = { record_laws packet_header packet_header_sound };

@@ -6,8 +6,7 @@ ghost use Rattle.sock_diag_families.specs.laws.Record.{vsock_request_sound};
 ghost use Rattle.sock_diag_families.specs.VsockRequest.{vsock_request};
 
 use super::AF_VSOCK;
-use byteorder::{ByteOrder, LittleEndian};
-use netlink_core::fields::{u32s_at, u64s_at};
+use netlink_core::fields::{u32s_at, u64s_at, write_u32s, write_u64s};
 use netlink_core::{DecodeError, Exact, Record, RecordName};
 
 /// Size of `struct vsock_diag_req` in bytes.
@@ -56,12 +55,8 @@ impl Record for VsockRequest {
 
     fn write_fields(&self, buffer: &mut [u8]) {
         let (words, cookie) = buffer.split_at_mut(16);
-        LittleEndian::write_u32_into(&[AF_VSOCK as u32, self.states, 0, 0], words);
-        LittleEndian::write_u64(cookie, self.cookie);
-    }
-
-    fn prove_fields_in_range(&self) {
-        let (_states, _cookie) = (self.states, self.cookie);
+        write_u32s(&[AF_VSOCK as u32, self.states, 0, 0], words);
+        write_u64s(&[self.cookie], cookie);
     }
 
     ghost laws = { record_laws vsock_request vsock_request_sound };

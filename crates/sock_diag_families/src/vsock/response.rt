@@ -6,8 +6,7 @@ ghost use Rattle.sock_diag_families.specs.VsockResponseHeader.{vsock_header};
 ghost use Rattle.sock_diag_families.specs.laws.Record.{vsock_header_sound};
 
 use super::AF_VSOCK;
-use byteorder::{ByteOrder, LittleEndian};
-use netlink_core::fields::{prove_u64s_in_range, u32s_at, u64s_at};
+use netlink_core::fields::{u32s_at, u64s_at, write_bytes, write_u32s, write_u64s};
 use netlink_core::{DecodeError, Exact, Record, RecordName};
 
 /// Size of `struct vsock_diag_msg` in bytes.
@@ -89,7 +88,7 @@ impl Record for VsockResponseHeader {
     fn write_fields(&self, buffer: &mut [u8]) {
         let (start, rest) = buffer.split_at_mut(4);
         let (words, cookie) = rest.split_at_mut(20);
-        start.copy_from_slice(&[AF_VSOCK, self.kind, self.state, self.shutdown]);
+        write_bytes(&[AF_VSOCK, self.kind, self.state, self.shutdown], start);
         let numbers = [
             self.source_context,
             self.source_port,
@@ -97,23 +96,8 @@ impl Record for VsockResponseHeader {
             self.destination_port,
             self.inode,
         ];
-        LittleEndian::write_u32_into(&numbers, words);
-        LittleEndian::write_u64(cookie, self.cookie);
-    }
-
-    fn prove_fields_in_range(&self) {
-        let VsockResponseHeader {
-            kind: _a,
-            state: _b,
-            shutdown: _c,
-            source_context: _d,
-            source_port: _e,
-            destination_context: _f,
-            destination_port: _g,
-            inode: _h,
-            cookie: _,
-        } = *self;
-        prove_u64s_in_range(&[self.cookie]);
+        write_u32s(&numbers, words);
+        write_u64s(&[self.cookie], cookie);
     }
 
     ghost laws = { record_laws vsock_header vsock_header_sound };

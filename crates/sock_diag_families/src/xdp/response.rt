@@ -6,8 +6,7 @@ ghost use Rattle.sock_diag_families.specs.XdpResponseHeader.{xdp_header};
 ghost use Rattle.sock_diag_families.specs.laws.Record.{xdp_header_sound};
 
 use super::AF_XDP;
-use byteorder::{ByteOrder, LittleEndian};
-use netlink_core::fields::{u32s_at, u64s_at};
+use netlink_core::fields::{u32s_at, u64s_at, write_bytes, write_u32s, write_u64s};
 use netlink_core::{DecodeError, Exact, Record, RecordName};
 
 /// Size of `struct xdp_diag_msg` in bytes.
@@ -63,13 +62,9 @@ impl Record for XdpResponseHeader {
     fn write_fields(&self, buffer: &mut [u8]) {
         let (start, rest) = buffer.split_at_mut(4);
         let (inode, cookie) = rest.split_at_mut(4);
-        start.copy_from_slice(&[AF_XDP, self.kind, 0, 0]);
-        LittleEndian::write_u32(inode, self.inode);
-        LittleEndian::write_u64(cookie, self.cookie);
-    }
-
-    fn prove_fields_in_range(&self) {
-        let (_kind, _inode, _cookie) = (self.kind, self.inode, self.cookie);
+        write_bytes(&[AF_XDP, self.kind, 0, 0], start);
+        write_u32s(&[self.inode], inode);
+        write_u64s(&[self.cookie], cookie);
     }
 
     ghost laws = { record_laws xdp_header xdp_header_sound };
