@@ -219,21 +219,11 @@ pub(crate) fn emit_u32_pair(first: u32, second: u32, buffer: &mut [u8])
 
 /// Writes the numbers, four bytes each, little-endian, at the start of `buffer`, which is long
 /// enough. The bytes after them are unchanged.
-#[tactic(auto, using(crate::specs::laws::Number::length_numbers, crate::specs::laws::Number::numbers_prefix_length))]
+#[tactic(auto, using(crate::specs::laws::Number::length_numbers, crate::specs::laws::Number::numbers_prefix_length, crate::specs::laws::Number::each_number_below))]
 pub(crate) fn emit_numbers(numbers: &[u32], buffer: &mut [u8])
     requires { length (flat_map (little_bytes 4) numbers.now) ≤ length buffer.old }
-    ensures { HoldsAtStart (flat_map (little_bytes 4) numbers.now) buffer.old buffer.new }
+    ensures written { HoldsAtStart (flat_map (little_bytes 4) numbers.now) buffer.old buffer.new }
+    ensures in_range { AllByRecursion (λ n. n < 2 ^ 32) numbers.now }
 {
     LittleEndian::write_u32_into(numbers, &mut buffer[..4 * numbers.len()]);
 }
-
-/// Proof only: puts the range of the number in scope. No run-time effect.
-pub(crate) fn prove_byte_in_range(_byte: u8)
-    ensures { _byte < 256 }
-{}
-
-/// Proof only: puts the range of each number in scope. No run-time effect.
-#[tactic(auto, using(crate::specs::laws::Number::each_number_below))]
-pub(crate) fn prove_u32s_in_range(_words: &[u32])
-    ensures { AllByRecursion (λ n. n < 2 ^ 32) _words.now }
-{}

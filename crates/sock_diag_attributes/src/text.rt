@@ -7,13 +7,9 @@ ghost use Rattle.netlink_core.specs.Bytes.{HoldsAtStart, IsBytes};
 /// after them are unchanged.
 pub(crate) fn emit_text(text: &str, buffer: &mut [u8])
     requires { length (text.now ++ 0 ∷ []) ≤ length buffer.old }
-    ensures { HoldsAtStart (text.now ++ 0 ∷ []) buffer.old buffer.new }
+    ensures written { HoldsAtStart (text.now ++ 0 ∷ []) buffer.old buffer.new }
+    ensures in_range { IsUtf8 text.now × IsBytes text.now }
 {
     buffer[..text.len()].copy_from_slice(text.as_bytes());
     buffer[text.len()] = 0;
 }
-
-/// Proof only: puts in scope that the text is UTF-8. No run-time effect.
-pub(crate) fn prove_text_in_range(_text: &str)
-    ensures { IsUtf8 _text.now × IsBytes _text.now }
-{}

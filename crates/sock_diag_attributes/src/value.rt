@@ -4,10 +4,11 @@ ghost use Rattle.std.specs.Prelude.{◌≡◌, ◌≤◌, length};
 ghost use Rattle.sock_diag_attributes.specs.private.Value.{value_bytes, IsValueInRange};
 ghost use Rattle.netlink_core.specs.Bytes.{HoldsAtStart};
 
-use crate::numbers::{emit_numbers, emit_u32_pair, prove_byte_in_range, prove_u32s_in_range};
-use crate::text::{emit_text, prove_text_in_range};
+use crate::numbers::{emit_numbers, emit_u32_pair};
+use crate::text::emit_text;
 use crate::unix::nlas::NameView;
-use netlink_core::{Emitable, HasCodec, emit_u32, prove_bytes_in_range, prove_u32_in_range};
+use netlink_core::fields::write_bytes;
+use netlink_core::{Emitable, emit_u32};
 use sock_diag_values::inet::{LegacyMemInfo, MemInfo, TcpInfo};
 use sock_diag_values::unix::{MemInfo as UnixMemInfo, Vfs};
 
@@ -56,7 +57,8 @@ impl Value<'_> {
     #[inline(always)]
     pub(crate) fn emit(&self, buffer: &mut [u8])
         requires { length (value_bytes self.now) ≤ length buffer.old }
-        ensures { HoldsAtStart (value_bytes self.now) buffer.old buffer.new }
+        ensures written { HoldsAtStart (value_bytes self.now) buffer.old buffer.new }
+        ensures in_range { IsValueInRange self.now }
     {
         match self {
             Value::Byte(byte) => buffer[0] = *byte,
@@ -70,30 +72,7 @@ impl Value<'_> {
             Value::MemInfo(info) => info.emit(buffer),
             Value::UnixMemInfo(info) => info.emit(buffer),
             Value::Vfs(vfs) => vfs.emit(buffer),
-            Value::Bytes(bytes) => buffer[..bytes.len()].copy_from_slice(bytes),
-        }
-    }
-
-    /// Proof only: puts the range of each number in scope. No run-time effect.
-    pub(crate) fn prove_in_range(&self)
-        ensures { IsValueInRange self.now }
-    {
-        match self {
-            Value::Byte(byte) => prove_byte_in_range(*byte),
-            Value::Word(word) => prove_u32_in_range(*word),
-            Value::Pair(first, second) => {
-                prove_u32_in_range(*first);
-                prove_u32_in_range(*second);
-            }
-            Value::Numbers(numbers) => prove_u32s_in_range(numbers),
-            Value::Text(text) => prove_text_in_range(text),
-            Value::Name(name) => name.prove_in_range(),
-            Value::LegacyMemInfo(info) => info.prove_in_range(),
-            Value::TcpInfo(info) => info.prove_in_range(),
-            Value::MemInfo(info) => info.prove_in_range(),
-            Value::UnixMemInfo(info) => info.prove_in_range(),
-            Value::Vfs(vfs) => vfs.prove_in_range(),
-            Value::Bytes(bytes) => prove_bytes_in_range(bytes),
+            Value::Bytes(bytes) => write_bytes(bytes, &mut buffer[..bytes.len()]),
         }
     }
 }

@@ -23,10 +23,6 @@ impl HasCodec for Nla {
 
     ghost serialized_type = { λ _. 0 };
 
-    fn prove_in_range(&self) {
-        self.parts().1.prove_in_range();
-    }
-
     ghost eq_is_model = { inet_nlas_equal text_row default_nla_row _ _ string_bytes raw_attribute
         (λ _ _. refl) (λ _ _. refl) };
 
@@ -45,6 +41,8 @@ impl Wire for Nla {
     ghost bytes_by_codec = { λ _. refl };
 
     ghost writable_by_codec = { λ _. (λ h. h, λ h. h) };
+
+    ghost in_range_by_codec = { λ _ h. h };
 }
 
 impl WireNla for Nla {

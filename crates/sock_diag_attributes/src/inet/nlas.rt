@@ -81,6 +81,8 @@ impl<T: AsStr, O: OtherNla> Emitable for InetNla<T, O> {
     ghost writable = { λ v. FitsLengthField
         (encode_attribute inet_attribute_set (inet_nla_value T.text O.attribute v)) };
 
+    ghost in_range = { λ v. IsInRangeIn inet_attribute_set (inet_nla_value T.text O.attribute v) };
+
     fn is_writable(&self) -> bool {
         self.value_fits()
     }
@@ -299,6 +301,8 @@ impl<T: AsStr, O: OtherNla> NlaTrait for InetNla<T, O> {
 
     ghost attribute = { λ v. encode_attribute inet_attribute_set
         (inet_nla_value T.text O.attribute v) };
+
+    ghost in_range = { λ v. IsInRangeIn inet_attribute_set (inet_nla_value T.text O.attribute v) };
 
     fn value_len(&self) -> usize {
         self.parts().1.len()

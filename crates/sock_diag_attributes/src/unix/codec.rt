@@ -27,10 +27,6 @@ impl HasCodec for Nla {
 
     ghost serialized_type = { λ _. 0 };
 
-    fn prove_in_range(&self) {
-        self.parts().1.prove_in_range();
-    }
-
     ghost eq_is_model = { unix_nlas_equal name_row list_row default_nla_row _ _ _
         (socket_name_model vec_items) vec_items
         raw_attribute (same_names byte_list_row _ vec_items (λ _ _. refl)) (λ _ _. refl)
@@ -51,6 +47,8 @@ impl Wire for Nla {
     ghost bytes_by_codec = { λ _. refl };
 
     ghost writable_by_codec = { λ _. (λ h. h, λ h. h) };
+
+    ghost in_range_by_codec = { λ _ h. h };
 }
 
 impl WireNla for Nla {

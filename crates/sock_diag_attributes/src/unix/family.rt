@@ -43,11 +43,9 @@ impl FamilyNla for Nla {
         self.clone(alloc)
     }
 
-    fn prove_value_in_range(&self) {
-        self.prove_in_range();
-    }
-
     ghost attribute_by_model = { λ _. refl };
+
+    ghost in_range_by_model = { λ _ h. h };
 
     ghost eq_is_model = { same_nla };
 }

@@ -6,9 +6,9 @@ ghost use Rattle.netlink_core.specs.Bytes.{HoldsAtStart, IsBytes};
 ghost use Rattle.sock_diag_attributes.specs.Name.{read_name, name_bytes, name_codec};
 ghost use Rattle.sock_diag_attributes.specs.laws.Name.{HasNoZero, name_codec_laws};
 
+use netlink_core::fields::write_bytes;
 use netlink_core::{
-    CanonError, DecodeError, Emitable, HasCodec, Parseable, Readable, Wire, copy_list,
-    prove_bytes_in_range, write_new,
+    CanonError, DecodeError, Emitable, HasCodec, Parseable, Readable, Wire, copy_list, write_new,
 };
 use std::alloc::{AllocError, Global};
 
@@ -127,30 +127,23 @@ impl<'a> NameView<'a> {
     }
 
     // Writes the name with its zero at the start of `buffer`. The bytes after it are unchanged.
+    #[tactic(auto, using(crate::specs::laws::Name::path_bytes_in_range, crate::specs::laws::Name::address_bytes_in_range))]
     pub(crate) fn emit_name(&self, buffer: &mut [u8])
-        requires { length (name_bytes (name_view_model self.now)) ≤ length buffer.old }
-        ensures { HoldsAtStart (name_bytes (name_view_model self.now)) buffer.old buffer.new }
+        requires { length (name_bytes (name_view_model self.now))
+            ≤ length buffer.old }
+        ensures written { HoldsAtStart (name_bytes (name_view_model self.now))
+            buffer.old buffer.new }
+        ensures in_range { IsBytes (name_bytes (name_view_model self.now)) }
     {
         match self {
             NameView::Pathname(path) => {
-                buffer[..path.len()].copy_from_slice(path);
+                write_bytes(path, &mut buffer[..path.len()]);
                 buffer[path.len()] = 0;
             }
             NameView::Abstract(address) => {
                 buffer[0] = 0;
-                buffer[1..1 + address.len()].copy_from_slice(address);
+                write_bytes(address, &mut buffer[1..1 + address.len()]);
             }
-        }
-    }
-
-    // Proof only: puts the range of the bytes in scope. No run-time effect.
-    #[tactic(auto, using(crate::specs::laws::Name::path_bytes_in_range, crate::specs::laws::Name::address_bytes_in_range))]
-    pub(crate) fn prove_in_range(&self)
-        ensures { IsBytes (name_bytes (socket_name_model (λ b. b.now) self.now)) }
-    {
-        match self {
-            NameView::Pathname(path) => prove_bytes_in_range(path),
-            NameView::Abstract(address) => prove_bytes_in_range(address),
         }
     }
 
@@ -190,6 +183,8 @@ impl Emitable for UnixDiagName {
 
     ghost writable = { λ v. length (name_bytes (socket_name_model vec_items v)) ≤ 4294967295 };
 
+    ghost in_range = { λ v. IsBytes (name_bytes (socket_name_model vec_items v)) };
+
     fn is_writable(&self) -> bool {
         self.view().len() <= u32::MAX as usize
     }
@@ -210,6 +205,8 @@ impl Emitable for NameView<'_> {
     ghost bytes = { λ v. name_bytes (name_view_model v) };
 
     ghost writable = { λ v. length (name_bytes (name_view_model v)) ≤ 4294967295 };
+
+    ghost in_range = { λ v. IsBytes (name_bytes (name_view_model v)) };
 
     fn is_writable(&self) -> bool {
         self.len() <= u32::MAX as usize
@@ -237,10 +234,6 @@ impl HasCodec for UnixDiagName {
 
     ghost serialized_type = { λ _. 0 };
 
-    fn prove_in_range(&self) {
-        self.view().prove_in_range();
-    }
-
     ghost eq_is_model = { names_equal byte_list_row _ vec_items (λ _ _. refl) };
 
     ghost laws = { name_codec_laws };
@@ -258,6 +251,8 @@ impl Wire for UnixDiagName {
     ghost bytes_by_codec = { λ _. refl };
 
     ghost writable_by_codec = { λ _. (λ h. h, λ h. h) };
+
+    ghost in_range_by_codec = { λ _ h. h };
 }
 
 // Returns the index of the first zero. Usually there is none, which `contains` finds out faster

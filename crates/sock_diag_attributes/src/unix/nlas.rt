@@ -75,6 +75,9 @@ impl<N: BorrowName, L: BorrowNumbers, O: OtherNla> Emitable for UnixNla<N, L, O>
     ghost writable = { λ v. FitsLengthField
         (encode_attribute unix_attribute_set (unix_nla_value N.name L.numbers O.attribute v)) };
 
+    ghost in_range = { λ v. IsInRangeIn unix_attribute_set
+        (unix_nla_value N.name L.numbers O.attribute v) };
+
     fn is_writable(&self) -> bool {
         self.value_fits()
     }
@@ -274,6 +277,9 @@ impl<N: BorrowName, L: BorrowNumbers, O: OtherNla> NlaTrait for UnixNla<N, L, O>
     ghost use Rattle.sock_diag_attributes.specs.UnixModel.{unix_nla_value};
 
     ghost attribute = { λ v. encode_attribute unix_attribute_set
+        (unix_nla_value N.name L.numbers O.attribute v) };
+
+    ghost in_range = { λ v. IsInRangeIn unix_attribute_set
         (unix_nla_value N.name L.numbers O.attribute v) };
 
     fn value_len(&self) -> usize {
