@@ -2,13 +2,14 @@
 
 ghost use Rattle.std.specs.Prelude.{◌≡◌, ◌≤◌, ◌↔◌, length, map, Bool, IsSome, IfSome, IfErr, IfOk};
 ghost use Rattle.std.specs.Prelude.{OnOk, SomeIff};
+ghost use Rattle.std.specs.List.{AllByRecursion};
 ghost use lib.Pointwise.{pointwise};
 ghost use Rattle.attribute_lists.specs.AttributesIn.{HasNoAttributeError, decoded_in};
 ghost use Rattle.netlink_core.specs.Attribute.{HasAttributeError};
 ghost use Rattle.netlink_core.specs.Bytes.{HoldsAtStart};
 ghost use Rattle.netlink_core.specs.declared.error.DecodeError.TheVariants.{Memory};
 ghost use Rattle.netlink_core.specs.AttributeSet.{AttributeValue, decode_attribute};
-ghost use Rattle.netlink_core.specs.AttributeSet.{encode_attribute};
+ghost use Rattle.netlink_core.specs.AttributeSet.{encode_attribute, IsInRangeIn};
 ghost use Rattle.netlink_core.specs.private.Response.{header_and_attributes, HasWritableLengths};
 
 use attribute_lists::{
@@ -90,9 +91,12 @@ pub(crate) fn emit_reply<H: Emitable, T: FamilyNla>(header: &H, nlas: &[T], buff
         (map (encode_attribute T.attribute_set) (map T.model nlas.now)) }
     requires room { length (header_and_attributes (H.bytes header.now)
         (map (encode_attribute T.attribute_set) (map T.model nlas.now))) ≤ length buffer.old }
-    ensures { HoldsAtStart (header_and_attributes (H.bytes header.now)
+    ensures written { HoldsAtStart (header_and_attributes (H.bytes header.now)
         (map (encode_attribute T.attribute_set)
         (map T.model nlas.now))) buffer.old buffer.new }
+    ensures header_in_range { H.in_range header.now }
+    ensures attributes_in_range { AllByRecursion (IsInRangeIn T.attribute_set)
+        (map T.model nlas.now) }
 {
     let (front, rest) = buffer.split_at_mut(header.buffer_len());
     header.emit(front);

@@ -13,7 +13,7 @@ ghost use Rattle.attribute_lists.specs.AttributesIn.{HasNoAttributeError, reply_
 
 use crate::reply::{emit_reply, fitting_reply_len, reply_len, without_memory};
 use crate::view::{ReplyHeader, ReplyView};
-use attribute_lists::{copy_nlas, own_nlas, prove_nlas_in_range};
+use attribute_lists::{copy_nlas, own_nlas};
 use netlink_core::{
     CanonError, DecodeError, Emitable, Exact, FamilyNla, HasCodec, Parseable, Readable, Wire,
 };
@@ -38,12 +38,8 @@ pub trait ReplyOwned: ReplyHeader + Exact + Emitable {
     /// The name of the owned reply, as `Debug` prints it.
     const REPLY: &'static str;
 
-    /// Proof only: puts the range of each field in scope. No run-time effect.
-    fn prove_header_in_range(&self)
-        ensures { Self.reply.header.is_in_range (Self.header_model self.now) };
-
     // `==` is true if and only if the models of the headers are equal. A header serializes to the
-    // bytes of its model, and is always writable.
+    // bytes of its model, and is always writable. The model of a header in range is in range.
     ghost eq_is_model: { (v w : Self) → IsTrue (Self.PartialEq.eq v w)
         ↔ (Self.ReplyHeader.header_model v ≡ Self.ReplyHeader.header_model w) };
 
@@ -51,6 +47,9 @@ pub trait ReplyOwned: ReplyHeader + Exact + Emitable {
         ≡ Self.ReplyHeader.reply.header.bytes (Self.ReplyHeader.header_model header) };
 
     ghost always_writable: { (header : Self) → Self.Emitable.writable header };
+
+    ghost in_range_by_codec: { (header : Self) → Self.Emitable.in_range header
+        → Self.ReplyHeader.reply.header.is_in_range (Self.ReplyHeader.header_model header) };
 
     // How the attribute set of the owned attributes relates to the reply's attribute set: bytes
     // with an error have the same error, bytes without an error have none, the number of values is
@@ -240,13 +239,17 @@ impl<H: ReplyOwned> Emitable for Reply<H, H::Nla> {
     ghost use Rattle.sock_diag_replies.specs.ResponseModel.{response_model};
 
     // `response_bytes reply v`: the bytes of the reply `v`, its header and its attributes with
-    // their padding. `is_writable v`: it is writable.
+    // their padding. `is_writable v`: it is writable. `is_in_range v`: each number fits its field.
     ghost bytes = { λ v. response_bytes
         (record (H.reply) { attribute_set = H.Nla.FamilyNla.attribute_set })
         (response_model H.header_model H.Nla.FamilyNla.model v) };
 
     ghost writable = { λ v. (response_codec
         (record (H.reply) { attribute_set = H.Nla.FamilyNla.attribute_set })).is_writable
+        (response_model H.header_model H.Nla.FamilyNla.model v) };
+
+    ghost in_range = { λ v. (response_codec
+        (record (H.reply) { attribute_set = H.Nla.FamilyNla.attribute_set })).is_in_range
         (response_model H.header_model H.Nla.FamilyNla.model v) };
 
     fn is_writable(&self) -> bool {
@@ -279,11 +282,6 @@ impl<H: ReplyOwned> HasCodec for Reply<H, H::Nla> {
 
     ghost serialized_type = { λ _. 0 };
 
-    fn prove_in_range(&self) {
-        self.header.prove_header_in_range();
-        prove_nlas_in_range(self.nlas.as_slice());
-    }
-
     ghost eq_is_model = { responses_equal H.header_model H.Nla.FamilyNla.model
         H.ReplyOwned.eq_is_model
         H.Nla.FamilyNla.eq_is_model };
@@ -315,6 +313,8 @@ impl<H: ReplyOwned> Wire for Reply<H, H::Nla> {
     ghost bytes_by_codec = { λ _. refl };
 
     ghost writable_by_codec = { λ _. (λ h. h, λ h. h) };
+
+    ghost in_range_by_codec = { λ _ h. h };
 }
 
 // Returns the canonical form of the header and the attributes after it, which has this length.

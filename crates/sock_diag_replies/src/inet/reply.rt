@@ -98,15 +98,13 @@ impl ReplyOwned for InetResponseHeader {
 
     const REPLY: &'static str = "InetResponse";
 
-    fn prove_header_in_range(&self) {
-        self.prove_in_range();
-    }
-
     ghost eq_is_model = { exact_header.0 };
 
     ghost bytes_by_codec = { λ _. refl };
 
     ghost always_writable = { λ _. tt };
+
+    ghost in_range_by_codec = { λ _ h. h };
 
     ghost same = { (λ _ _ h. h, λ _ h. h, λ _. refl, λ _. refl) };
 

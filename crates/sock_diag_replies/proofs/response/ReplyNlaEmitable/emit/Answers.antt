@@ -13,7 +13,13 @@ emit_reply-requires-clause-room g c =
     rw (c.as_slice.ensures, g.met.H.ReplyOwned.bytes_by_codec c.args.self.now.header)
     c.requires.room
 
-pub returns : goal.returns
-returns g c =
+pub returns-clause-written : goal.returns-clause-written
+returns-clause-written g c =
     rw (c.as_slice.ensures, g.met.H.ReplyOwned.bytes_by_codec c.args.self.now.header)
-    at c.emit_reply.ensures
+    at c.emit_reply.ensures.written
+
+pub returns-clause-in_range : goal.returns-clause-in_range
+returns-clause-in_range g c = (
+  g.met.H.ReplyOwned.in_range_by_codec _ c.emit_reply.ensures.header_in_range,
+  rw c.as_slice.ensures at c.emit_reply.ensures.attributes_in_range,
+)
