@@ -26,6 +26,13 @@ abbrev pub IsRequestAttributeInRange : RequestAttribute → Type 0
 IsRequestAttributeInRange (Program program) = length program.now ≤ 65531
 IsRequestAttributeInRange (Protocol protocol) = protocol < 2 ^ 32
 
+-- `IsRequestInRange h request attributes`: each number of the header that is serialized, of the
+-- record and of the attributes fits its field, and the programs fit.
+abbrev pub IsRequestInRange : NetlinkHeader → InetRequest → List RequestAttribute → Type 0
+IsRequestInRange h request attributes =
+    FitFields header_fields (header_values (serialized_request_header h attributes))
+    × IsInRange inet_request request × AllByRecursion IsRequestAttributeInRange attributes
+
 -- The conditions under which a request round-trips, other than on the message type: its numbers are
 -- in range, it is in normal form, and its lengths fit.
 pub record IsRoundTrippingRequest (h : NetlinkHeader) (request : InetRequest)

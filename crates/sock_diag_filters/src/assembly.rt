@@ -1,13 +1,14 @@
 //! Assembly of filters to programs: the bytecode of `INET_DIAG_REQ_BYTECODE`.
 
-ghost use Rattle.std.specs.Prelude.{◌≡◌, ◌+◌, ◌<◌, ◌≤◌, ℕ, List, Bool, length, IfOk, IfErr};
+ghost use Rattle.std.specs.Prelude.{◌≡◌, ◌+◌, ◌<◌, ◌≤◌, ℕ, List, Bool, length, IfOk, IfErr, OnOk};
 ghost use Rattle.sock_diag_filters.specs.Audit.{IsAudited};
 ghost use Rattle.sock_diag_filters.specs.private.Assembly.{operation_header_bytes, operation};
 ghost use Rattle.sock_diag_filters.specs.private.Assembly.{program_of};
 ghost use Rattle.sock_diag_filters.specs.Filters.{meaning, program_size};
 ghost use Rattle.sock_diag_filters.specs.Conditions.{arguments, code_of};
 ghost use Rattle.sock_diag_filters.specs.Run.{Runs};
-ghost use Rattle.sock_diag_filters.specs.Sockets.{Socket, kernel_evaluates, meets};
+ghost use Rattle.sock_diag_filters.specs.Sockets.{AreConditionsInRange, IsConditionInRange, Socket};
+ghost use Rattle.sock_diag_filters.specs.Sockets.{kernel_evaluates, meets};
 ghost use Rattle.sock_diag_filters.specs.declared.assembly.AssembleError.TheVariants.{Memory};
 ghost use Rattle.sock_diag_filters.specs.Assembled.{IsAssembleError};
 
@@ -68,11 +69,13 @@ pub fn assemble(alloc: Global, filter: &Filter) -> Result<Vec<u8>, AssembleError
     // conditions the socket meets.
     ensures selects_by_filter { IfOk result (λ program. (socket : Socket)
         → Runs (kernel_evaluates socket) program.items (meaning (meets socket) filter.now)) }
+    // `AreConditionsInRange filter`: each number of each condition fits its Rust type. This is so
+    // for all Rust values; it is stated for `laws::programs_select_by_filter`.
+    ensures in_range { OnOk result (AreConditionsInRange filter.now) }
     // `IsAssembleError filter e`: if `e` is `TooLong`, the program would have more than 65,531
     // bytes; if it is `Memory`, at most 65,531.
     ensures refused { IfErr result (λ e. IsAssembleError filter.now e) }
 {
-    filter.prove_in_range();
     let Some(len) = filter.len_within(MAX_PROGRAM) else {
         return Err(AssembleError::TooLong);
     };
@@ -87,7 +90,8 @@ fn write_program(filter: &Filter, far: usize, buffer: &mut [u8])
     requires whole { length buffer.old ≡ program_size filter.now }
     requires near { program_size filter.now + far ≤ 65535 }
     // `program_of filter far`: this program.
-    ensures { buffer.new ≡ program_of filter.now far }
+    ensures written { buffer.new ≡ program_of filter.now far }
+    ensures in_range { AreConditionsInRange filter.now }
 {
     match filter {
         Filter::Condition(condition) => write_condition(*condition, far, buffer),
@@ -116,7 +120,8 @@ fn write_program(filter: &Filter, far: usize, buffer: &mut [u8])
 fn write_condition(condition: Condition, far: usize, buffer: &mut [u8])
     requires whole { length buffer.old ≡ 4 + length (arguments condition) }
     requires near { 4 + length (arguments condition) + far ≤ 65535 }
-    ensures { buffer.new ≡ operation (code_of condition) (arguments condition) far }
+    ensures written { buffer.new ≡ operation (code_of condition) (arguments condition) far }
+    ensures in_range { IsConditionInRange condition }
 {
     let (front, behind) = buffer.split_at_mut(4);
     condition.write_arguments(behind);

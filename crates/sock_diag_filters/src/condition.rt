@@ -1,6 +1,6 @@
 //! Conditions of a filter on a socket.
 
-ghost use Rattle.std.specs.Prelude.{◌≡◌, ◌*◌, ◌+◌, ◌≤◌, length};
+ghost use Rattle.std.specs.Prelude.{◌≡◌, ◌*◌, ◌+◌, ◌≤◌, length, unwrap_or};
 ghost use Rattle.std.specs.declared.net.ip_addr.IpAddr.TheVariants.{V6};
 ghost use Rattle.sock_diag_filters.specs.Prefixes.{bits_of, family_of, octets_of, port_bytes};
 
@@ -131,7 +131,8 @@ impl Condition {
     // Writes the operation's arguments to a buffer of their length.
     pub(crate) fn write_arguments(self, buffer: &mut [u8])
         requires { length buffer.old ≡ length (arguments self) }
-        ensures { buffer.new ≡ arguments self }
+        ensures written { buffer.new ≡ arguments self }
+        ensures in_range { IsConditionInRange self }
     {
         match self {
             Condition::SourcePort(_, port) | Condition::DestinationPort(_, port) => {
@@ -141,23 +142,6 @@ impl Condition {
             Condition::Interface(number) => LittleEndian::write_u32(buffer, number),
             Condition::Mark { mark, mask } => LittleEndian::write_u32_into(&[mark, mask], buffer),
             Condition::Cgroup(number) => LittleEndian::write_u64(buffer, number),
-            Condition::AutoBound => {}
-        }
-    }
-
-    // Proof only: puts the range of each number in scope. No run-time effect.
-    pub(crate) fn prove_in_range(self)
-        ensures { IsConditionInRange self }
-    {
-        match self {
-            Condition::SourcePort(_, _port) | Condition::DestinationPort(_, _port) => {}
-            Condition::Source(host) | Condition::Destination(host) => host.prove_in_range(),
-            Condition::Interface(_number) => {}
-            Condition::Mark {
-                mark: _mark,
-                mask: _mask,
-            } => {}
-            Condition::Cgroup(_number) => {}
             Condition::AutoBound => {}
         }
     }
@@ -188,14 +172,26 @@ impl Host {
         }
     }
 
+    // Returns the port as it is serialized: `u32::MAX` if it is not compared.
+    fn port_number(self) -> u32
+        ensures number { result ≡ unwrap_or self.port 0xffffffff }
+        ensures in_range { IsPort self.port }
+    {
+        match self.port {
+            Some(port) => u32::from(port),
+            None => u32::MAX,
+        }
+    }
+
     // Writes `struct inet_diag_hostcond` to a buffer of its length.
     fn write(self, buffer: &mut [u8])
         requires { length buffer.old ≡ length (host_bytes self) }
-        ensures { buffer.new ≡ host_bytes self }
+        ensures written { buffer.new ≡ host_bytes self }
+        ensures in_range { IsPort self.port }
     {
         let (front, rest) = buffer.split_at_mut(4);
         let (port, address) = rest.split_at_mut(4);
-        LittleEndian::write_u32(port, self.port.map_or(u32::MAX, u32::from));
+        LittleEndian::write_u32(port, self.port_number());
         match self.prefix {
             None => front.fill(0),
             Some(prefix) => {
@@ -203,13 +199,6 @@ impl Host {
                 write_address(prefix.address, address);
             }
         }
-    }
-
-    // Proof only: puts the range of the port in scope. No run-time effect.
-    fn prove_in_range(self)
-        ensures { IsPort self.port }
-    {
-        if let Some(_port) = self.port {}
     }
 }
 

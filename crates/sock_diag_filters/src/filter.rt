@@ -19,7 +19,6 @@ pub enum Filter<'a> {
 
 impl Filter<'_> {
     ghost use Rattle.sock_diag_filters.specs.Filters.{program_size};
-    ghost use Rattle.sock_diag_filters.specs.Sockets.{AreConditionsInRange};
 
     /// Returns the length of the filter's program in bytes, or `None` if it is more than `most`.
     pub fn len_within(&self, most: usize) -> Option<usize>
@@ -45,21 +44,6 @@ impl Filter<'_> {
                 let jump = within(4, most - before)?;
                 Some(before + jump)
             }
-        }
-    }
-
-    /// Proof only: puts the range of each number in scope. No run-time effect.
-    pub fn prove_in_range(&self)
-        // `AreConditionsInRange filter`: each number of each condition fits its Rust type.
-        ensures { AreConditionsInRange self.now }
-    {
-        match self {
-            Filter::Condition(condition) => condition.prove_in_range(),
-            Filter::And(first, second) | Filter::Or(first, second) => {
-                first.prove_in_range();
-                second.prove_in_range();
-            }
-            Filter::Not(filter) => filter.prove_in_range(),
         }
     }
 

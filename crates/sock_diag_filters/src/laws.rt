@@ -102,8 +102,8 @@ pub fn any_request_round_trips()
 /// `kernel_evaluates`, which the kernel computes from an operation's code and arguments, and under
 /// `meets`, the documented meaning of the conditions. By the contract of `assemble`, a program
 /// therefore selects a socket if and only if the socket meets its filter. The premise is that each
-/// number of the filter fits its Rust type. For a `Filter` value, `Filter::prove_in_range` proves
-/// it.
+/// number of the filter fits its Rust type. For a `Filter` value, `assemble` promises it (clause
+/// `in_range`).
 #[tactic(auto, using(crate::proofs::Finding::evaluation_is_meaning))]
 pub fn programs_select_by_filter()
     // `meaning met filter`: whether the filter selects a socket, if `met` says which conditions the

@@ -2,11 +2,13 @@
 
 ghost use Rattle.std.specs.Prelude.{◌≡◌, ◌+◌, ◌++◌, length, map};
 ghost use Rattle.netlink_core.specs.Attribute.{AreWritableWithin};
-ghost use Rattle.netlink_core.specs.Header.{header_bytes};
+ghost use Rattle.netlink_core.specs.Header.{header_bytes, header_fields, header_values};
+ghost use Rattle.netlink_core.specs.Table.{FitFields};
 ghost use Rattle.sock_diag_filters.specs.Requests.{request_attribute, header_with_length};
 ghost use Rattle.sock_diag_filters.specs.Requests.{request_bytes};
 
 use byteorder::{ByteOrder, LittleEndian};
+use netlink_core::fields::{write_u16s, write_u32s};
 use netlink_core::{
     Emitable, NETLINK_HEADER_LEN, NetlinkHeader, Nla, emit_nlas, nlas_len, nlas_len_within,
 };
@@ -33,7 +35,12 @@ pub enum RequestAttribute<'a> {
 }
 
 impl Nla for RequestAttribute<'_> {
+    ghost use Rattle.sock_diag_filters.specs.ReadBack.{IsRequestAttributeInRange};
+
     ghost attribute = { request_attribute };
+
+    // A program has at most 65,531 bytes, and a protocol is below 2^32.
+    ghost in_range = { IsRequestAttributeInRange };
 
     fn value_len(&self) -> usize {
         match self {
@@ -73,6 +80,8 @@ pub struct RequestWithAttributes<'a> {
 }
 
 impl Emitable for RequestWithAttributes<'_> {
+    ghost use Rattle.sock_diag_filters.specs.ReadBack.{IsRequestInRange};
+
     // `request_bytes header request attributes`: the header with the length of the message, the
     // request, and the attributes with their padding.
     ghost bytes = { λ r. request_bytes r.header r.request
@@ -82,6 +91,10 @@ impl Emitable for RequestWithAttributes<'_> {
     // with headers and paddings have at most `limit` bytes. 4,294,967,223 is 2^32 - 1 - 72: the
     // largest length of a message, less the bytes before its attributes.
     ghost writable = { λ r. AreWritableWithin (map request_attribute r.attributes.now) 4294967223 };
+
+    // `IsRequestInRange header request attributes`: each number of the header that is serialized,
+    // of the request and of the attributes fits its field.
+    ghost in_range = { λ r. IsRequestInRange r.header r.request r.attributes.now };
 
     /// Returns whether each program has at most 65,531 bytes, and the length of the message fits
     /// the length field of its header.
@@ -105,7 +118,11 @@ impl Emitable for RequestWithAttributes<'_> {
 fn write_front<R: Emitable>(header: &NetlinkHeader, len: u32, value: &R, front: &mut [u8])
     requires writable { R.writable value.now }
     requires whole { length front.old ≡ 16 + length (R.bytes value.now) }
-    ensures { front.new ≡ header_bytes (header_with_length header.now len) ++ R.bytes value.now }
+    ensures written { front.new
+        ≡ header_bytes (header_with_length header.now len) ++ R.bytes value.now }
+    ensures header_in_range { FitFields header_fields
+        (header_values (header_with_length header.now len)) }
+    ensures in_range { R.in_range value.now }
 {
     let (first, behind) = front.split_at_mut(NETLINK_HEADER_LEN);
     write_header(header, len, first);
@@ -116,7 +133,8 @@ fn write_front<R: Emitable>(header: &NetlinkHeader, len: u32, value: &R, front: 
 fn write_all<R: Emitable>(value: &R, buffer: &mut [u8])
     requires writable { R.writable value.now }
     requires whole { length buffer.old ≡ length (R.bytes value.now) }
-    ensures { buffer.new ≡ R.bytes value.now }
+    ensures written { buffer.new ≡ R.bytes value.now }
+    ensures in_range { R.in_range value.now }
 {
     value.emit(buffer);
 }
@@ -124,11 +142,12 @@ fn write_all<R: Emitable>(value: &R, buffer: &mut [u8])
 // Serializes the header, with the length `len`, to a buffer of 16 bytes.
 fn write_header(header: &NetlinkHeader, len: u32, buffer: &mut [u8])
     requires { length buffer.old ≡ 16 }
-    ensures { buffer.new ≡ header_bytes (header_with_length header.now len) }
+    ensures written { buffer.new ≡ header_bytes (header_with_length header.now len) }
+    ensures in_range { FitFields header_fields (header_values (header_with_length header.now len)) }
 {
     let (first, rest) = buffer.split_at_mut(4);
     let (kind, numbers) = rest.split_at_mut(4);
-    LittleEndian::write_u32_into(&[len], first);
-    LittleEndian::write_u16_into(&[header.message_type, header.flags], kind);
-    LittleEndian::write_u32_into(&[header.sequence_number, header.port_number], numbers);
+    write_u32s(&[len], first);
+    write_u16s(&[header.message_type, header.flags], kind);
+    write_u32s(&[header.sequence_number, header.port_number], numbers);
 }

@@ -26,7 +26,7 @@ returns-clause-audited c =
       filled c.in_ok-program.program.len,
       program_of,
       program_audited,
-      c.write_program.ensures,
+      c.write_program.ensures.written,
     )
 
 pub returns-clause-runs : goal.returns-clause-runs
@@ -38,11 +38,11 @@ returns-clause-runs c = λ found.
     let all : c.in_ok-program.program.len ≡ c.in-Some.len = search rules in
     let wants = meaning (λ (d : Condition). found (code_of d) (arguments d)) filter in
     subst (λ (l : List ℕ). Runs found l wants) (filled c.in_ok-program.program.len
-    (program_of filter 4) _ _ c.write_program.ensures (omega arith))
+    (program_of filter 4) _ _ c.write_program.ensures.written (omega arith))
     (program_verdict_is_meaning found filter short)
 
 pub returns-clause-selects_by_filter : goal.returns-clause-selects_by_filter
 returns-clause-selects_by_filter c = λ socket.
     subst (Runs (kernel_evaluates socket) _)
-    (evaluation_is_meaning socket c.args.filter.now c.prove_in_range.ensures)
+    (evaluation_is_meaning socket c.args.filter.now c.write_program.ensures.in_range)
     (returns-clause-runs c (kernel_evaluates socket))

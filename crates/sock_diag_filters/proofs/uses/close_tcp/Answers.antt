@@ -15,7 +15,7 @@ pub returns-clause-written : goal.returns-clause-written
 returns-clause-written c =
     let states : c.from_bits_retain.result.0 ≡ 0xffffffff = search rules in
     let written : List ℕ = request_bytes c.header.result c.tcp.result [] in
-    c.emit.ensures
+    c.emit.ensures.written
     ∙ ap (λ (n : ℕ). written ++ drop n (replicate 72 0))
     (request_message_length c.header.result c.tcp.result [])
     ∙ append-nil written

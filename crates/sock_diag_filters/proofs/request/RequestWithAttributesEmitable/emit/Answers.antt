@@ -27,10 +27,10 @@ pub emit_nlas-requires-clause-room : goal.emit_nlas-requires-clause-room
 emit_nlas-requires-clause-room c =
     grind (arith, common_steps, request_message_length)
 
-pub returns : goal.returns
-returns c =
+pub returns-clause-written : goal.returns-clause-written
+returns-clause-written c =
     let request = c.args.self.now in
     message_parts_are_written request.header request.request
     (map request_attribute request.attributes.now) _ _ _ _ _
-    c.buffer_len-len.ensures c.write_front.ensures c.emit_nlas.ensures
+    c.buffer_len-len.ensures c.write_front.ensures.written c.emit_nlas.ensures.written
     c.split_at_mut-front.ensures.back
