@@ -37,6 +37,8 @@ impl Emitable for SockDiagMessage {
 
     ghost writable = { λ v. message_codec.is_writable (message_model v) };
 
+    ghost in_range = { λ v. message_codec.is_in_range (message_model v) };
+
     fn is_writable(&self) -> bool {
         with_inner!(self, inner => inner.is_writable())
     }
@@ -84,10 +86,6 @@ impl HasCodec for SockDiagMessage {
 
     ghost serialized_type = { λ _. 20 };
 
-    fn prove_in_range(&self) {
-        with_inner!(self, inner => inner.prove_in_range())
-    }
-
     ghost eq_is_model = { message_equal };
 
     ghost laws = { message_laws };
@@ -103,10 +101,6 @@ impl HasCodec for SockDiagDestroy {
     ghost model = { λ destroy. message_model destroy.0 };
 
     ghost serialized_type = { λ _. 21 };
-
-    fn prove_in_range(&self) {
-        self.0.prove_in_range();
-    }
 
     ghost eq_is_model = { λ v w. message_equal v.0 w.0 };
 

@@ -239,6 +239,8 @@ impl Wire for SockDiagMessage {
     ghost bytes_by_codec = { λ v. refl };
 
     ghost writable_by_codec = { λ v. (λ h. h, λ h. h) };
+
+    ghost in_range_by_codec = { λ _ h. h };
 }
 
 impl NetlinkSerializable for SockDiagMessage {

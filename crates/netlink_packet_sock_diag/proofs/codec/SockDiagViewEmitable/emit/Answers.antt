@@ -14,8 +14,9 @@ emit-requires-in-UnixResponse-clause-writable c =
 pub emit-requires-in-UnixResponse-clause-room : goal.emit-requires-in-UnixResponse-clause-room
 emit-requires-in-UnixResponse-clause-room c = rw c.in-UnixResponse.is at c.requires.room
 
-pub returns-in-InetResponse : goal.returns-in-InetResponse
-returns-in-InetResponse c = rw c.in-InetResponse.is c.emit.ensures
+pub returns-in-InetResponse-clause-written : goal.returns-in-InetResponse-clause-written
+returns-in-InetResponse-clause-written c = rw c.in-InetResponse.is c.emit.ensures.written
 
-pub returns-in-UnixResponse : goal.returns-in-UnixResponse
-returns-in-UnixResponse c = rw c.in-UnixResponse.is c.emit-in-UnixResponse.ensures
+pub returns-in-UnixResponse-clause-written : goal.returns-in-UnixResponse-clause-written
+returns-in-UnixResponse-clause-written c =
+    rw c.in-UnixResponse.is c.emit-in-UnixResponse.ensures.written
