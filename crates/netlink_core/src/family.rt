@@ -70,7 +70,7 @@ pub trait FamilyNla: Nla + PartialEq + MadeWith<Global> + Drop + Sized {
         ensures equal { IfOk result (λ copy. model copy ≡ model self.now) }
         ensures needs_no_memory { NeedsNoMemoryIn attribute_set (model self.now) → IsOk result };
 
-    // An attribute serializes as what it decodes to, and `==` compares what it decodes to.
+    // An attribute serializes as what it decodes to.
     ghost attribute_by_model: { (nla : Self)
         → Self.Nla.attribute nla ≡ encode_attribute attribute_set (model nla) };
 
@@ -79,5 +79,6 @@ pub trait FamilyNla: Nla + PartialEq + MadeWith<Global> + Drop + Sized {
     ghost in_range_by_model: { (nla : Self) → Self.Nla.in_range nla
         → IsInRangeIn attribute_set (model nla) };
 
+    // `==` compares what the attributes decode to.
     ghost eq_is_model: { (v w : Self) → IsTrue (Self.PartialEq.eq v w) ↔ (model v ≡ model w) };
 }

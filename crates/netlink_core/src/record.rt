@@ -206,8 +206,9 @@ impl<T, const N: usize> RecordBuffer<T, N> {
 }
 
 impl<T: Fills<N>, const N: usize> From<&T> for RecordBuffer<T, N> {
-    // The buffer contains the bytes that the record serializes to.
-    ghost from_gives = { λ value buffer. buffer ≡ record_bytes T.layout value.now };
+    // The buffer contains the bytes that the record serializes to, and the record is in range.
+    ghost from_gives = { λ value buffer. (buffer ≡ record_bytes T.layout value.now)
+        × IsInRange T.layout value.now };
 
     fn from(value: &T) -> Self {
         let mut bytes = [0; N];

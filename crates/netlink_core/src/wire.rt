@@ -1,6 +1,6 @@
 //! Codecs: a parser and a serializer, with the properties that relate them.
 
-ghost use Rattle.std.specs.Prelude.{◌≡◌, ◌≢◌, ◌↔◌, ℕ, List, IfOk, IfErr, IsTrue, refl};
+ghost use Rattle.std.specs.Prelude.{◌≡◌, ◌≢◌, ◌↔◌, ℕ, List, IfOk, IfErr, OnOk, IsTrue, refl};
 ghost use Rattle.std.proofs.Common.{sym, ap, ◌∙◌, subst};
 ghost use Rattle.netlink_core.specs.Bytes.{IsBytes};
 ghost use Rattle.netlink_core.specs.Canonical.{CanonicalFails, HasCanonicalForm};
@@ -154,7 +154,7 @@ pub trait Wire: HasCodec + Readable + Emitable {
     ghost writable_by_codec: { (v : Self) → (Self.writable v
         ↔ Self.codec.is_writable (Self.model v)) };
 
-    // A value that is in range for `Emitable` is in range by the codec.
+    // A value that is in range for `Emitable` is in range by the codec, as the laws require.
     ghost in_range_by_codec: { (v : Self) → Self.in_range v
         → Self.codec.is_in_range (Self.model v) };
 }
@@ -163,6 +163,9 @@ pub trait Wire: HasCodec + Readable + Emitable {
 /// not writable, and with `Memory` only if it is.
 pub fn write_new<T: Emitable>(alloc: Global, value: &T) -> Result<Vec<u8>, CanonError>
     ensures written { IfOk result (λ c. T.writable value.now × (c.items ≡ T.bytes value.now)) }
+    // Each number of the value fits its field. This is so for all Rust values; it is stated for the
+    // laws.
+    ensures in_range { OnOk result (T.in_range value.now) }
     // CanonicalFails parses rejects is_writable error: why nothing is returned. Here the only value
     // is this one (`parses`), and there are no decode errors (`rejects`).
     ensures err { IfErr result (CanonicalFails (λ v. v ≡ value.now) (λ error. ⊥) T.writable) }

@@ -3,7 +3,7 @@
 ghost use Rattle.std.specs.Prelude.{ℕ, ◌≡◌, ◌≤◌, ◌+◌, ◌*◌, ◌↔◌, ◌<◌, ◌^◌, length, take, drop};
 ghost use Rattle.std.specs.Prelude.{SomeIff, IfSome, IsSome};
 ghost use Rattle.std.proofs.Common.{rules};
-ghost use Rattle.netlink_core.specs.Layout.{parse_record, record_bytes};
+ghost use Rattle.netlink_core.specs.Layout.{parse_record, record_bytes, IsInRange};
 ghost use Rattle.netlink_core.proofs.LayoutLaws.{record_laws};
 ghost use Rattle.sock_diag_values.specs.MemInfo.{mem_info_u32_count, mem_info};
 ghost use Rattle.sock_diag_values.specs.MemInfo.{mem_info_buffer_bytes};
@@ -196,9 +196,10 @@ impl MemInfoBuffer {
 }
 
 impl From<&MemInfo> for MemInfoBuffer {
-    // The bytes in the buffer are those that the value serializes to.
-    ghost from_gives = { λ value buffer. mem_info_buffer_bytes buffer.bytes
-        ≡ record_bytes mem_info value.now };
+    // The bytes in the buffer are those that the value serializes to, and the value is in range.
+    ghost from_gives = { λ value buffer.
+        (mem_info_buffer_bytes buffer.bytes ≡ record_bytes mem_info value.now)
+        × IsInRange mem_info value.now };
 
     fn from(value: &MemInfo) -> Self {
         let bytes = match (value.backlog_queue_length, value.drops) {
@@ -235,7 +236,8 @@ fn word_at(payload: &[u8], offset: usize) -> Option<u32>
 // Serializes a value whose serialized form has `N` bytes.
 fn row_of<const N: usize>(value: &MemInfo) -> [u8; N]
     requires { length (record_bytes mem_info value.now) ≡ N }
-    ensures { result ≡ record_bytes mem_info value.now }
+    ensures written { result ≡ record_bytes mem_info value.now }
+    ensures in_range { IsInRange mem_info value.now }
 {
     let mut buffer = [0; N];
     value.write_fields(&mut buffer);
