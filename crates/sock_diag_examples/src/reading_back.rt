@@ -21,6 +21,5 @@ pub fn copy_by_bytes<T: Wire + Drop>(
 {
     let mut bytes = vec![in alloc; 0; value.buffer_len()]?;
     value.emit(&mut bytes);
-    value.prove_in_range();
     T::read(alloc, &bytes, param)
 }

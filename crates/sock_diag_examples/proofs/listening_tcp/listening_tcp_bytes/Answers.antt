@@ -23,6 +23,6 @@ returns-clause-bytes c =
     grind (
       arith,
       request_bytes c.args.family c.args.sequence_number,
-      c.serialize.ensures,
+      c.serialize.ensures.written,
       c.listening_tcp.ensures,
     )

@@ -28,7 +28,7 @@ returns-clause-value c = (
   view_model c.in_ok-reply.reply,
   c.in_ok-reply.ensures.value,
   (
-    rw c.buffer_len-2.ensures c.emit.ensures,
+    rw c.buffer_len-2.ensures c.emit.ensures.written,
     c.is_writable.ensures.0 c.if-not-is_writable.false,
     c.buffer_len-2.ensures,
   ),
