@@ -68,8 +68,8 @@ LAWS = set("""laws fills exact eq_is_model bytes_by_codec writable_by_codec
 # Private items that count as promises: functions whose clauses the READMEs of crates cite, a struct
 # whose invariant docs/DECISIONS.md cites, and the trait whose impls define what the invariant
 # names.
-CITED = {"serve", "read_prompt", "utc_text", "push_path", "push_abstract", "GenericDump",
-    "DumpEntry"}
+CITED = {"serve", "read_prompt", "utc_text", "push_shown", "report_failure", "push_path",
+    "push_abstract", "GenericDump", "DumpEntry"}
 # Folders in specs/ with modules that need not be believed: lemmas and what they need, definitions
 # that only the contracts of private functions need, and the inverses of layouts' `values`. Only a
 # layout may refer to an inverse. The script does not follow this reference: the law

@@ -31,7 +31,7 @@ MANUAL_DATE = ".Dd %B %-d, %Y"
 # heading [Unreleased], for the changes since that version.
 VERSIONS = {
     "CHANGELOG.md": r"(?m)^## (?!\[Unreleased\])\[?([^\]\s]+)",
-    "crates/sock_diag_captures/src/lib.rt": r'(?m)^pub const VERSION: &str = "([^"]*)";$',
+    "crates/sslist_lister/src/lib.rt": r'(?m)^pub const VERSION: &str = "([^"]*)";$',
     "crates/sock_diag_lines/src/lib.rt": r'(?m)^pub const VERSION: &str = "([^"]*)";$',
     "include/sockdiag.h": r'(?m)^#define SOCKDIAG_VERSION "([^"]*)"$',
     "rust/sockdiag/Cargo.toml": r'(?m)^version = "([^"]*)"$',

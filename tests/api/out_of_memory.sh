@@ -1,14 +1,14 @@
 #!/bin/sh
-# out_of_memory.sh TESTS SOCKDIAG SSLIST: runs the built tests of netlink_packet_sock_diag and both
-# programs, and makes allocations fail: in the first run the first allocation, in the second run the
-# second, and so on, until a run ends before its failing allocation. Then it repeats all runs, each
-# with all later allocations failing too.
+# out_of_memory.sh TESTS SOCKDIAG SSLIST: runs tests of the built sock_diag_tests and both programs,
+# and makes allocations fail: in the first run the first allocation, in the second run the second,
+# and so on, until a run ends before its failing allocation. Then it repeats all runs, each with all
+# later allocations failing too.
 #
-# The tests `out_of_memory` of netlink_packet_sock_diag_tests check each run of the readers, of
-# `canonical`, of `deserialize` and of each `clone`. If an allocation fails while a program answers
-# its input, its output has to be a prefix of the full output that consists of whole lines, its exit
-# status 1, and its error message "out of memory". Some runs can do without some memory, as for a
-# buffer: then output and status are as always.
+# The tests `out_of_memory` of sock_diag_tests check each run of the readers, of `canonical`, of
+# `deserialize` and of each `clone`. If an allocation fails while a program answers its input, its
+# output has to be a prefix of the full output that consists of whole lines, its exit status 1, and
+# its error message "out of memory". Some runs can do without some memory, as for a buffer: then
+# output and status are as always.
 #
 # The gate runs it, with what `rt ci` built. It preloads a library that replaces malloc, so it needs
 # a C compiler and a loader that supports LD_PRELOAD.

@@ -11,8 +11,8 @@ use Rattle.sock_diag_lines.specs.Answer.{IsAnswerOf, is_good}
 abbrev pub AnswersLines : (List ℕ → List ℕ) → Type 0
 AnswersLines answer = (line : List ℕ) → IsAnswerOf line (answer line)
 
--- `WritesAllAnswers left held held'`: if the bytes that were left before the run (`left`) are known,
--- the answers to all their lines were written, each followed by a line feed
+-- `WritesAllAnswers left held held'`: if the bytes that were left before the run (`left`) are
+-- known, the answers to all their lines were written, each followed by a line feed
 abbrev pub WritesAllAnswers : Option (List ℕ) → Option (List ℕ) → Option (List ℕ) → Type 0
 WritesAllAnswers left held held' = IfSome left (λ text.
     (answer : List ℕ → List ℕ) (whole : List (List ℕ)) (rest : List ℕ) → AnswersLines answer

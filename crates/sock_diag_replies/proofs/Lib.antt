@@ -1,3 +1,5 @@
 mod FirstFound
 mod ErrorTest
 mod Owning
+pub mod CompleteLenientIteration
+mod OneLenientIteration

@@ -2,6 +2,7 @@
 #![tactic(auto)]
 
 pub mod inet;
+pub mod lenient;
 mod reply;
 mod response;
 pub mod unix;

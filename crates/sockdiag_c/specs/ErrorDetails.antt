@@ -1,7 +1,7 @@
 -- The fields of a decode error: `struct sockdiag_error_details`.
 use Rattle.std.specs.Prelude.{◌≡◌, ℕ, ◌⊎◌, List, [], Option, Some, None, MatchResult, Result}
 use Rattle.netlink_core.specs.AttributeSet.{AttributeSet, AttributeValue}
-use Rattle.sock_diag_lenient.specs.Lenient.{RejectionModel, StartsWithLenientItem}
+use Rattle.sock_diag_replies.specs.Lenient.{RejectionModel, StartsWithLenientItem}
 use Rattle.netlink_core.specs.declared.error.DecodeError.{DecodeError}
 use Rattle.netlink_core.specs.declared.error.DecodeError.TheVariants as error
 use Rattle.netlink_core.specs.declared.error.RecordName.{RecordName}

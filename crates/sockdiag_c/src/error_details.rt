@@ -29,7 +29,7 @@ use netlink_packet_sock_diag::unix::UnixResponseView;
 use sock_diag_attributes::inet::nlas::NlaView as InetNlaView;
 use sock_diag_attributes::unix::nlas::NlaView as UnixNlaView;
 use sock_diag_families::vsock::VsockResponseHeader;
-use sock_diag_lenient::LenientNlas;
+use sock_diag_replies::lenient::LenientNlas;
 
 /// A decode error with its fields. A field that the error does not have is 0.
 #[repr(C)]

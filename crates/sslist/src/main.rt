@@ -3,7 +3,7 @@
 
 ghost use Rattle.std.specs.Prelude.{⊤};
 
-use sock_diag_captures::{
+use sslist_lister::{
     Choice, HELP, ListCapture, ListError, Options, Rejection, Sink, VERSION, WriteError, choose,
     escaped, heading, list_captures, names_several, run_to_status, send,
 };

@@ -1,5 +1,0 @@
-use Rattle.sock_diag_captures.proofs.JsonNames.{names_with_same_text}
-use Rattle.sock_diag_captures.proofs.json_laws.different_names_have_different_texts.Goals as goal
-
-pub returns : goal.returns
-returns c = names_with_same_text _ _ c.prove_in_range.ensures c.prove_in_range-2.ensures

@@ -1,5 +1,0 @@
-use Rattle.std.proofs.Common.{arith}
-use Rattle.sock_diag_captures.proofs.json_laws.prove_bytes_in_range.Goals as goal
-
-pub returns : goal.returns
-returns c = λ i. omega (arith, c.type_inv.bytes i)

@@ -1,4 +1,0 @@
-use Rattle.sock_diag_captures.proofs.report_outcome.Goals as goal
-
-pub returns-in-Err : goal.returns-in-Err
-returns-in-Err g c = rw c.in-Err.is c.report_failure.ensures

@@ -1,4 +1,0 @@
--- Definitions that only the contracts of private functions need.
-pub mod Run
-pub mod Sentence
-pub mod JsonNames

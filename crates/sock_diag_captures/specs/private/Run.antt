@@ -1,9 +1,0 @@
--- Output of the steps of a run.
-use Rattle.std.specs.Prelude.{Bool, List, [], ℕ, Result, Ok, Err}
-use Rattle.sock_diag_listing.specs.Reports.{closing_line}
-use Rattle.sock_diag_listing.specs.declared.list_error.ListError.{ListError}
-
--- the line that names the failure of a run, or nothing if it did not fail
-abbrev pub closing_text : List ℕ → Result Bool ListError → List ℕ
-closing_text front (Ok is_whole) = []
-closing_text front (Err error) = closing_line front error

@@ -1,2 +1,0 @@
-pub mod CompleteLenientIteration
-mod OneLenientIteration

@@ -1,2 +1,0 @@
-pub mod Lenient
-pub mod Models

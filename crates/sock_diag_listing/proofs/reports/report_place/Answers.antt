@@ -1,4 +1,0 @@
-use Rattle.sock_diag_listing.proofs.reports.report_place.Goals as goal
-
-pub returns-in-Packet : goal.returns-in-Packet
-returns-in-Packet g c = rw c.in-Packet.is c.report_packet.ensures

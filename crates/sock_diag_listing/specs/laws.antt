@@ -1,2 +1,0 @@
--- Properties of the definitions.
-pub mod EqualListError

@@ -1,2 +1,0 @@
--- Definitions that only the contracts of private functions need.
-pub mod Report

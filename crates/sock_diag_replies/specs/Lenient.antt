@@ -1,0 +1,93 @@
+-- Lenient parsing of attributes: each attribute is parsed independently of the others.
+use Rattle.std.specs.Prelude.{◌≡◌, ◌≢◌, ℕ, ◌⊎◌, List, [], ◌∷◌, ◌++◌, map, Option, None, Some}
+use Rattle.std.specs.Prelude.{Result, Err, MatchOption}
+use Rattle.std.specs.Result.{result_map_both}
+use Rattle.netlink_core.specs.declared.error.DecodeError.{DecodeError}
+use Rattle.netlink_core.specs.Attribute.{Attribute, SplitsIntoAttributes, SplitsUntilError}
+use Rattle.netlink_core.specs.Attribute.{IsFramingError, StartsWithAttribute}
+use Rattle.netlink_core.specs.AttributeSet.{AttributeSet, AttributeValue, decode_attribute}
+use Rattle.netlink_core.specs.Walk.{buffered_attribute}
+use Rattle.sock_diag_replies.specs.LenientModel.{unread_lenient_bytes}
+use Rattle.sock_diag_replies.specs.declared.lenient.LenientNlas.{LenientNlas}
+use Rattle.sock_diag_replies.specs.declared.lenient.LenientError.{LenientError}
+use Rattle.sock_diag_replies.specs.declared.lenient.LenientError.TheVariants as refused
+
+-- The model of a `LenientError`: the rejected attribute, or None for a framing error (bytes that do
+-- not start with an attribute); and the error.
+pub record RejectionModel : Type 0 where
+  pub attribute : Option Attribute
+  pub error : DecodeError
+
+-- The model of a rejected attribute, or of a framing error.
+abbrev pub rejection_model : LenientError → RejectionModel
+rejection_model (refused.Attribute nla e) = record {
+  attribute = Some (buffered_attribute nla);
+  error = e;
+}
+rejection_model (refused.Framing e) = record { attribute = None; error = e }
+
+-- `lenient_item_by decode a`: the item for the attribute `a`, by the function `decode`, which
+-- decodes an attribute or rejects it: `Ok` and the value that it decodes to, or `Err` and the
+-- attribute with its error. `result_map_both f g r`: `Ok (f v)` if `r` is `Ok v`, and `Err (g e)`
+-- if `r` is `Err e`.
+abbrev pub lenient_item_by : {V : Type 0} → (Attribute → Result V DecodeError) → Attribute
+    → Result V RejectionModel
+lenient_item_by decode a = result_map_both (λ value. value) (λ e.
+    record { attribute = Some a; error = e }) (decode a)
+
+-- `lenient_item_of F a`: the item for the attribute `a`, by the set `F` of known attribute types
+abbrev pub lenient_item_of : (F : AttributeSet) → Attribute
+    → Result (AttributeValue F) RejectionModel
+lenient_item_of F = lenient_item_by (decode_attribute F)
+
+-- `lenient_item_model F view_model item`: the model of an item that the iterator yields.
+-- `view_model` maps a view to the value that it decodes to.
+abbrev pub lenient_item_model : {V : Type 0} (F : AttributeSet) → (V → AttributeValue F)
+    → Result V LenientError
+    → Result (AttributeValue F) RejectionModel
+lenient_item_model F view_model item = result_map_both view_model rejection_model item
+
+-- `StartsWithLenientItem F left item later`: `item` is the first item of the bytes `left`, and
+-- `later` are the bytes after it. Either `left` starts with an attribute: `item` is the item of
+-- this attribute, and `later` are the bytes after its padding. Or `left` is not empty and starts
+-- with a framing error: `item` is this error, without an attribute, and `later` is empty.
+abbrev pub StartsWithLenientItem : (F : AttributeSet) → List ℕ
+    → Result (AttributeValue F) RejectionModel → List ℕ
+    → Type 0
+StartsWithLenientItem F left item later =
+    ((a : Attribute) × StartsWithAttribute left a later × (item ≡ lenient_item_of F a))
+    ⊎ ((e : DecodeError) × (left ≢ []) × IsFramingError left e × (later ≡ [])
+    × (item ≡ Err (record { attribute = None; error = e })))
+
+-- `YieldsLenientItem F view_model old given new`: what a call of `next` does: `old` is the iterator
+-- before it, `given` what it returns, and `new` the iterator after it. It returns None if no bytes
+-- are left. Otherwise it returns the first item of the bytes left, and leaves the bytes after the
+-- item. `view_model` maps a view to the value that it decodes to.
+abbrev pub YieldsLenientItem : {V : Type 0} (F : AttributeSet) → (V → AttributeValue F)
+    → LenientNlas V
+    → Option (Result V LenientError) → LenientNlas V → Type 0
+YieldsLenientItem F view_model old given new =
+    MatchOption given ((unread_lenient_bytes old ≡ []) × (unread_lenient_bytes new ≡ []))
+    (λ item. StartsWithLenientItem F (unread_lenient_bytes old)
+    (lenient_item_model F view_model item) (unread_lenient_bytes new))
+
+-- `HasLenientItemsBy decode bytes items`: `items` are all items of the bytes, in order, by the
+-- function `decode`, which decodes an attribute or rejects it. Either the bytes consist of
+-- attributes (`SplitsIntoAttributes`): `items` has one item for each. Or there are attributes, or
+-- none, and then bytes with the framing error `e` (`SplitsUntilError`): `items` has one item for
+-- each attribute, and last `e` without an attribute.
+abbrev pub HasLenientItemsBy : {V : Type 0} → (Attribute → Result V DecodeError) → List ℕ
+    → List (Result V RejectionModel)
+    → Type 0
+HasLenientItemsBy decode bytes items = (attributes : List Attribute) × (
+    (SplitsIntoAttributes bytes attributes [] × (items ≡ map (lenient_item_by decode) attributes))
+    ⊎ ((e : DecodeError) × SplitsUntilError IsFramingError bytes attributes e
+    × (items ≡ map (lenient_item_by decode) attributes
+    ++ Err (record { attribute = None; error = e }) ∷ [])))
+
+-- `HasLenientItems F bytes items`: `items` are all items of the bytes, in order, by the set `F` of
+-- known attribute types
+abbrev pub HasLenientItems : (F : AttributeSet) → List ℕ
+    → List (Result (AttributeValue F) RejectionModel)
+    → Type 0
+HasLenientItems F = HasLenientItemsBy (decode_attribute F)

@@ -1,0 +1,124 @@
+//! Properties of replies that are read leniently, and of a copied error. Proof only: the contract
+//! of each function states the property.
+
+ghost use Rattle.std.specs.Prelude.{◌≡◌, ℕ, List, [], map, drop, Result, Ok, Err, IfErr, IfOk};
+ghost use Rattle.std.specs.Prelude.{IsOk, MatchOption};
+ghost use Rattle.std.specs.Iterator.{Drains};
+ghost use Rattle.netlink_core.specs.Attribute.{DecodeTo};
+ghost use Rattle.netlink_core.specs.AttributeSet.{AttributeValue, decode_attribute};
+ghost use Rattle.netlink_core.specs.Layout.{parse_record};
+ghost use Rattle.attribute_lists.specs.AttributesIn.{HasNoAttributeError, decoded_in};
+ghost use Rattle.sock_diag_records.specs.InetResponse.{inet_response_header};
+ghost use Rattle.sock_diag_records.specs.UnixResponseHeader.{unix_response_header};
+ghost use Rattle.sock_diag_attributes.specs.InetAttributes.{inet_attribute_set};
+ghost use Rattle.sock_diag_attributes.specs.InetModel.{inet_nla_view_model as inet_view_model};
+ghost use Rattle.sock_diag_attributes.specs.UnixAttributes.{unix_attribute_set};
+ghost use Rattle.sock_diag_attributes.specs.UnixModel.{unix_nla_view_model as unix_view_model};
+ghost use Rattle.sock_diag_replies.specs.Lenient.{StartsWithLenientItem, YieldsLenientItem};
+ghost use Rattle.sock_diag_replies.specs.Lenient.{HasLenientItems, RejectionModel};
+ghost use Rattle.sock_diag_replies.specs.Lenient.{lenient_item_model};
+ghost use Rattle.sock_diag_replies.specs.Lenient.{rejection_model};
+ghost use Rattle.sock_diag_replies.specs.LenientModel.{lenient_bytes, lenient_header};
+ghost use Rattle.sock_diag_replies.specs.LenientModel.{unread_lenient_bytes};
+ghost use Rattle.sock_diag_replies.specs.declared.lenient.LenientNlas.{LenientNlas};
+ghost use Rattle.sock_diag_replies.specs.declared.lenient.LenientError.{LenientError};
+
+use crate::lenient::{LenientError, LenientInetReply, LenientReply, LenientUnixReply};
+use netlink_core::{DecodeError, FamilyView};
+use sock_diag_attributes::inet::nlas::NlaView as InetNlaView;
+use sock_diag_attributes::unix::nlas::NlaView as UnixNlaView;
+use std::alloc::AllocError;
+
+/// States which items a `LenientNlas` yields until its end: for each attribute in the bytes left,
+/// in order, its value or its error; and last the framing error, if there is one. `Drains`: `given`
+/// are all items that `next` yields until it returns `None`.
+pub fn complete_lenient_iteration<'a, V: FamilyView<'a>>()
+    ensures items { (walk : LenientNlas V) (given : List (Result V LenientError))
+        → Drains (YieldsLenientItem V.attribute_set V.model) walk given
+        → HasLenientItems V.attribute_set (unread_lenient_bytes walk)
+        (map (lenient_item_model V.attribute_set V.model) given) }
+{}
+
+/// States that bytes have at most one list of lenient items (`HasLenientItems`).
+pub fn one_list_of_lenient_items<'a, V: FamilyView<'a>>()
+    ensures { (bytes : List ℕ) (xs ys : List (Result (AttributeValue V.attribute_set)
+        RejectionModel)) → HasLenientItems V.attribute_set bytes xs
+        → HasLenientItems V.attribute_set bytes ys → xs ≡ ys }
+{}
+
+/// States that a `LenientNlas` agrees with the strict views. If the bytes left have neither a
+/// framing error nor an invalid value, it yields the value of each attribute, as `decoded_in` lists
+/// them (`strict`). If every item that it yields is a value (`map Ok views`), the bytes decode to
+/// these values (`accepted`).
+pub fn lenient_walk_of_good_bytes<'a, V: FamilyView<'a>>()
+    ensures strict { (walk : LenientNlas V) (given : List (Result V LenientError))
+        → HasNoAttributeError (decode_attribute V.attribute_set) (unread_lenient_bytes walk)
+        → Drains (YieldsLenientItem V.attribute_set V.model) walk given
+        → map (lenient_item_model V.attribute_set V.model) given
+        ≡ map Ok (decoded_in (decode_attribute V.attribute_set) (unread_lenient_bytes walk)) }
+    ensures accepted { (walk : LenientNlas V) (views : List V)
+        → Drains (YieldsLenientItem V.attribute_set V.model) walk (map Ok views)
+        → DecodeTo (decode_attribute V.attribute_set) (unread_lenient_bytes walk)
+        (map V.model views) }
+{}
+
+/// States that a lenient reply about an IPv4 or IPv6 socket has the header of these replies,
+/// and that its attributes follow the 72 bytes of the header.
+#[tactic(auto, unfolding(sock_diag_records::specs::InetResponse::inet_response_header))]
+pub fn lenient_inet_header<'a>(bytes: &'a [u8]) -> Result<LenientInetReply<'a>, DecodeError>
+    ensures header { IfOk result (λ lenient.
+        parse_record inet_response_header tt bytes.entry.now ≡ Ok (lenient_header lenient)) }
+    ensures attributes { IfOk result (λ lenient. lenient_bytes lenient ≡ drop 72 bytes.entry.now) }
+    ensures error { IfErr result (λ e. parse_record inet_response_header tt bytes.entry.now
+        ≡ Err e) }
+{
+    LenientReply::parse(bytes)
+}
+
+/// States that the first item of a lenient reply about an IPv4 or IPv6 socket is that of its first
+/// attribute: its value, decoded by the attribute types of these replies, or its error. It is the
+/// framing error if the bytes after the header do not start with an attribute, and `None` if there
+/// are none. The iterator yields the other attributes by the same rule.
+pub fn lenient_inet_attribute<'a>(
+    reply: &LenientInetReply<'a>,
+) -> Option<Result<InetNlaView<'a>, LenientError<'a>>>
+    ensures { MatchOption result (lenient_bytes reply.now ≡ []) (λ item. (later : List ℕ)
+        × StartsWithLenientItem inet_attribute_set (lenient_bytes reply.now)
+        (lenient_item_model inet_attribute_set inet_view_model item) later) }
+{
+    reply.attributes().next()
+}
+
+/// States that a lenient reply about a UNIX socket has the header of these replies,
+/// and that its attributes follow the 16 bytes of the header.
+pub fn lenient_unix_header<'a>(bytes: &'a [u8]) -> Result<LenientUnixReply<'a>, DecodeError>
+    ensures header { IfOk result (λ lenient.
+        parse_record unix_response_header tt bytes.entry.now ≡ Ok (lenient_header lenient)) }
+    ensures attributes { IfOk result (λ lenient. lenient_bytes lenient ≡ drop 16 bytes.entry.now) }
+    ensures error { IfErr result (λ e. parse_record unix_response_header tt bytes.entry.now
+        ≡ Err e) }
+{
+    LenientReply::parse(bytes)
+}
+
+/// States that the first item of a lenient reply about a UNIX socket is that of its first
+/// attribute: its value, decoded by the attribute types of these replies, or its error. It is the
+/// framing error if the bytes after the header do not start with an attribute, and `None` if there
+/// are none. The iterator yields the other attributes by the same rule.
+pub fn lenient_unix_attribute<'a>(
+    reply: &LenientUnixReply<'a>,
+) -> Option<Result<UnixNlaView<'a>, LenientError<'a>>>
+    ensures { MatchOption result (lenient_bytes reply.now ≡ []) (λ item. (later : List ℕ)
+        × StartsWithLenientItem unix_attribute_set (lenient_bytes reply.now)
+        (lenient_item_model unix_attribute_set unix_view_model item) later) }
+{
+    reply.attributes().next()
+}
+
+/// States that a copy has the same attribute and the same error, and that `clone` never fails.
+pub fn copied_lenient_error<'a>(refused: &LenientError<'a>) -> Result<LenientError<'a>, AllocError>
+    ensures ok { IsOk result }
+    ensures same { IfOk result (λ copy. rejection_model copy ≡ rejection_model refused.now) }
+{
+    refused.clone()
+}

@@ -1,0 +1,304 @@
+//! Tests of `sock_diag_examples`, for functions that allocate or have no contract.
+
+use self::ported::add_paths;
+use crate::port::shows;
+use netlink_core::{DecodeError, DefaultNla, Emitable, Parseable};
+use netlink_packet_sock_diag::unix::UnixResponse;
+use sock_diag_examples::link::{LinkError, attribute_key, parse_link};
+use sock_diag_examples::listening_tcp::Family;
+use sock_diag_examples::lister::list;
+use sock_diag_examples::reading_back::copy_by_bytes;
+use sock_diag_examples::readme::{listener, listening};
+use sock_diag_examples::stored::{key, same_reply};
+use sock_diag_examples::test_kernel::{AnswerError, answer};
+use sock_diag_values::unix::Vfs;
+use std::alloc::Global;
+use std::fmt::Debug;
+use std::process::Abort;
+
+mod ported;
+
+// A reply about a listening UNIX socket, without attributes.
+const LISTENING: [u8; 16] = [1, 1, 10, 0, 0x0e, 0x4f, 0, 0, 0xa0, 2, 0, 0, 0, 0, 0, 0];
+
+// A reply about a socket at /run/x. The byte at offset 3 and the padding are ignored.
+const NAMED: &[u8] = b"\x01\x01\x0a\x07\x0e\x4f\0\0\xa0\x02\0\0\0\0\0\0\x0b\0\0\0/run/x\0\x09";
+
+// The canonical form of that reply.
+const WRITTEN: &[u8] = b"\x01\x01\x0a\0\x0e\x4f\0\0\xa0\x02\0\0\0\0\0\0\x0b\0\0\0/run/x\0\0";
+
+// The canonical form in a message that answers the request below.
+const MESSAGE: &[u8] = b"\x2c\0\0\0\x14\0\x02\0\x07\0\0\0\0\0\0\0\
+\x01\x01\x0a\0\x0e\x4f\0\0\xa0\x02\0\0\0\0\0\0\x0b\0\0\0/run/x\0\0";
+
+// A message with a reply about a listening socket, and the end of a dump.
+const DUMP: [u8; 52] = [
+    32, 0, 0, 0, 20, 0, 2, 0, 7, 0, 0, 0, 0, 0, 0, 0, 1, 1, 10, 0, 0x0e, 0x4f, 0, 0, 0xa0, 2, 0, 0,
+    0, 0, 0, 0, 20, 0, 0, 0, 3, 0, 2, 0, 7, 0, 0, 0, 0, 0, 0, 0, 0, 0, 0, 0,
+];
+
+// An error that the kernel reports, ENOENT, and a message that reports lost data.
+const FAILURES: [u8; 40] = [
+    20, 0, 0, 0, 2, 0, 0, 0, 7, 0, 0, 0, 0, 0, 0, 0, 0xfe, 0xff, 0xff, 0xff, 20, 0, 0, 0, 4, 0, 0,
+    0, 7, 0, 0, 0, 0, 0, 0, 0, 0, 0, 0, 0,
+];
+
+// A message of rtnetlink(7) about eth0, an Ethernet device: name, an attribute of type 13, MTU.
+const ETH0: [u8; 44] = [
+    0, 0, 1, 0, 2, 0, 0, 0, 0x43, 0x10, 1, 0, 0, 0, 0, 0, 9, 0, 3, 0, 0x65, 0x74, 0x68, 0x30, 0, 0,
+    0, 0, 8, 0, 13, 0, 0xe8, 3, 0, 0, 8, 0, 4, 0, 0xdc, 5, 0, 0,
+];
+
+// A request for all UNIX sockets with their names, with sequence number 7.
+const REQUEST: [u8; 40] = [
+    40, 0, 0, 0, 20, 0, 1, 3, 7, 0, 0, 0, 0, 0, 0, 0, 1, 0, 0, 0, 2, 4, 0, 0, 0, 0, 0, 0, 1, 0, 0,
+    0, 0, 0, 0, 0, 0, 0, 0, 0,
+];
+
+#[test]
+fn replies_are_stored_by_canonical_form(rt: HostRuntime) {
+    let alloc = rt.alloc();
+    assert!(rt; key(alloc, NAMED).expect(&rt, "refused").as_slice() == WRITTEN);
+    assert!(rt; same_reply(alloc, NAMED, WRITTEN).expect(&rt, "refused"));
+    assert!(rt; !same_reply(alloc, NAMED, &LISTENING).expect(&rt, "refused"));
+    let cut = "Some(Refused(BufferTooSmall { which: UnixResponseHeader, got: 8, need: 16 }))";
+    let error = same_reply(alloc, &NAMED[..8], &NAMED[..9]).err();
+    shows(&rt, alloc, &error, cut);
+}
+
+/// Asserts what `list` and `listening` return for a datagram.
+fn is_listed(rt: &impl Abort, alloc: Global, datagram: &[u8], lines: &str, count: &str) {
+    let listed = list(alloc, datagram).expect(rt, "memory");
+    shows(rt, alloc, &listed, lines);
+    shows(rt, alloc, &listening(datagram), count);
+}
+
+#[test]
+fn datagrams_are_listed_and_counted(rt: HostRuntime) {
+    let alloc = rt.alloc();
+    let mut failed = DUMP;
+    failed[48] = 0xfe;
+    let one = "[Socket { state: 10, inode: 20238 }, End]";
+    is_listed(&rt, alloc, &DUMP, one, "Ok(Some(1))");
+    is_listed(&rt, alloc, &failed, one, "Ok(None)");
+    let cut = "[Refused(EnvelopeCut { got: 4 })]";
+    is_listed(&rt, alloc, &DUMP[48..], cut, "Err(EnvelopeCut { got: 4 })");
+    is_listed(&rt, alloc, &FAILURES, "[Failure, Failure]", "Ok(None)");
+}
+
+#[test]
+fn paths_of_a_dump_are_listed(rt: HostRuntime) {
+    let alloc = rt.alloc();
+    let reply = UnixResponse::parse(alloc, NAMED).expect(&rt, "refused");
+    let dump = answered(&rt, alloc, &[reply]);
+    let mut paths = Vec::new(alloc);
+    assert!(rt; add_paths(alloc, &dump, &mut paths).expect(&rt, "refused"));
+    shows(&rt, alloc, &paths, "[[47, 114, 117, 110, 47, 120]]");
+}
+
+/// Returns the datagram that answers the request with these replies.
+fn answered(rt: &impl Abort, alloc: Global, replies: &[UnixResponse]) -> Vec<u8> {
+    answer(alloc, &REQUEST, replies).expect(rt, "no answer")
+}
+
+/// Asserts what `Debug` prints for the result of `parse_link`.
+fn is_link(rt: &impl Abort, alloc: Global, payload: &[u8], text: &str) {
+    shows(rt, alloc, &parse_link(alloc, payload), text);
+}
+
+#[test]
+fn links_have_their_name_and_their_mtu(rt: HostRuntime) {
+    let alloc = rt.alloc();
+    let mut odd = ETH0;
+    odd[36] = 7;
+    let link = "Ok(Link { name: Some(\"eth0\"), mtu: Some(1500) })";
+    is_link(&rt, alloc, &ETH0, link);
+    is_link(
+        &rt,
+        alloc,
+        &ETH0[..16],
+        "Ok(Link { name: None, mtu: None })",
+    );
+    is_link(&rt, alloc, &ETH0[..15], "Err(TooShort { got: 15 })");
+    let wrong = "Err(Attribute(WrongLength { kind: None, got: 3, need: 4 }))";
+    is_link(&rt, alloc, &odd, wrong);
+    let key = attribute_key(alloc, b"\x09\0\x03\0eth0\0\x09\0\0").expect(&rt, "no key");
+    assert!(rt; key.as_slice() == b"\x09\0\x03\0eth0\0\0\0\0".as_slice());
+}
+
+/// Asserts that `count` replies are answered by `count` messages and the end of the dump.
+fn answers(rt: &impl Abort, alloc: Global, count: usize) {
+    let mut replies = Vec::new(alloc);
+    for _ in 0..count {
+        let reply = UnixResponse::parse(alloc, NAMED).expect(rt, "refused");
+        replies.push(reply).expect(rt, "memory");
+    }
+    let mut want = MESSAGE.repeat(alloc, count).expect(rt, "memory");
+    want.extend_from_slice(&DUMP[32..]).expect(rt, "memory");
+    assert!(rt; answered(rt, alloc, &replies).as_slice() == want.as_slice());
+}
+
+#[test]
+fn requests_are_answered(rt: HostRuntime) {
+    let alloc = rt.alloc();
+    let path = vec![in alloc; 97; 65_531].expect(&rt, "memory");
+    let long = [listener(alloc, 7, &path).expect(&rt, "memory")];
+    is_refused(&rt, alloc, &REQUEST, &long, "Some(Unwritable)");
+    let text = "Some(Request(EnvelopeCut { got: 15 }))";
+    is_refused(&rt, alloc, &REQUEST[..15], &long, text);
+}
+
+/// Asserts the error with which the request is answered.
+fn is_refused(
+    rt: &impl Abort,
+    alloc: Global,
+    request: &[u8],
+    replies: &[UnixResponse],
+    text: &str,
+) {
+    shows(rt, alloc, &answer(alloc, request, replies).err(), text);
+}
+
+#[test]
+fn debug_texts(rt: HostRuntime) {
+    let alloc = rt.alloc();
+    shows(&rt, alloc, &AnswerError::Memory, "Memory");
+    let error = LinkError::Attribute(DecodeError::Memory);
+    shows(&rt, alloc, &error, "Attribute(Memory)");
+    shows(&rt, alloc, &[Family::Inet, Family::Inet6], "[Inet, Inet6]");
+}
+
+/// Inodes of replies that are built and answered.
+const INODES: [u32; 5] = [0, 1, 0x2a0, 0x4f0e, u32::MAX];
+
+#[test]
+fn values_are_made_and_copied(rt: HostRuntime) {
+    for &inode in &INODES {
+        let reply = listener(rt.alloc(), inode, b"/run/x").expect(&rt, "memory");
+        answered(&rt, rt.alloc(), &[reply]);
+    }
+    let vfs = Vfs::parse(&[4, 3, 2, 1, 7, 0, 0, 0]).expect(&rt, "refused");
+    assert!(rt; copy_by_bytes(rt.alloc(), &vfs, ()).expect(&rt, "refused") == vfs);
+}
+
+/// Counts of attributes and of messages above 300. Tests also use each count up to 300.
+const COUNTS: [usize; 7] = [512, 1_000, 1_024, 2_048, 4_096, 8_192, 10_000];
+
+/// Asserts that `count` equal attributes or messages are parsed, listed and answered.
+fn has_room_for_many(rt: &impl Abort, alloc: Global, count: usize) {
+    answers(rt, alloc, count);
+    let dump = MESSAGE.repeat(alloc, count).expect(rt, "memory");
+    assert!(rt; list(alloc, &dump).expect(rt, "memory").len() == count);
+    let link = repeated(rt, alloc, &ETH0[..16], b"\x09\0\x03\0eth0\0\0\0\0", count);
+    assert!(rt; parse_link(alloc, &link).is_ok());
+    let reply = repeated(rt, alloc, &LISTENING, b"\x09\0\0\0/run\0\0\0\0", count);
+    assert!(rt; same_reply(alloc, &reply, &reply).expect(rt, "refused"));
+}
+
+/// Returns the bytes of a header and of a number of equal attributes.
+fn repeated(
+    rt: &impl Abort,
+    alloc: Global,
+    header: &[u8],
+    attribute: &[u8],
+    count: usize,
+) -> Vec<u8> {
+    let attributes = attribute.repeat(alloc, count).expect(rt, "memory");
+    let mut bytes = Vec::from_slice(alloc, header).expect(rt, "memory");
+    bytes.extend_from_slice(&attributes).expect(rt, "memory");
+    bytes
+}
+
+#[test]
+fn many_replies_and_attributes(rt: HostRuntime) {
+    for count in 0..301 {
+        has_room_for_many(&rt, rt.alloc(), count);
+    }
+    for &count in &COUNTS {
+        has_room_for_many(&rt, rt.alloc(), count);
+    }
+    let dump = MESSAGE.repeat(rt.alloc(), 100_000).expect(&rt, "memory");
+    let lines = list(rt.alloc(), &dump).expect(&rt, "memory");
+    assert!(rt; lines.len() == 100_000);
+}
+
+/// Lengths of names above 300. Tests also use each length up to 300. With its NUL the last one is
+/// the longest value of an attribute.
+const SIZES: [u16; 10] = [
+    512, 1_000, 1_024, 2_048, 4_096, 8_192, 10_000, 16_384, 32_768, 65_530,
+];
+
+/// Returns the bytes, followed by an attribute whose value is a name of this length and a NUL.
+fn with_name(rt: &impl Abort, alloc: Global, bytes: &[u8], kind: u8, size: u16) -> Vec<u8> {
+    let [low, high] = size.saturating_add(5).to_le_bytes();
+    let mut named = Vec::from_slice(alloc, bytes).expect(rt, "memory");
+    named
+        .extend_from_slice(&[low, high, kind, 0])
+        .expect(rt, "memory");
+    let len = named.len().saturating_add(usize::from(size));
+    named.resize(len, b'a').expect(rt, "memory");
+    named.push(0).expect(rt, "memory");
+    named
+}
+
+/// Asserts that a name of this length is parsed, stored and listed.
+fn has_room(rt: &impl Abort, alloc: Global, size: u16) {
+    let named = with_name(rt, alloc, &[], 3, size);
+    let length = attribute_key(alloc, &named).expect(rt, "no key").len();
+    assert!(rt; length == usize::from(size.saturating_add(5)).next_multiple_of(4));
+    let payload = with_name(rt, alloc, &ETH0[..16], 3, size);
+    let link = parse_link(alloc, &payload).expect(rt, "no link");
+    assert!(rt;
+        link.name
+            .is_some_and(|name| name.len() == usize::from(size))
+    );
+    let reply = with_name(rt, alloc, &LISTENING, 0, size);
+    assert!(rt; same_reply(alloc, &reply, &reply).expect(rt, "refused"));
+}
+
+/// Asserts that a reply with a path of this length is built and answered.
+fn has_room_for_path(rt: &impl Abort, alloc: Global, size: u16) {
+    let path = vec![in alloc; b'a'; usize::from(size)].expect(rt, "memory");
+    let reply = listener(alloc, 7, &path).expect(rt, "memory");
+    let datagram = answered(rt, alloc, &[reply]);
+    assert!(rt; list(alloc, &datagram).expect(rt, "memory").len() == 2);
+}
+
+/// Asserts that an attribute with a value of this length is copied, if it is writable.
+fn has_room_for_copy(rt: &impl Abort, alloc: Global, size: u16) {
+    let value = vec![in alloc; 1; usize::from(size)].expect(rt, "memory");
+    let nla = DefaultNla::new(7, value);
+    if nla.is_writable() {
+        assert!(rt; copy_by_bytes(alloc, &nla, ()).expect(rt, "refused") == nla);
+    }
+}
+
+/// Checks names and values of this length.
+fn has_room_for_all(rt: &impl Abort, alloc: Global, size: u16) {
+    has_room(rt, alloc, size);
+    has_room_for_path(rt, alloc, size);
+    has_room_for_copy(rt, alloc, size);
+}
+
+#[test]
+fn names_of_each_length(rt: HostRuntime) {
+    for size in 0..301 {
+        has_room_for_all(&rt, rt.alloc(), size);
+    }
+    for &size in &SIZES {
+        has_room_for_all(&rt, rt.alloc(), size);
+    }
+}
+
+/// Lengths of paths that no attribute can have.
+const LONG: [usize; 7] = [
+    65_531, 65_536, 100_000, 131_072, 262_144, 524_288, 1_000_000,
+];
+
+#[test]
+fn long_paths(rt: HostRuntime) {
+    for &size in &LONG {
+        let path = vec![in rt.alloc(); b'a'; size].expect(&rt, "memory");
+        listener(rt.alloc(), 7, &path).expect(&rt, "memory");
+    }
+}

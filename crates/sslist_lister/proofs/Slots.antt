@@ -1,0 +1,73 @@
+-- Collected attributes.
+use Rattle.std.proofs.Common.{◌≡◌, ℕ, List, [], ◌++◌, ◌∙◌, ◌<◌, map, flat_map, length, refl}
+use Rattle.std.proofs.Common.{Bool, None, Option, Result, Some, slice_index_or, sym}
+use Rattle.std.specs.List.{range_with_len}
+use Rattle.std.specs.Option.{option_or}
+use Rattle.std.proofs.lemmas.List.{append-nil, get_or-map, length-map}
+use Rattle.std.proofs.lemmas.List.Folds.{flat_map-map}
+use Rattle.std.proofs.lemmas.List.FromFn.{fill_by_all}
+use Rattle.json.specs.Json.{Json}
+use Rattle.json.specs.Tree.{json_tokens}
+use Rattle.netlink_core.specs.Attribute.{Attribute}
+use Rattle.netlink_core.specs.declared.attribute.NlaBuffer.{NlaBuffer}
+use Rattle.netlink_core.specs.declared.error.DecodeError.{DecodeError}
+use Rattle.sslist_lister.specs.Collected.{first_valid, other_in_piece, slot_attribute}
+use Rattle.sslist_lister.specs.Collected.{summary_of}
+use Rattle.sslist_lister.specs.Pieces.{AttributeOrError, framing_error_of}
+use Rattle.sslist_lister.specs.declared.attributes.Sockets.{Sockets}
+use Rattle.sslist_lister.proofs.JsonWriting.{items_of_map, tokens_of_each}
+use Rattle.sslist_lister.specs.texts.JsonData.{JsonMember}
+use Rattle.sslist_lister.specs.texts.JsonWriting.{items_tokens, members_tokens}
+
+-- The elements that are each the first valid attribute are all of them.
+slots_are_first : (slots : List (Option NlaBuffer)) (f : ℕ → Option Attribute)
+    → length slots ≡ 23
+    → ((k : ℕ) → k < 23 → slot_attribute (slice_index_or slots k None) ≡ f k)
+    → map slot_attribute slots ≡ map f (range_with_len 0 23)
+slots_are_first slots f long each =
+    fill_by_all f (map slot_attribute slots) 23 None (length-map slots slot_attribute ∙ long)
+    (λ k below. get_or-map slot_attribute slots k None None (rw long below) ∙ each k below)
+
+no_other : {X : Type 0} (o : Option X) → option_or o None ≡ o
+no_other None = refl
+no_other (Some x) = refl
+
+-- What was found in all pieces is what they have.
+pub all_is_found : (sockets : Sockets) (given left : List AttributeOrError)
+    (slots : List (Option NlaBuffer)) (end : Option DecodeError)
+    (others : List (Attribute × Result Bool DecodeError)) → left ≡ []
+    → (length slots ≡ 23) × ((k : ℕ) → k < 23
+    → option_or (slot_attribute (slice_index_or slots k None)) (first_valid sockets left k)
+    ≡ first_valid sockets given k)
+    × (others ++ flat_map (other_in_piece sockets) left ≡ flat_map (other_in_piece sockets) given)
+    × (option_or end (framing_error_of left) ≡ framing_error_of given)
+    → record {
+      sockets = sockets;
+      first = map slot_attribute slots;
+      others = others;
+      end = end;
+    } ≡ summary_of sockets given
+unfolding summary_of
+all_is_found sockets given left slots end others none (long, each, later, error) =
+    rw (
+      slots_are_first slots (first_valid sockets given) long
+          (λ k below. sym (no_other _) ∙ (rw none at each k below)),
+      sym (append-nil others) ∙ (rw none at later),
+      sym (no_other end) ∙ (rw none at error),
+    ) refl
+
+-- The tokens of the members of mapped elements.
+pub tokens_of_slots : {X Y : Type 0} (f : Y → List JsonMember) (g : X → Y) (xs : List X)
+    → members_tokens (flat_map f (map g xs)) ≡ flat_map (λ x. members_tokens (f (g x))) xs
+tokens_of_slots f g xs =
+    tokens_of_each f (map g xs) ∙ flat_map-map (λ y. members_tokens (f y)) g xs
+
+-- The tokens of the items of mapped elements.
+pub tokens_of_others : {X Y : Type 0} (f : Y → Json) (g : X → Y) (xs : List X)
+    → items_tokens (map f (map g xs)) ≡ flat_map (λ x. json_tokens (f (g x))) xs
+tokens_of_others f g xs = items_of_map f (map g xs) ∙ flat_map-map (λ y. json_tokens (f y)) g xs
+
+-- The texts of mapped elements.
+pub mapped_texts : {X Y : Type 0} (f : Y → List ℕ) (g : X → Y) (xs : List X)
+    → flat_map f (map g xs) ≡ flat_map (λ x. f (g x)) xs
+mapped_texts f g xs = flat_map-map f g xs

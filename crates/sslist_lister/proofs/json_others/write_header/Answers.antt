@@ -1,0 +1,14 @@
+use Rattle.std.proofs.lemmas.Result.{on_ok_weaker}
+use Rattle.sslist_lister.specs.JsonOthers.{other_header_members}
+use Rattle.sslist_lister.proofs.JsonWriting.{joined_members}
+use Rattle.sslist_lister.proofs.json_others.write_header.Goals as goal
+
+pub returns-clause-members : goal.returns-clause-members
+unfolding other_header_members
+returns-clause-members c =
+    rw (← c.name_of_state.ensures)
+    (on_ok_weaker c.write_hex.result
+    (λ last. joined_members _ _ _ _ _ c.in_ok-write_text.ensures.members
+    (joined_members _ _ _ _ _ c.in_ok-write_text-2.ensures.members
+    (joined_members _ _ _ _ _ c.in_ok-write_numbers.ensures.members last)))
+    c.write_hex.ensures.members)

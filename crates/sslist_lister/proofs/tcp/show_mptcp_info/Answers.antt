@@ -1,0 +1,15 @@
+use Rattle.std.proofs.Common.{[], codes}
+use Rattle.std.proofs.lemmas.Result.{on_ok_weaker}
+use Rattle.sslist_lister.specs.Tcp.{field_facts, mptcp_info, mptcp_rows}
+use Rattle.sslist_lister.proofs.FactItems.{shown_group}
+use Rattle.sslist_lister.proofs.tcp.show_mptcp_info.Goals as goal
+
+pub returns : goal.returns
+unfolding mptcp_info
+returns g c =
+    on_ok_weaker c.end.result
+    (shown_group g.S.FactSink.kept g.S.FactSink.content _ _ _ _ _ _ _ _ c.in_ok-begin.ensures
+    (rw c.mptcp_rows.ensures at c.in_ok-show_fields.ensures)
+    (g.met.S.FactSink.items_of_group [] [] (codes "info")
+    (field_facts c.args.bytes.now mptcp_rows)))
+    c.end.ensures

@@ -1,0 +1,13 @@
+use Rattle.std.proofs.lemmas.Result.{on_ok_weaker}
+use Rattle.sslist_lister.specs.UlpInfo.{subflow_facts}
+use Rattle.sslist_lister.proofs.FactItems.{shown_three}
+use Rattle.sslist_lister.proofs.ulp_info.show_subflow_parts.Goals as goal
+
+pub returns : goal.returns
+unfolding subflow_facts
+returns g c =
+    let sink = g.S.FactSink in
+    on_ok_weaker c.show_subflow_numbers.result
+    (shown_three sink.kept sink.content sink.items g.met.S.FactSink.items_of_both _ _ _ _ _ _ _
+    c.in_ok-show_row.ensures c.in_ok-show_tokens.ensures)
+    c.show_subflow_numbers.ensures

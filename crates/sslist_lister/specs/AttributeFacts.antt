@@ -1,0 +1,317 @@
+-- Facts of the attributes of a reply. Names in JSON are the kernel's names in lowercase, without
+-- the prefix that all names of a struct or an enum have.
+use Rattle.std.specs.Prelude.{ℕ, ◌==◌, nat_le, if◌then◌else◌, List, [], ◌∷◌, codes, length}
+use Rattle.std.specs.Prelude.{Bool, false, None, Some, Ok, Option}
+use Rattle.std.specs.Option.{option_map_or}
+use Rattle.byteorder.specs.Endian.{little_number}
+use Rattle.netlink_core.specs.Attribute.{Attribute, attribute_kind}
+use Rattle.netlink_core.specs.AttributeSet.{decode_attribute}
+use Rattle.netlink_core.specs.Errors.{map_ok}
+use Rattle.netlink_core.specs.Layout.{parse_record}
+use Rattle.sock_diag_values.specs.MemInfo.{mem_info}
+use Rattle.sock_diag_values.specs.declared.inet.legacy_mem_info.LegacyMemInfo.{LegacyMemInfo}
+use Rattle.sock_diag_values.specs.declared.inet.mem_info.MemInfo.{MemInfo}
+use Rattle.sock_diag_attributes.specs.declared.inet.nlas.InetNla.{InetNla}
+use Rattle.sock_diag_attributes.specs.declared.inet.nlas.InetNla.TheVariants as inet_nla
+use Rattle.sock_diag_attributes.specs.declared.unix.name.SocketName.{SocketName}
+use Rattle.sock_diag_attributes.specs.declared.unix.nlas.UnixNla.{UnixNla}
+use Rattle.sock_diag_attributes.specs.declared.unix.nlas.UnixNla.TheVariants as unix_nla
+use Rattle.sock_diag_attributes.specs.InetAttributes.{inet_attribute_set}
+use Rattle.sock_diag_attributes.specs.InetModel.{inet_variant}
+use Rattle.sock_diag_attributes.specs.UnixAttributes.{unix_attribute_set}
+use Rattle.sock_diag_attributes.specs.UnixModel.{unix_variant}
+use Rattle.sock_diag_extras.specs.Congestion.{bbr_info, dctcp_info, vegas_info}
+use Rattle.sock_diag_extras.specs.SocketOptions.{socket_options}
+use Rattle.sock_diag_extras.specs.declared.congestion.BbrInfo.{BbrInfo}
+use Rattle.sock_diag_extras.specs.declared.congestion.DctcpInfo.{DctcpInfo}
+use Rattle.sock_diag_extras.specs.declared.congestion.VegasInfo.{VegasInfo}
+use Rattle.sock_diag_extras.specs.declared.options.SocketOptions.{SocketOptions}
+use Rattle.sock_diag_extras.specs.declared.constants.TheConstants.{INET_DIAG_CGROUP_ID}
+use Rattle.sock_diag_extras.specs.declared.constants.TheConstants.{INET_DIAG_SOCKOPT, UNIX_DIAG_UID}
+use Rattle.sock_diag_extras.specs.declared.constants.TheConstants.{INET_DIAG_ULP_INFO}
+use Rattle.sock_diag_records.specs.declared.constants.TheConstants.{INET_DIAG_BBRINFO}
+use Rattle.sock_diag_records.specs.declared.constants.TheConstants.{INET_DIAG_DCTCPINFO}
+use Rattle.sock_diag_records.specs.declared.constants.TheConstants.{INET_DIAG_INFO}
+use Rattle.sock_diag_records.specs.declared.constants.TheConstants.{INET_DIAG_MD5SIG}
+use Rattle.sock_diag_records.specs.declared.constants.TheConstants.{INET_DIAG_VEGASINFO}
+use Rattle.sock_diag_families.specs.PacketAttributes.{packet_info}
+use Rattle.sock_diag_families.specs.XdpAttributes.{xdp_info}
+use Rattle.sock_diag_families.specs.declared.netlink.TheConstants.{NETLINK_DIAG_GROUPS}
+use Rattle.sock_diag_families.specs.declared.netlink.TheConstants.{NETLINK_DIAG_MEMINFO}
+use Rattle.sock_diag_families.specs.declared.packet.TheConstants.{PACKET_DIAG_MEMINFO}
+use Rattle.sock_diag_families.specs.declared.xdp.TheConstants.{XDP_DIAG_MEMINFO}
+use Rattle.sock_diag_families.specs.declared.packet.TheConstants.{PACKET_DIAG_INFO, PACKET_DIAG_UID}
+use Rattle.sock_diag_families.specs.declared.packet.attributes.PacketInfo.{PacketInfo}
+use Rattle.sock_diag_families.specs.declared.xdp.TheConstants.{XDP_DIAG_INFO, XDP_DIAG_UID}
+use Rattle.sock_diag_families.specs.declared.xdp.attributes.XdpInfo.{XdpInfo}
+use Rattle.sslist_lister.specs.declared.command_line.options.Family.{Family}
+use Rattle.sslist_lister.specs.declared.command_line.options.Family.TheVariants.{Netlink, Packet}
+use Rattle.sslist_lister.specs.declared.command_line.options.Family.TheVariants.{Vsock, Xdp}
+use Rattle.sslist_lister.specs.Facts.{Facts, Outcome, decoded_outcome, flag_facts, flag_number}
+use Rattle.sslist_lister.specs.Facts.{group, hidden_number, list_facts, name_facts, numbers}
+use Rattle.sslist_lister.specs.Facts.{length_error, number_facts, number_outcome}
+use Rattle.sslist_lister.specs.Facts.{record_outcome, shown_number, text_facts}
+use Rattle.sslist_lister.specs.Md5Keys.{md5_outcome}
+use Rattle.sslist_lister.specs.Tcp.{mptcp_info, tcp_info}
+use Rattle.sslist_lister.specs.UlpInfo.{ulp_outcome}
+use Rattle.sslist_lister.specs.declared.attributes.Info.{Info}
+use Rattle.sslist_lister.specs.declared.attributes.Info.TheVariants.{Mptcp, Tcp, Unknown}
+use Rattle.sslist_lister.specs.declared.attributes.Sockets.{Sockets}
+use Rattle.sslist_lister.specs.declared.attributes.Sockets.TheVariants.{Inet, Other, Unix}
+use Rattle.sslist_lister.specs.declared.facts.Shown.TheVariants.{Always, Closed, Directions}
+use Rattle.sslist_lister.specs.declared.facts.Shown.TheVariants.{Hex, Never}
+
+-- ---- memory in bytes
+
+-- `memory_group member m backlog drops`: the memory of a socket in bytes, as ss(8) prints it, by
+-- the indices SK_MEMINFO_.. of linux/sock_diag.h. `member`: the name in JSON.
+unfoldable pub memory_group : List ℕ → MemInfo → Option ℕ → Option ℕ → Facts
+memory_group member m backlog drops =
+    group (codes " skmem:(") (codes ")") member (numbers (
+    shown_number (codes "r") (codes "rmem_alloc") m.receive_queue ∷
+    shown_number (codes ",rb") (codes "rcvbuf") m.receive_queue_max ∷
+    shown_number (codes ",t") (codes "wmem_alloc") m.bottom_send_queues ∷
+    shown_number (codes ",tb") (codes "sndbuf") m.send_queue_max ∷
+    shown_number (codes ",f") (codes "fwd_alloc") m.cache ∷
+    shown_number (codes ",w") (codes "wmem_queued") m.send_queue ∷
+    shown_number (codes ",o") (codes "optmem") m.options ∷
+    (Always, codes ",bl", Some (codes "backlog"), backlog) ∷
+    (Always, codes ",d", Some (codes "drops"), drops) ∷ []))
+
+-- the same, with the backlog and the drops if the value has them
+abbrev pub memory_facts : List ℕ → MemInfo → Facts
+memory_facts member m = memory_group member m m.backlog_queue_length m.drops
+
+-- the memory in the value of an attribute
+abbrev pub memory_outcome : List ℕ → Attribute → Outcome
+memory_outcome member a =
+    map_ok (λ m. Some (memory_facts member m)) (parse_record mem_info tt a.value)
+
+-- The memory of a socket in the format of old kernels, `struct inet_diag_meminfo`: `idiag_rmem`,
+-- `idiag_wmem`, `idiag_fmem` and `idiag_tmem`.
+unfoldable pub legacy_memory_facts : LegacyMemInfo → Facts
+legacy_memory_facts m =
+    group (codes " mem:(") (codes ")") (codes "meminfo") (numbers (
+    shown_number (codes "r") (codes "rmem") m.receive_queue ∷
+    shown_number (codes ",w") (codes "wmem") m.bottom_send_queue ∷
+    shown_number (codes ",f") (codes "fmem") m.cache ∷
+    shown_number (codes ",t") (codes "tmem") m.send_queue ∷ []))
+
+-- ---- UNIX sockets
+
+-- the inode and the device of a file, `udiag_vfs_ino` and `udiag_vfs_dev`
+abbrev pub vfs_facts : ℕ → ℕ → Facts
+vfs_facts inode device =
+    group [] [] (codes "vfs") (numbers (
+    shown_number (codes " vfs:(") (codes "ino") inode ∷
+    (Closed, codes ",", Some (codes "dev"), Some device) ∷ []))
+
+-- the lengths of the queues, `udiag_rqueue` and `udiag_wqueue`
+abbrev pub queue_facts : ℕ → ℕ → Facts
+queue_facts first second =
+    group [] [] (codes "rqlen") (numbers (
+    hidden_number (codes "rqueue") first ∷ hidden_number (codes "wqueue") second ∷ []))
+
+-- the shutdown state
+abbrev pub shutdown_facts : ℕ → Facts
+shutdown_facts n = number_facts Directions [] (Some (codes "shutdown")) n
+
+-- the user id of the owner, for which the table has a column; any other attribute is unknown
+abbrev pub newer_unix_outcome : Attribute → Outcome
+newer_unix_outcome a =
+    if attribute_kind a == UNIX_DIAG_UID
+    then number_outcome 4 (number_facts Never [] (Some (codes "uid"))) a else Ok None
+
+-- What an attribute `a` of a UNIX socket says (linux/unix_diag.h), by its decoded value. The name,
+-- the peer and the queues have columns. `icons` are the inodes of connections that wait to be
+-- accepted. The memory is parsed again, since its variant has only three of nine fields.
+abbrev pub unix_outcome : Attribute → UnixNla (SocketName (List ℕ)) (List ℕ) Attribute → Outcome
+unix_outcome a (unix_nla.Name name) = Ok (Some (name_facts name))
+unix_outcome a (unix_nla.Vfs v) = Ok (Some (vfs_facts v.inode v.device))
+unix_outcome a (unix_nla.Peer n) = Ok (Some (number_facts Never [] (Some (codes "peer")) n))
+unix_outcome a (unix_nla.PendingConnections inodes) =
+    Ok (Some (list_facts (codes " pending:") (codes "icons") inodes))
+unix_outcome a (unix_nla.ReceiveQueueLength first second) = Ok (Some (queue_facts first second))
+unix_outcome a (unix_nla.MemInfo m) = memory_outcome (codes "meminfo") a
+unix_outcome a (unix_nla.Shutdown n) = Ok (Some (shutdown_facts n))
+unix_outcome a (unix_nla.Other other) = newer_unix_outcome a
+
+-- what an attribute of a UNIX socket says
+abbrev pub unix_facts : Attribute → Outcome
+unix_facts a =
+    decoded_outcome (λ v. unix_outcome a (unix_variant v)) (decode_attribute unix_attribute_set a)
+
+-- ---- IPv4 and IPv6 sockets
+
+-- the options of a socket, `struct inet_diag_sockopt`: both bytes as a little-endian number, and a
+-- name for each bit that is set
+unfoldable pub option_bits : ℕ → Facts
+option_bits bits = numbers (
+    hidden_number (codes "sockopt") bits ∷
+    flag_number 1 (codes " recverr") bits ∷ flag_number 2 (codes " is_icsk") bits ∷
+    flag_number 4 (codes " freebind") bits ∷ flag_number 8 (codes " hdrincl") bits ∷
+    flag_number 16 (codes " mc_loop") bits ∷ flag_number 32 (codes " transparent") bits ∷
+    flag_number 64 (codes " mc_all") bits ∷ flag_number 128 (codes " nodefrag") bits ∷
+    flag_number 256 (codes " bind_address_no_port") bits ∷
+    flag_number 512 (codes " recverr_rfc4884") bits ∷
+    flag_number 1024 (codes " defer_connect") bits ∷ [])
+
+-- the same
+abbrev pub option_facts : SocketOptions → Facts
+option_facts options = option_bits options.bits
+
+-- the measurements of TCP Vegas, `struct tcpvegas_info`: times in microseconds
+unfoldable pub vegas_facts : VegasInfo → Facts
+vegas_facts v =
+    group (codes " vegas:(") (codes ")") (codes "vegasinfo") (numbers (
+    shown_number (codes "enabled:") (codes "enabled") v.enabled ∷
+    shown_number (codes ",rttcnt:") (codes "rttcnt") v.rtt_count ∷
+    shown_number (codes ",rtt:") (codes "rtt") v.rtt ∷
+    shown_number (codes ",minrtt:") (codes "minrtt") v.min_rtt ∷ []))
+
+-- the measurements of DCTCP, `struct tcp_dctcp_info`: `alpha` in 1024ths, `ab_ecn` and `ab_tot` in
+-- bytes
+unfoldable pub dctcp_facts : DctcpInfo → Facts
+dctcp_facts v =
+    group (codes " dctcp:(") (codes ")") (codes "dctcpinfo") (numbers (
+    shown_number (codes "enabled:") (codes "enabled") v.enabled ∷
+    shown_number (codes ",ce_state:") (codes "ce_state") v.ce_state ∷
+    shown_number (codes ",alpha:") (codes "alpha") v.alpha ∷
+    shown_number (codes ",ab_ecn:") (codes "ab_ecn") v.marked_bytes ∷
+    shown_number (codes ",ab_tot:") (codes "ab_tot") v.acked_bytes ∷ []))
+
+-- the measurements of BBR, `struct tcp_bbr_info`: `bw`, which is `bbr_bw_hi` and `bbr_bw_lo` as one
+-- number, in bytes per second, `min_rtt` in microseconds, the gains in 256ths
+unfoldable pub bbr_facts : BbrInfo → Facts
+bbr_facts v =
+    group (codes " bbr:(") (codes ")") (codes "bbrinfo") (numbers (
+    shown_number (codes "bw:") (codes "bw") v.bandwidth ∷
+    shown_number (codes ",mrtt:") (codes "min_rtt") v.min_rtt ∷
+    shown_number (codes ",pacing_gain:") (codes "pacing_gain") v.pacing_gain ∷
+    shown_number (codes ",cwnd_gain:") (codes "cwnd_gain") v.window_gain ∷ []))
+
+-- what an attribute of an IPv4 or IPv6 socket says that the port leaves undecoded
+abbrev pub newer_inet_outcome : Attribute → Outcome
+newer_inet_outcome a =
+    if attribute_kind a == INET_DIAG_CGROUP_ID
+    then number_outcome 8 (number_facts Always (codes " cgroup:") (Some (codes "cgroup_id"))) a
+    else if attribute_kind a == INET_DIAG_SOCKOPT
+    then record_outcome socket_options option_facts a
+    else if attribute_kind a == INET_DIAG_VEGASINFO
+    then record_outcome vegas_info vegas_facts a
+    else if attribute_kind a == INET_DIAG_DCTCPINFO then record_outcome dctcp_info dctcp_facts a
+    else if attribute_kind a == INET_DIAG_BBRINFO then record_outcome bbr_info bbr_facts a
+    else if attribute_kind a == INET_DIAG_MD5SIG then md5_outcome a
+    else if attribute_kind a == INET_DIAG_ULP_INFO then ulp_outcome a.value
+    else Ok None
+
+-- What an attribute `a` of an IPv4 or IPv6 socket says (linux/inet_diag.h), by its decoded value.
+abbrev pub inet_outcome : Bool → Attribute → InetNla (List ℕ) Attribute → Outcome
+inet_outcome utf8 a (inet_nla.LegacyMemInfo m) = Ok (Some (legacy_memory_facts m))
+inet_outcome utf8 a (inet_nla.TcpInfo t) = Ok (Some (tcp_info a.value))
+inet_outcome utf8 a (inet_nla.Congestion name) =
+    Ok (Some (text_facts utf8 (codes " cong:") (codes "cong") name))
+inet_outcome utf8 a (inet_nla.Tos n) =
+    Ok (Some (number_facts Hex (codes " tos:0x") (Some (codes "tos")) n))
+inet_outcome utf8 a (inet_nla.Tc n) =
+    Ok (Some (number_facts Hex (codes " tclass:0x") (Some (codes "tclass")) n))
+inet_outcome utf8 a (inet_nla.MemInfo m) = Ok (Some (memory_facts (codes "skmeminfo") m))
+inet_outcome utf8 a (inet_nla.Shutdown n) = Ok (Some (shutdown_facts n))
+inet_outcome utf8 a (inet_nla.Protocol n) =
+    Ok (Some (number_facts Always (codes " protocol:") (Some (codes "protocol")) n))
+inet_outcome utf8 a (inet_nla.SkV6Only flag) =
+    Ok (Some (flag_facts Always (codes " v6only:") (codes "skv6only") flag))
+inet_outcome utf8 a (inet_nla.Mark n) =
+    Ok (Some (number_facts Hex (codes " fwmark:0x") (Some (codes "mark")) n))
+inet_outcome utf8 a (inet_nla.ClassId n) =
+    Ok (Some (number_facts Hex (codes " class_id:0x") (Some (codes "class_id")) n))
+inet_outcome utf8 a (inet_nla.Other other) = newer_inet_outcome a
+
+-- what an attribute of an IPv4 or IPv6 socket says, as the port decodes it
+abbrev pub port_inet_facts : Bool → Attribute → Outcome
+port_inet_facts utf8 a = decoded_outcome (λ v. inet_outcome utf8 a (inet_variant v))
+    (decode_attribute inet_attribute_set a)
+
+-- what an attribute of an IPv4 or IPv6 socket says, by the meaning of INET_DIAG_INFO
+abbrev pub inet_facts : Bool → Info → Attribute → Outcome
+inet_facts utf8 Tcp a =
+    if attribute_kind a == INET_DIAG_INFO then Ok (Some (tcp_info a.value))
+    else port_inet_facts utf8 a
+inet_facts utf8 Mptcp a =
+    if attribute_kind a == INET_DIAG_INFO then Ok (Some (mptcp_info a.value))
+    else port_inet_facts utf8 a
+inet_facts utf8 Unknown a = port_inet_facts utf8 a
+
+-- ---- netlink, packet, vsock and XDP sockets
+
+-- The type of the attribute with the memory. Vsock sockets have none.
+abbrev pub memory_kind : Family → Option ℕ
+memory_kind Netlink = Some NETLINK_DIAG_MEMINFO
+memory_kind Packet = Some PACKET_DIAG_MEMINFO
+memory_kind Vsock = None
+memory_kind Xdp = Some XDP_DIAG_MEMINFO
+
+-- an attribute of this type has the memory of a socket of this family
+abbrev pub is_memory_kind : Family → ℕ → Bool
+is_memory_kind family kind = option_map_or (λ k. k == kind) (memory_kind family) false
+
+-- PACKET_DIAG_INFO, `struct packet_diag_info` of linux/packet_diag.h, with a name for each bit
+-- PDI_.. of `pdi_flags`
+unfoldable pub packet_facts : PacketInfo → Facts
+packet_facts p =
+    group [] [] (codes "info") (numbers (
+    hidden_number (codes "index") p.interface ∷
+    shown_number (codes " ver:") (codes "version") p.version ∷
+    hidden_number (codes "reserve") p.reserve ∷
+    shown_number (codes " cpy_thresh:") (codes "copy_thresh") p.copy_threshold ∷
+    hidden_number (codes "tstamp") p.timestamp ∷
+    hidden_number (codes "flags") p.flags ∷
+    flag_number 1 (codes " running") p.flags ∷ flag_number 2 (codes " auxdata") p.flags ∷
+    flag_number 4 (codes " origdev") p.flags ∷ flag_number 8 (codes " vnethdr") p.flags ∷
+    flag_number 16 (codes " loss") p.flags ∷ []))
+
+-- XDP_DIAG_INFO, `struct xdp_diag_info` of linux/if_xdp.h. The table has a column for it.
+unfoldable pub xdp_facts : XdpInfo → Facts
+xdp_facts x =
+    group [] [] (codes "info") (numbers (
+    hidden_number (codes "ifindex") x.interface ∷ hidden_number (codes "queue_id") x.queue ∷ []))
+
+-- the user id of a socket's owner: ` uid:` in the table, `uid` in JSON; an error if the value does
+-- not have four bytes
+abbrev pub uid_outcome : Attribute → Outcome
+uid_outcome a = number_outcome 4 (number_facts Always (codes " uid:") (Some (codes "uid"))) a
+
+-- the first 32 groups of a netlink socket, a bit for each, in the first four bytes of a value
+abbrev pub groups_outcome : Attribute → Outcome
+groups_outcome a =
+    if nat_le 4 (length a.value)
+    then Ok (Some
+    (number_facts Hex (codes " groups:0x") (Some (codes "groups")) (little_number 4 a.value)))
+    else length_error a 4
+
+-- an attribute other than the memory of a netlink, packet, vsock or XDP socket
+abbrev pub family_outcome : Family → Attribute → Outcome
+family_outcome Netlink a =
+    if attribute_kind a == NETLINK_DIAG_GROUPS then groups_outcome a else Ok None
+family_outcome Packet a =
+    if attribute_kind a == PACKET_DIAG_INFO
+    then map_ok (λ p. Some (packet_facts p)) (packet_info a.value)
+    else if attribute_kind a == PACKET_DIAG_UID then uid_outcome a else Ok None
+family_outcome Vsock a = Ok None
+family_outcome Xdp a =
+    if attribute_kind a == XDP_DIAG_INFO then map_ok (λ x. Some (xdp_facts x)) (xdp_info a.value)
+    else if attribute_kind a == XDP_DIAG_UID then uid_outcome a else Ok None
+
+-- what an attribute of a netlink, packet, vsock or XDP socket says
+abbrev pub family_facts : Family → Attribute → Outcome
+family_facts family a =
+    if is_memory_kind family (attribute_kind a) then memory_outcome (codes "meminfo") a
+    else family_outcome family a
+
+-- ---- all
+
+-- what an attribute says, by the kind of sockets that the reply is about; `utf8` as in `text_facts`
+abbrev pub attribute_facts : Bool → Sockets → Attribute → Outcome
+attribute_facts utf8 Unix a = unix_facts a
+attribute_facts utf8 (Inet info) a = inet_facts utf8 info a
+attribute_facts utf8 (Other family) a = family_facts family a

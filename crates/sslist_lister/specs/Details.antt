@@ -1,0 +1,108 @@
+-- Details of a socket: a text for each value that the columns do not show. Texts are lists of ASCII
+-- codes: 44 is a comma and 41 a closing parenthesis.
+use Rattle.std.specs.Prelude.{ℕ, ◌==◌, ◌||◌, if◌then◌else◌, List, [], ◌∷◌, ◌++◌, codes, decimal}
+use Rattle.std.specs.Prelude.{Bool, true, false, length, drop, flat_map, slice_index, Result, Ok}
+use Rattle.std.specs.Prelude.{Err, None, Option, Some}
+use Rattle.byteorder.specs.Endian.{little_number}
+use Rattle.sslist_lister.specs.texts.Parts.{cookie_if_shown, pair_detail, timer_if_shown}
+use Rattle.sslist_lister.specs.command_line.Options.{shows_detail}
+use Rattle.sslist_lister.specs.declared.texts.parts.TimerFields.{TimerFields}
+use Rattle.sslist_lister.specs.declared.command_line.options.Detail.{Detail}
+use Rattle.sslist_lister.specs.declared.command_line.options.Detail.TheVariants.{Extended, Memory}
+use Rattle.sslist_lister.specs.declared.command_line.options.Detail.TheVariants.{Connection}
+use Rattle.sslist_lister.specs.declared.command_line.options.Options.{Options}
+use Rattle.netlink_core.specs.Attribute.{Attribute, attribute_kind}
+use Rattle.netlink_core.specs.declared.error.DecodeError.{DecodeError}
+use Rattle.netlink_core.specs.declared.error.DecodeError.TheVariants.{BufferTooSmall, WrongLength}
+use Rattle.netlink_core.specs.declared.error.DecodeError.TheVariants.{NotMultipleOfFour, NotUtf8}
+use Rattle.netlink_core.specs.declared.error.DecodeError.TheVariants.{NameEmpty, NameInnerZero}
+use Rattle.netlink_core.specs.declared.error.DecodeError.TheVariants.{NameWithoutEnd}
+use Rattle.sock_diag_extras.specs.declared.constants.TheConstants.{INET_DIAG_ULP_INFO}
+use Rattle.sock_diag_records.specs.declared.constants.TheConstants.{INET_DIAG_BBRINFO}
+use Rattle.sock_diag_records.specs.declared.constants.TheConstants.{INET_DIAG_CONG}
+use Rattle.sock_diag_records.specs.declared.constants.TheConstants.{INET_DIAG_DCTCPINFO}
+use Rattle.sock_diag_records.specs.declared.constants.TheConstants.{INET_DIAG_INFO}
+use Rattle.sock_diag_records.specs.declared.constants.TheConstants.{INET_DIAG_MD5SIG}
+use Rattle.sock_diag_records.specs.declared.constants.TheConstants.{INET_DIAG_MEMINFO}
+use Rattle.sock_diag_records.specs.declared.constants.TheConstants.{INET_DIAG_SKMEMINFO}
+use Rattle.sock_diag_records.specs.declared.constants.TheConstants.{INET_DIAG_VEGASINFO}
+use Rattle.sock_diag_records.specs.declared.constants.TheConstants.{UNIX_DIAG_MEMINFO}
+use Rattle.sslist_lister.specs.AttributeFacts.{attribute_facts, is_memory_kind}
+use Rattle.sslist_lister.specs.Collected.{Summary}
+use Rattle.sslist_lister.specs.Facts.{facts_in}
+use Rattle.sslist_lister.specs.declared.attributes.Sockets.{Sockets}
+use Rattle.sslist_lister.specs.declared.attributes.Sockets.TheVariants.{Unix, Inet, Other}
+
+-- ---- invalid values
+
+-- the reason why a value is invalid, in one word
+abbrev pub error_reason : DecodeError → List ℕ
+error_reason (BufferTooSmall which got need) = codes "too-short"
+error_reason (WrongLength kind got need) = codes "wrong-length"
+error_reason (NotMultipleOfFour got) = codes "wrong-length"
+error_reason NotUtf8 = codes "not-utf8"
+error_reason NameEmpty = codes "empty"
+error_reason (NameInnerZero index) = codes "inner-zero"
+error_reason NameWithoutEnd = codes "no-end"
+error_reason _ = codes "refused"
+
+-- an attribute with an invalid value: its type, the length of the value, and the reason. Example: a
+-- space and `unread:(4,3,not-utf8)`.
+abbrev pub invalid_attribute_text : Attribute → DecodeError → List ℕ
+invalid_attribute_text a e =
+    codes " unread:(" ++ decimal (attribute_kind a) ++ 44 ∷ decimal (length a.value)
+    ++ 44 ∷ error_reason e ++ 41 ∷ []
+
+-- an unknown attribute: its type and the length of its value. Example: ` unknown:(42,8)`.
+abbrev pub unknown_attribute_text : Attribute → List ℕ
+unknown_attribute_text a = pair_detail (codes "unknown") (attribute_kind a) (length a.value)
+
+-- ---- attributes
+
+-- the text of an attribute without facts, by its status (`status_of`)
+abbrev pub status_text : Attribute → Result Bool DecodeError → List ℕ
+status_text a (Ok true) = []
+status_text a (Ok false) = unknown_attribute_text a
+status_text a (Err e) = invalid_attribute_text a e
+
+-- The group of details of an attribute, by the kind of sockets that the reply is about and the type
+-- of the attribute.
+abbrev pub detail_group : Sockets → ℕ → Detail
+detail_group Unix kind = if kind == UNIX_DIAG_MEMINFO then Memory else Extended
+detail_group (Inet info) kind =
+    if (kind == INET_DIAG_MEMINFO) || (kind == INET_DIAG_SKMEMINFO) then Memory
+    else if (kind == INET_DIAG_INFO) || (kind == INET_DIAG_VEGASINFO) || (kind == INET_DIAG_CONG)
+    || (kind == INET_DIAG_DCTCPINFO) || (kind == INET_DIAG_BBRINFO) || (kind == INET_DIAG_MD5SIG)
+    || (kind == INET_DIAG_ULP_INFO)
+    then Connection else Extended
+detail_group (Other family) kind = if is_memory_kind family kind then Memory else Extended
+
+-- the facts of a first valid attribute, if there is one and the options select its group of details
+abbrev pub valid_detail : Options → Sockets → Option Attribute → List ℕ
+valid_detail o sockets None = []
+valid_detail o sockets (Some a) =
+    if shows_detail o (detail_group sockets (attribute_kind a))
+    then (facts_in (attribute_facts o.utf8 sockets a)).text else []
+
+-- the text of an unknown or invalid attribute with its status, if the options select its group
+abbrev pub other_detail : Options → Sockets → Attribute × Result Bool DecodeError → List ℕ
+other_detail o sockets other =
+    if shows_detail o (detail_group sockets (attribute_kind other.0))
+    then status_text other.0 other.1 else []
+
+-- The timer fields of a reply about an IPv4 or IPv6 socket: `idiag_timer` at 2, `idiag_retrans` at
+-- 3 and `idiag_expires` at 52, in milliseconds.
+abbrev pub timer_in : List ℕ → TimerFields
+timer_in b = record {
+  class = slice_index b 2;
+  retransmits = slice_index b 3;
+  expires = little_number 4 (drop 52 b);
+}
+
+-- `details o timer cookie s`: the details of a socket, as far as the options select them. They are
+-- the timer, the cookie (eight bytes), the facts of the first valid attribute of each kind in the
+-- order of the kinds, and the unknown and the invalid attributes in the order of the bytes.
+abbrev pub details : Options → TimerFields → List ℕ → Summary → List ℕ
+details o timer cookie s =
+    timer_if_shown o timer ++ cookie_if_shown o cookie
+    ++ (flat_map (valid_detail o s.sockets) s.first ++ flat_map (other_detail o s.sockets) s.others)

@@ -1,0 +1,86 @@
+-- The MD5 keys of a TCP socket, INET_DIAG_MD5SIG: an array of records of 100 bytes. The texts are
+-- those of ss(8), and names in JSON are the kernel's names without the prefix `tcpm_`. Texts are
+-- lists of ASCII codes: 44 is a comma, 47 a slash, 58 a colon, 61 an equals sign.
+use Rattle.std.specs.Prelude.{ℕ, zero, suc, ◌==◌, ◌&&◌, ◌/◌, ◌%◌, nat_le, if◌then◌else◌, Bool, List}
+use Rattle.std.specs.Prelude.{[], ◌∷◌, ◌++◌, codes, decimal, drop, flat_map, length, map, Option}
+use Rattle.std.specs.Prelude.{None, Some, Ok}
+use Rattle.std.specs.Net.Text.{ip_text}
+use Rattle.std.specs.declared.net.ip_addr.IpAddr.{IpAddr}
+use Rattle.hex.specs.Hex.{encode_lower}
+use Rattle.json.specs.Json.{Json}
+use Rattle.sock_diag_extras.specs.Md5Signature.{md5_signature, peer_ip, used_key}
+use Rattle.sock_diag_extras.specs.RecordTable.{parse_by_table}
+use Rattle.sock_diag_extras.specs.declared.md5_signature.Md5Signature.{Md5Signature}
+use Rattle.sslist_lister.specs.texts.Escapes.{byte_digits, escaped_byte}
+use Rattle.sslist_lister.specs.texts.JsonData.{JsonMember, address_member, array_member}
+use Rattle.sslist_lister.specs.texts.JsonData.{number_members, object_of, text_member}
+use Rattle.netlink_core.specs.Attribute.{Attribute}
+use Rattle.sslist_lister.specs.Facts.{Facts, Outcome, length_error}
+
+-- the record in the first 100 bytes
+unfoldable pub key_at : List ℕ → Md5Signature
+key_at bytes = parse_by_table md5_signature bytes
+
+-- `first_keys count bytes`: the first `count` records in the bytes
+abbrev pub first_keys : ℕ → List ℕ → List Md5Signature
+first_keys zero bytes = []
+first_keys (suc count) bytes = key_at bytes ∷ first_keys count (drop 100 bytes)
+
+-- `md5_keys bytes`: all whole records in the bytes
+abbrev pub md5_keys : List ℕ → List Md5Signature
+md5_keys bytes = first_keys (length bytes / 100) bytes
+
+-- the bytes are at least one record, and only whole ones
+abbrev pub are_md5_keys : List ℕ → Bool
+are_md5_keys bytes = nat_le 100 (length bytes) && (length bytes % 100 == 0)
+
+-- a byte of a key, escaped as in names; a comma, which separates keys, is escaped too
+abbrev pub key_byte : ℕ → List ℕ
+key_byte byte = if byte == 44 then byte_digits byte else escaped_byte byte
+
+-- the address, or `*` if the family has none
+abbrev pub peer_text : Option IpAddr → List ℕ
+peer_text None = codes "*"
+peer_text (Some ip) = ip_text ip
+
+-- a key: the address of the peers, the length of the prefix, and the bytes of the key. Example:
+-- `192.0.2.0/24=secret`.
+unfoldable pub md5_key_text : Md5Signature → List ℕ
+md5_key_text k =
+    peer_text (peer_ip k) ++ 47 ∷ decimal k.prefix_length ++ 61 ∷ flat_map key_byte (used_key k)
+
+-- `md5_keys_text separator keys`: the keys. The first one follows `separator`, and each other one a
+-- comma.
+abbrev pub md5_keys_text : ℕ → List Md5Signature → List ℕ
+md5_keys_text separator [] = []
+md5_keys_text separator (k ∷ later) = separator ∷ md5_key_text k ++ md5_keys_text 44 later
+
+-- ---- JSON
+
+-- the address, or no member if the family has none
+unfoldable pub peer_member : Option IpAddr → List JsonMember
+peer_member None = []
+peer_member (Some ip) = address_member (codes "addr") ip
+
+-- the members of a key; `key` has the bytes that are used, in lowercase hexadecimal digits
+unfoldable pub md5_key_members : Md5Signature → List JsonMember
+md5_key_members k =
+    number_members ((codes "family", k.family) ∷ (codes "prefixlen", k.prefix_length)
+    ∷ (codes "keylen", k.key_length) ∷ [])
+    ++ (peer_member (peer_ip k) ++ text_member (codes "key") (encode_lower (used_key k)))
+
+-- the object of a key
+abbrev pub md5_key_value : Md5Signature → Json
+md5_key_value k = object_of (md5_key_members k)
+
+-- the keys in a value
+unfoldable pub md5_facts : List ℕ → Facts
+md5_facts value = record {
+  text = codes " md5keys" ++ md5_keys_text 58 (md5_keys value);
+  members = array_member (codes "md5sig") (map md5_key_value (md5_keys value));
+}
+
+-- the keys in the value of an attribute
+abbrev pub md5_outcome : Attribute → Outcome
+md5_outcome a =
+    if are_md5_keys a.value then Ok (Some (md5_facts a.value)) else length_error a 100

@@ -1,0 +1,55 @@
+-- Netlink messages, by their header and their payload.
+use Rattle.std.specs.Prelude.{ℕ, ◌-◌, ◌==◌, ◌&&◌, not, nat_le, if◌then◌else◌, Bool, List, length}
+use Rattle.std.specs.Prelude.{bit_and, drop, take, slice_index, Option, None, Some}
+use Rattle.netlink_core.specs.Header.{header_fields}
+use Rattle.netlink_core.specs.Table.{values_of}
+use Rattle.netlink_core.specs.declared.header.NetlinkHeader.{NetlinkHeader}
+use Rattle.netlink_core.specs.declared.header.TheConstants.{NETLINK_HEADER_LEN}
+use Rattle.netlink_core.specs.declared.message.TheConstants.{NLM_F_REQUEST}
+use Rattle.sslist_lister.specs.declared.messages.Message.{Message}
+
+-- What a netlink message has.
+pub record MessageParts : Type 0 where
+  -- its header
+  pub header : NetlinkHeader
+  -- the bytes after the header
+  pub payload : List ℕ
+
+-- the header with these numbers, in the order of `header_fields`
+abbrev pub header_with : List ℕ → NetlinkHeader
+header_with numbers = record {
+  length = slice_index numbers 0;
+  message_type = slice_index numbers 1;
+  flags = slice_index numbers 2;
+  sequence_number = slice_index numbers 3;
+  port_number = slice_index numbers 4;
+}
+
+-- the header that the bytes begin with
+unfoldable pub header_in : List ℕ → NetlinkHeader
+header_in bytes = header_with (values_of header_fields bytes)
+
+-- the message that the bytes begin with; the length in its header includes the header
+abbrev pub message_in : List ℕ → MessageParts
+message_in bytes = record {
+  header = header_in bytes;
+  payload =
+      take ((header_in bytes).length - NETLINK_HEADER_LEN) (drop NETLINK_HEADER_LEN bytes);
+}
+
+-- the bytes begin with a message: the length in its header includes the header, and is at most the
+-- number of bytes
+abbrev pub begins_with_message : List ℕ → Bool
+begins_with_message bytes = nat_le NETLINK_HEADER_LEN (length bytes)
+    && (nat_le NETLINK_HEADER_LEN (header_in bytes).length
+    && nat_le (header_in bytes).length (length bytes))
+
+-- the request that the bytes begin with: a message whose flags have NLM_F_REQUEST; or None
+abbrev pub request_in : List ℕ → Option MessageParts
+request_in bytes =
+    if begins_with_message bytes && not (bit_and (header_in bytes).flags NLM_F_REQUEST == 0)
+    then Some (message_in bytes) else None
+
+-- what a message has
+abbrev pub message_parts : Message → MessageParts
+message_parts message = record { header = message.header; payload = message.payload.now }

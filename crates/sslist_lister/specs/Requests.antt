@@ -1,0 +1,132 @@
+-- What captured requests ask for, and which of them are kept. Those for IPv4 and IPv6 sockets
+-- contain the protocols of the sockets in the replies.
+use Rattle.std.specs.Prelude.{ℕ, ◌==◌, ◌||◌, ◌&&◌, not, nat_le, if◌then◌else◌, Bool, List, []}
+use Rattle.std.specs.Prelude.{◌∷◌, ◌+◌, ◌-◌, ◌^◌, take, drop, length, min, slice_index, Option}
+use Rattle.std.specs.Prelude.{None, Some}
+use Rattle.byteorder.specs.Endian.{little_number}
+use Rattle.netlink_core.specs.Attribute.{Attribute}
+use Rattle.sock_diag_records.specs.declared.constants.TheConstants as c
+use Rattle.sock_diag_records.specs.declared.inet.request.TheConstants.{INET_DIAG_REQ_PROTOCOL}
+use Rattle.sock_diag_records.specs.declared.inet.request.TheConstants.{INET_REQUEST_LEN}
+use Rattle.sock_diag_records.specs.declared.unix.request.TheConstants.{UNIX_REQUEST_LEN}
+use Rattle.sslist_lister.specs.declared.command_line.options.Family.{Family}
+use Rattle.sslist_lister.specs.Lists.{RequestContent, first_request, first_with}
+use Rattle.sslist_lister.specs.Lists.{is_repetition}
+use Rattle.sslist_lister.specs.Messages.{MessageParts}
+use Rattle.sslist_lister.specs.Others.{family_numbered}
+use Rattle.sslist_lister.specs.Pieces.{first_of_kind, attributes_or_error}
+use Rattle.sslist_lister.specs.declared.requests.Query.{Query}
+use Rattle.sslist_lister.specs.declared.requests.Requested.{Requested}
+use Rattle.sslist_lister.specs.declared.requests.Requested.TheVariants as requests
+use Rattle.sslist_lister.specs.declared.requests.Requests.{Requests}
+
+-- `protocol_by byte attribute`: the protocol of a request. It is the little-endian value of its
+-- attribute INET_DIAG_REQ_PROTOCOL, if there is one and its value has four bytes, or else the byte
+-- `sdiag_protocol`.
+abbrev pub protocol_by : ℕ → Option Attribute → ℕ
+protocol_by byte None = byte
+protocol_by byte (Some a) = if length a.value == 4 then little_number 4 a.value else byte
+
+-- the query in a request for IPv4 or IPv6 sockets. Its payload has a `struct inet_diag_req_v2`,
+-- with `sdiag_family` at 0, `sdiag_protocol` at 1 and `idiag_states` at 4, little-endian, and then
+-- attributes.
+abbrev pub query_of : MessageParts → Query
+query_of request = record {
+  sequence_number = request.header.sequence_number;
+  port_number = request.header.port_number;
+  protocol = protocol_by (slice_index request.payload 1) (first_of_kind INET_DIAG_REQ_PROTOCOL
+      (attributes_or_error 0 (drop INET_REQUEST_LEN request.payload)));
+  family = slice_index request.payload 0;
+  states = little_number 4 (drop 4 request.payload);
+}
+
+-- a request of this type is about sockets: it lists or closes them
+abbrev pub is_about_sockets : ℕ → Bool
+is_about_sockets message_type =
+    (message_type == c.SOCK_DIAG_BY_FAMILY) || (message_type == c.SOCK_DESTROY)
+
+-- what a request for sockets of a netlink, packet, vsock or XDP family asks for; None is another
+-- family
+abbrev pub requested_other : Option Family → Requested
+requested_other (Some family) = requests.Other family
+requested_other None = requests.Unknown
+
+-- what a request about sockets of this family asks for. It has to be as long as a `struct
+-- inet_diag_req_v2` or a `struct unix_diag_req`, whose `udiag_states` are at 4, little-endian.
+abbrev pub requested_of_family : ℕ → MessageParts → Requested
+requested_of_family family request =
+    if ((family == c.AF_INET) || (family == c.AF_INET6))
+    && nat_le INET_REQUEST_LEN (length request.payload)
+    then requests.Inet (query_of request)
+    else if (family == c.AF_UNIX) && nat_le UNIX_REQUEST_LEN (length request.payload)
+    then requests.Unix (little_number 4 (drop 4 request.payload))
+    else requested_other (family_numbered family)
+
+-- what a request asks for. The first byte of its payload is the family.
+abbrev pub requested : MessageParts → Requested
+requested request =
+    if not (is_about_sockets request.header.message_type) || (length request.payload == 0)
+    then requests.Unknown else requested_of_family (slice_index request.payload 0) request
+
+-- `with_newest what asked`: the requests after one more, which asks for `what`. If this is IPv4 or
+-- IPv6 sockets it is the first one, and at most 15 of the older ones in `asked` follow. So at most
+-- 16 are kept, from the newest to the oldest.
+abbrev pub with_newest : Requested → List Query → List Query
+with_newest (requests.Inet newest) asked = newest ∷ take 15 asked
+with_newest what asked = asked
+
+-- the requests for IPv4 and IPv6 sockets after one more request; one that closes sockets has no
+-- replies, and is not kept
+abbrev pub with_query : MessageParts → List Query → List Query
+with_query request asked =
+    if request.header.message_type == c.SOCK_DIAG_BY_FAMILY
+    then with_newest (requested request) asked else asked
+
+-- The requests that are kept, and the number of the list of sockets after them.
+pub record PastRequests : Type 0 where
+  -- those for IPv4 and IPv6 sockets, at most 16, the newest first
+  pub queries : List Query
+  -- the first request of any kind
+  pub first : Option RequestContent
+  -- the number of the list; the first list is 1
+  pub list : ℕ
+
+-- what `Requests` keeps
+abbrev pub past_requests : Requests → PastRequests
+past_requests r = record {
+  queries = r.asked.items;
+  first = first_request r.first;
+  list = r.list;
+}
+
+-- before the first request
+abbrev pub no_requests : PastRequests
+no_requests = record { queries = []; first = None; list = 1 }
+
+-- the number of the list after one more request: a repetition of the first request begins the next
+-- list, with a number of at most 2 ^ 64 - 1
+abbrev pub list_with : MessageParts → PastRequests → ℕ
+list_with request past =
+    if is_repetition past.first request then min (past.list + 1) (2 ^ 64 - 1) else past.list
+
+-- the requests after one more
+abbrev pub with_request : MessageParts → PastRequests → PastRequests
+with_request request past = record {
+  queries = with_query request past.queries;
+  first = first_with request past.first;
+  list = list_with request past;
+}
+
+-- the requests after a datagram that begins with this request, or with none
+abbrev pub with_optional_request : Option MessageParts → PastRequests → PastRequests
+with_optional_request None past = past
+with_optional_request (Some request) past = with_request request past
+
+-- `protocol_of asked sequence port`: the protocol of the newest request that a reply with this
+-- sequence number (`nlmsg_seq`) and this port number (`nlmsg_pid`) may answer: its sequence number
+-- is equal, and its port number is equal or 0. None if there is no such request.
+abbrev pub protocol_of : List Query → ℕ → ℕ → Option ℕ
+protocol_of [] sequence port = None
+protocol_of (a ∷ asked) sequence port =
+    if (a.sequence_number == sequence) && ((a.port_number == port) || (a.port_number == 0))
+    then Some a.protocol else protocol_of asked sequence port

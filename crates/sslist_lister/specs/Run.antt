@@ -1,0 +1,164 @@
+-- Listing of a whole capture.
+use Rattle.std.specs.Prelude.{◌≡◌, ◌↔◌, ℕ, ◌+◌, ◌-◌, ◌^◌, ◌⊎◌, List, [], ◌∷◌, ◌++◌, length}
+use Rattle.std.specs.Prelude.{flat_map, Bool, IsTrue, Option, ⊤}
+use Rattle.std.specs.Io.KnownBytes.{Appends, Consumes, IsAtEnd, Keeps}
+use Rattle.std.specs.List.{AllByRecursion}
+use Rattle.program_streams.specs.declared.streams.ReadError.{ReadError}
+use Rattle.program_streams.specs.declared.streams.ReadError.TheVariants.{Other}
+use Rattle.sslist_lister.specs.declared.texts.list_error.ListError.{ListError}
+use Rattle.sslist_lister.specs.declared.texts.list_error.ListError.TheVariants.{Header, Packet}
+use Rattle.sslist_lister.specs.declared.texts.list_error.ListError.TheVariants.{Write}
+use Rattle.sslist_lister.specs.declared.texts.list_error.ListError.TheVariants.{Memory}
+use Rattle.netlink_captures.specs.Capture.{CapturedPacket}
+use Rattle.netlink_captures.specs.Reader.{CaptureState, IsCaptureEnd, IsCaptureStart}
+use Rattle.netlink_captures.specs.Reader.{IsCaptureStartStop, IsCaptureStop, ReadsPacket}
+use Rattle.sslist_lister.specs.declared.command_line.options.Options.{Options}
+use Rattle.sslist_lister.specs.Diagnostics.{AreDiagnosed}
+use Rattle.sslist_lister.specs.Listing.{ListsCapturedPacket, requests_after_packet}
+use Rattle.sslist_lister.specs.Requests.{PastRequests, no_requests}
+
+-- the lines of a packet, and whether it was listed completely
+pub record ListedPacket : Type 0 where
+  -- the lines of the packet in the table
+  pub lines : List ℕ
+  -- the packet was listed completely
+  pub whole : Bool
+
+-- the lines of a listed packet
+abbrev pub lines_of_packet : ListedPacket → List ℕ
+lines_of_packet listing = listing.lines
+
+-- the packet was listed completely
+abbrev pub IsListedCompletely : ListedPacket → Type 0
+IsListedCompletely listing = IsTrue listing.whole
+
+-- `IsListed o past packet listing`: `listing` has the lines of the packet, and whether it was
+-- listed completely. `past` are the requests before this packet.
+abbrev pub IsListed : Options → PastRequests → CapturedPacket → ListedPacket → Type 0
+IsListed o past packet listing = ListsCapturedPacket o past packet [] listing.lines listing.whole
+
+-- `AreListed o past packets listings`: one listing for each of these consecutive packets, in
+-- order. `past` are the requests before the first of them.
+abbrev pub AreListed : Options → PastRequests → List CapturedPacket → List ListedPacket → Type 0
+AreListed o past [] [] = ⊤
+AreListed o past [] (listing ∷ later) = ⊥
+AreListed o past (packet ∷ packets) [] = ⊥
+AreListed o past (packet ∷ packets) (listing ∷ later) =
+    IsListed o past packet listing
+    × AreListed o (requests_after_packet past packet.bytes) packets later
+
+-- `ArePackets s bytes packets s'`: the bytes lead from the state `s` of a reader to `s'`, over
+-- these packets, one after another (`ReadsPacket`)
+abbrev pub ArePackets : CaptureState → List ℕ → List CapturedPacket → CaptureState → Type 0
+ArePackets s bytes [] s' = (bytes ≡ []) × (s' ≡ s)
+ArePackets s bytes (packet ∷ later) s' =
+    (first rest : List ℕ) × (mid : CaptureState) × ReadsPacket s first packet mid
+    × (bytes ≡ first ++ rest) × ArePackets mid rest later s'
+
+-- `IsTableOfCapture o front bytes lines diagnostics is_whole`: the bytes of a capture, and the
+-- lines and diagnostics of its packets, in order. The first bytes open the capture (`header`), and
+-- packets follow (`records`). Each diagnostic begins with `front`. Packets are numbered from 1
+-- on. `is_whole` is true if and only if each packet was listed completely.
+pub record IsTableOfCapture (o : Options) (front bytes lines diagnostics : List ℕ) (is_whole : Bool)
+    : Type 0 where
+  -- the bytes that open the capture
+  pub header : List ℕ
+  -- the state of the reader after them
+  pub start : CaptureState
+  -- the bytes of all packets with their packet headers or blocks
+  pub records : List ℕ
+  -- the state of the reader after them
+  pub state : CaptureState
+  -- the packets in `records`
+  pub packets : List CapturedPacket
+  -- the lines of each packet, and whether it was listed completely
+  pub listings : List ListedPacket
+  pub parts : bytes ≡ header ++ records
+  pub is_header : IsCaptureStart header start
+  pub are_packets : ArePackets start records packets state
+  -- no request precedes the first packet
+  pub listed : AreListed o no_requests packets listings
+  pub written : lines ≡ flat_map lines_of_packet listings
+  -- the first packet has the number 1
+  pub diagnosed : AreDiagnosed front 1 packets diagnostics
+  pub whole : IsTrue is_whole ↔ AllByRecursion IsListedCompletely listings
+
+-- The parameters are the state of a run: the bytes that remain to be read (`left` before the run,
+-- `left'` after it) and the bytes written (`held` and `held'`), each if known; the heading of the
+-- table, the prefix of each diagnostic, and `Reported`, which states that a text was reported on
+-- standard error.
+module _ (o : Options) (left left' held held' : Option (List ℕ)) (heading front : List ℕ)
+    (Reported : List ℕ → Type 0) where
+  -- The state after a number of packets: the capture was opened and these packets were read, which
+  -- led to the state `state` of the reader, and then the bytes `more` were read. The heading and
+  -- the lines of these packets were written, and their diagnostics reported.
+  pub record RunState (state : CaptureState) (packets : ℕ) (more : List ℕ) : Type 0 where
+    -- the bytes that open the capture, and those of the packets
+    pub bytes : List ℕ
+    -- the lines of the packets
+    pub lines : List ℕ
+    -- the diagnostics of the packets
+    pub diagnostics : List ℕ
+    pub is_whole : Bool
+    pub table : IsTableOfCapture o front bytes lines diagnostics is_whole
+    pub reached : table.state ≡ state
+    -- the number of packets is `packets`
+    pub counted : length table.packets ≡ packets
+    -- these bytes, and then `more`, were read
+    pub read : Consumes left left' (bytes ++ more)
+    -- the heading and the lines were written
+    pub appended : Appends held held' (heading ++ lines)
+    pub reported : Reported diagnostics
+
+  -- The state after a failed write: a prefix of the heading and the lines of the capture so far was
+  -- written (`sent`), and its diagnostics were reported. `more` are the bytes of a pcapng file
+  -- after its last packet, if the last flush failed.
+  abbrev pub FailsAtWrite : Type 0
+  FailsAtWrite =
+      (bytes lines diagnostics : List ℕ) × (is_whole : Bool)
+      × (table : IsTableOfCapture o front bytes lines diagnostics is_whole)
+      × (more : List ℕ) × IsCaptureEnd table.state more
+      × Consumes left left' (bytes ++ more) × (sent : List ℕ) × (rest : List ℕ)
+      × (heading ++ lines ≡ sent ++ rest) × Appends held held' sent × Reported diagnostics
+
+  -- The state of a run that failed with an error. `unread error` states that a read failed with
+  -- this error.
+  -- * Header: the capture could not be opened, nothing was written and nothing reported.
+  -- * Packet: the packet of this number could not be read. The packets before it were listed. The
+  --   number 2 ^ 64 - 1 is never read: the run fails there as if a read had failed, with Other.
+  -- * Memory: an allocation failed while a packet was listed, which had been read. The packets
+  --   before it were listed.
+  -- * Write: a write or the last flush failed.
+  abbrev pub Fails : (ReadError → Type 0) → ListError → Type 0
+  Fails unread (Header error) =
+      (part : List ℕ) × Consumes left left' part × IsCaptureStartStop left' unread part error
+      × Keeps held held' × Reported []
+  Fails unread (Packet number error) =
+      (state : CaptureState) × (packets : ℕ) × (part : List ℕ) × RunState state packets part
+      × (number ≡ packets + 1)
+      × IsCaptureStop state left'
+      (λ cause. unread cause ⊎ ((number ≡ 2 ^ 64 - 1) × (cause ≡ Other))) part error
+  Fails unread Memory =
+      (state after : CaptureState) × (packets : ℕ) × (bytes : List ℕ) × (packet : CapturedPacket)
+      × ReadsPacket state bytes packet after × RunState state packets bytes
+  Fails unread (Write error) = FailsAtWrite
+
+  -- The state of a run that succeeded: a whole capture was read up to the end of the input, all of
+  -- its table was written, and its diagnostics were reported. `is_whole` is true if and only if
+  -- each packet was listed completely.
+  pub record Finishes (is_whole : Bool) : Type 0 where
+    -- the bytes of the capture up to its last packet
+    pub bytes : List ℕ
+    -- the bytes after them: none in a pcap file, and blocks without a packet in a pcapng file
+    pub more : List ℕ
+    -- the lines of all packets
+    pub lines : List ℕ
+    -- the diagnostics of all packets
+    pub diagnostics : List ℕ
+    pub table : IsTableOfCapture o front bytes lines diagnostics is_whole
+    pub no_packet : IsCaptureEnd table.state more
+    pub read : Consumes left left' (bytes ++ more)
+    pub ended : IsAtEnd left'
+    -- the heading and the lines were written
+    pub appended : Appends held held' (heading ++ lines)
+    pub reported : Reported diagnostics

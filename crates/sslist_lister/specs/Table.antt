@@ -1,0 +1,153 @@
+-- Lines of the table for UNIX, IPv4 and IPv6 sockets. `s` is what a reply has
+-- in its attributes.
+use Rattle.std.specs.Prelude.{ℕ, ◌==◌, nat_lt, if◌then◌else◌, ◌&&◌, Bool, List, [], ◌∷◌, ◌++◌}
+use Rattle.std.specs.Prelude.{length, codes, Option, None, Some, slice_index, option_map, drop}
+use Rattle.std.specs.Prelude.{◌||◌, option_and_then, Result, Ok, Err}
+use Rattle.byteorder.specs.Endian.{little_number}
+use Rattle.netlink_core.specs.Attribute.{Attribute}
+use Rattle.netlink_core.specs.AttributeSet.{AttributeValue, ValueOfKind, decode_attribute}
+use Rattle.netlink_core.specs.AttributeSet.{value_of_kind}
+use Rattle.netlink_core.specs.declared.error.DecodeError.{DecodeError}
+use Rattle.sslist_lister.specs.texts.Cells.{endpoint, named_line, number_or_star, table_line}
+use Rattle.sslist_lister.specs.texts.Parts.{no_timer, details_after_separator}
+use Rattle.sslist_lister.specs.texts.Escapes.{byte_digits, unescaped_bytes, shown_name}
+use Rattle.sslist_lister.specs.declared.texts.parts.TimerFields.{TimerFields}
+use Rattle.sslist_lister.specs.declared.command_line.options.Options.{Options}
+use Rattle.sslist_lister.specs.declared.command_line.options.TheConstants.{IPPROTO_MPTCP}
+use Rattle.sslist_lister.specs.declared.command_line.options.TheConstants.{IPPROTO_TCP, IPPROTO_UDP}
+use Rattle.sock_diag_records.specs.declared.inet.response.InetResponseHeader.{InetResponseHeader}
+use Rattle.sock_diag_records.specs.declared.unix.response.UnixResponseHeader.{UnixResponseHeader}
+use Rattle.sock_diag_records.specs.declared.constants.TheConstants.{AF_INET6, UNIX_DIAG_NAME}
+use Rattle.sock_diag_records.specs.declared.constants.TheConstants.{UNIX_DIAG_PEER, UNIX_DIAG_RQLEN}
+use Rattle.sock_diag_attributes.specs.declared.unix.name.SocketName.{SocketName}
+use Rattle.sock_diag_attributes.specs.declared.unix.name.SocketName.TheVariants.{Abstract, Pathname}
+use Rattle.sock_diag_attributes.specs.UnixAttributes.{unix_attribute_set}
+use Rattle.sslist_lister.specs.Details.{details}
+use Rattle.sslist_lister.specs.declared.line.TheConstants.{NO_INTERFACE}
+use Rattle.sslist_lister.specs.declared.attributes.Info.{Info}
+use Rattle.sslist_lister.specs.declared.attributes.Info.TheVariants.{Mptcp, Tcp, Unknown}
+use Rattle.sslist_lister.specs.Collected.{Summary, first_in}
+use Rattle.sock_diag_extras.specs.declared.constants.TheConstants.{UNIX_DIAG_UID}
+
+-- ---- UNIX sockets
+
+-- `needs_escaped_first_byte path`: the path begins with `@` (64), like an abstract name, or is `*`
+-- (42), which means that there is no name
+abbrev pub needs_escaped_first_byte : List ℕ → Bool
+needs_escaped_first_byte path = (nat_lt 0 (length path) && (slice_index path 0 == 64))
+    || ((length path == 1) && (slice_index path 0 == 42))
+
+-- `path_text utf8 path`: the text of a path, as `shown_name` shows it. The first byte of a path
+-- that `needs_escaped_first_byte` is shown as `\x` and two hex digits (`byte_digits`), since the
+-- cell would else be that of an abstract name or of no name. `utf8`: the option `--utf8`.
+abbrev pub path_text : Bool → List ℕ → List ℕ
+path_text utf8 path =
+    if needs_escaped_first_byte path
+    then byte_digits (slice_index path 0) ++ shown_name utf8 (drop 1 path)
+    else shown_name utf8 path
+
+-- `unix_kind kind`: the column Netid of a UNIX socket, by its type: SOCK_STREAM (1), SOCK_DGRAM
+-- (2), SOCK_SEQPACKET (5), or any other
+abbrev pub unix_kind : ℕ → List ℕ
+unix_kind kind = if kind == 1 then codes "u_str" else (if kind == 2 then codes "u_dgr"
+    else (if kind == 5 then codes "u_seq" else codes "unix"))
+
+-- `name_cell utf8 name`: the cell of a name: a path, or `@` (64) and an abstract name, or `*` if
+-- there is no name (None)
+abbrev pub name_cell : Bool → Option (SocketName (List ℕ)) → List ℕ
+name_cell utf8 None = codes "*"
+name_cell utf8 (Some (Pathname path)) = path_text utf8 path
+name_cell utf8 (Some (Abstract address)) = 64 ∷ shown_name utf8 address
+
+-- The name that a cell represents, if a space (32) follows it. It is the inverse of `name_cell`:
+-- `*` (42) and a space are None, `@` (64) begins an abstract name, and anything else is a path.
+abbrev pub name_of_cell : List ℕ → Option (SocketName (List ℕ))
+name_of_cell cell =
+    if (slice_index cell 0 == 42) && (slice_index cell 1 == 32) then None
+    else if slice_index cell 0 == 64 then Some (Abstract (unescaped_bytes 0 (drop 1 cell)))
+    else Some (Pathname (unescaped_bytes 0 cell))
+
+-- ---- IPv4 and IPv6 sockets
+
+-- the name of a family: `inet6` for AF_INET6, or else `inet`
+abbrev pub family_name : ℕ → List ℕ
+family_name family = if family == AF_INET6 then codes "inet6" else codes "inet"
+
+-- `inet_kind protocol family`: the column Netid of an IPv4 or IPv6 socket: the name of the protocol
+-- by its number IPPROTO_.., as ss(8) prints it. If the protocol is not known (None) or has no name
+-- here, it is the name of the family.
+abbrev pub inet_kind : Option ℕ → ℕ → List ℕ
+inet_kind None family = family_name family
+inet_kind (Some protocol) family =
+    if protocol == IPPROTO_TCP then codes "tcp" else if protocol == IPPROTO_UDP then codes "udp"
+    else if protocol == 33 then codes "dccp" else if protocol == 132 then codes "sctp"
+    else if protocol == 136 then codes "udplite" else if protocol == 255 then codes "raw"
+    else if protocol == IPPROTO_MPTCP then codes "mptcp" else family_name family
+
+-- ---- lines
+
+-- the user id in an attribute; None if its value does not have four bytes
+abbrev pub user_id : Attribute → Option ℕ
+user_id a = if length a.value == 4 then Some (little_number 4 a.value) else None
+
+-- the content of a decoded attribute of the kind `k`; None for a decode error
+abbrev pub unix_content : (k : ℕ) → Result (AttributeValue unix_attribute_set) DecodeError
+    → Option (ValueOfKind unix_attribute_set k)
+unix_content k (Ok value) = value_of_kind unix_attribute_set k value
+unix_content k (Err e) = None
+
+-- the content of the first valid attribute of the kind `k` of a UNIX socket, or None
+abbrev pub unix_value : (k : ℕ) → Summary → Option (ValueOfKind unix_attribute_set k)
+unix_value k s =
+    option_and_then (λ a. unix_content k (decode_attribute unix_attribute_set a)) (first_in k s)
+
+-- `unix_line o h s`: the columns of a UNIX socket, whose header is `h`. The name is in the
+-- attribute UNIX_DIAG_NAME, the inode of the peer in UNIX_DIAG_PEER, and the lengths of the queues
+-- in UNIX_DIAG_RQLEN: first the receive queue, then the send queue. The user id is in
+-- UNIX_DIAG_UID.
+abbrev pub unix_line : Options → UnixResponseHeader → Summary → List ℕ
+unix_line o h s =
+    let queues = unix_value UNIX_DIAG_RQLEN s in
+    named_line o.utf8 (record {
+      kind = unix_kind h.kind;
+      state = h.state;
+      receive_queue = option_map (λ ns. ns.0) queues;
+      send_queue = option_map (λ ns. ns.1) queues;
+      inode = h.inode;
+      uid = option_and_then user_id (first_in UNIX_DIAG_UID s);
+    }) (name_cell o.utf8 (unix_value UNIX_DIAG_NAME s))
+    (number_or_star (unix_value UNIX_DIAG_PEER s))
+
+-- `inet_line protocol h`: the columns of an IPv4 or IPv6 socket, whose header is `h`. `protocol` is
+-- the protocol of the request. The interface is shown after the local address only.
+abbrev pub inet_line : Option ℕ → InetResponseHeader → List ℕ
+inet_line protocol h =
+    let id = h.socket_id in
+    table_line (record {
+      kind = inet_kind protocol h.family;
+      state = h.state;
+      receive_queue = Some h.recv_queue;
+      send_queue = Some h.send_queue;
+      inode = h.inode;
+      uid = Some h.uid;
+    }) (endpoint id.source_address id.interface_id id.source_port)
+    (endpoint id.destination_address NO_INTERFACE id.destination_port)
+
+-- `unix_lines o h s`: the lines of a UNIX socket: the columns, the details and a line feed (10)
+abbrev pub unix_lines : Options → UnixResponseHeader → Summary → List ℕ
+unix_lines o h s =
+    unix_line o h s ++ details_after_separator o (details o no_timer h.cookie s) ++ 10 ∷ []
+
+-- the meaning of INET_DIAG_INFO, by the protocol of the request
+abbrev pub info_of_protocol : Option ℕ → Info
+info_of_protocol None = Unknown
+info_of_protocol (Some protocol) =
+    if protocol == IPPROTO_TCP then Tcp
+    else if protocol == IPPROTO_MPTCP then Mptcp else Unknown
+
+-- `inet_lines o protocol timer h s`: the lines of an IPv4 or IPv6 socket: the columns, the details
+-- and a line feed (10). `timer` are the timer fields of the reply's header (`timer_in`).
+abbrev pub inet_lines : Options → Option ℕ → TimerFields → InetResponseHeader → Summary → List ℕ
+inet_lines o protocol timer h s =
+    inet_line protocol h ++ details_after_separator o (details o timer h.socket_id.cookie s)
+    ++ 10 ∷ []

@@ -1,0 +1,260 @@
+-- The facts of a TCP or MPTCP connection: the members of `struct tcp_info` of linux/tcp.h or of
+-- `struct mptcp_info` of linux/mptcp.h, as Linux 6.18 defines them. JSON has them under the
+-- kernel's names without the prefix `tcpi_` or `mptcpi_`.
+use Rattle.std.specs.Prelude.{ℕ, ◌+◌, ◌==◌, ◌/◌, ◌%◌, nat_le, if◌then◌else◌, Bool, false, not, List}
+use Rattle.std.specs.Prelude.{[], ◌∷◌, bit_and, codes, drop, length, Option, None, Some, option_map}
+use Rattle.std.specs.Option.{option_map_or}
+use Rattle.byteorder.specs.Endian.{little_number}
+use Rattle.sock_diag_extras.specs.MptcpFields.{mptcp_span_of}
+use Rattle.sock_diag_extras.specs.TcpFields.{span_of}
+use Rattle.sock_diag_extras.specs.declared.constants.TheConstants as c
+use Rattle.sock_diag_extras.specs.declared.mptcp_info.MptcpField.{MptcpField}
+use Rattle.sock_diag_extras.specs.declared.mptcp_info.MptcpField.TheVariants as mptcp
+use Rattle.sock_diag_extras.specs.declared.tcp_info.TcpField.{TcpField}
+use Rattle.sock_diag_extras.specs.declared.tcp_info.TcpField.TheVariants as field
+use Rattle.sslist_lister.specs.Facts.{Facts, both, facts_of_each, group, no_facts}
+use Rattle.sslist_lister.specs.Facts.{number_facts}
+use Rattle.sslist_lister.specs.declared.facts.Shown.{Shown}
+use Rattle.sslist_lister.specs.declared.facts.Shown.TheVariants.{Bits, Halves, Never, Nonzero}
+use Rattle.sslist_lister.specs.declared.facts.Shown.TheVariants.{NonzeroHex, Threshold}
+use Rattle.sslist_lister.specs.declared.tcp.FieldPart.{FieldPart}
+use Rattle.sslist_lister.specs.declared.tcp.FieldPart.TheVariants.{Byte, Eight, FirstBit, Four}
+use Rattle.sslist_lister.specs.declared.tcp.FieldPart.TheVariants.{HighFour, LowFour}
+use Rattle.sslist_lister.specs.declared.tcp.FieldPart.TheVariants.{Negotiated, NextTwo, Two}
+
+-- a row: the offset of a field (`.0`), the number there (`.1`), how the table shows it (`.2`), its
+-- text there (`.3`), and its name in JSON (`.4`)
+abbrev pub FieldRow : Type 0
+FieldRow = ℕ × FieldPart × Shown × List ℕ × Option (List ℕ)
+
+-- the offset of a field in bytes
+abbrev pub offset_of : TcpField → ℕ
+offset_of f = (span_of f).0
+
+-- the number of a field, by its width in bytes
+abbrev pub part_of_width : ℕ → FieldPart
+part_of_width width =
+    if width == 1 then Byte else if width == 2 then Two else if width == 4 then Four else Eight
+
+-- `row_of span format text member`: the row of a field with this offset (`.0`) and width (`.1`)
+abbrev pub row_of : ℕ × ℕ → Shown → List ℕ → Option (List ℕ) → FieldRow
+row_of span format text member = (span.0, part_of_width span.1, format, text, member)
+
+-- a field that the table shows if it is neither 0 nor unlimited
+abbrev pub shown : TcpField → List ℕ → List ℕ → FieldRow
+shown f text member = row_of (span_of f) Nonzero text (Some member)
+
+-- `hidden_part f part member`: bits of a field, which the table does not show
+abbrev pub hidden_part : TcpField → FieldPart → List ℕ → FieldRow
+hidden_part f part member = (offset_of f, part, Never, [], Some member)
+
+-- a field that the table does not show
+abbrev pub hidden : TcpField → List ℕ → FieldRow
+hidden f member = row_of (span_of f) Never [] (Some member)
+
+-- a bit of `tcpi_options`, which the table shows if it is set
+abbrev pub option_row : ℕ → List ℕ → FieldRow
+option_row bit text = (offset_of field.Options, Byte, Bits bit, text, None)
+
+-- The rows of the first eight bytes: the state, the options and the window scales. The bits of
+-- `tcpi_options` are TCPI_OPT_TIMESTAMPS (1), TCPI_OPT_SACK (2), TCPI_OPT_ECN (8),
+-- TCPI_OPT_ECN_SEEN (16) and TCPI_OPT_SYN_DATA (32). With TCPI_OPT_WSCALE (4) the table shows both
+-- window scales.
+unfoldable pub tcp_state_rows : List FieldRow
+tcp_state_rows =
+    hidden field.State (codes "state") ∷
+    hidden field.CaState (codes "ca_state") ∷
+    hidden field.Retransmits (codes "retransmits") ∷
+    hidden field.Probes (codes "probes") ∷
+    shown field.Backoff (codes " backoff:") (codes "backoff") ∷
+    hidden field.Options (codes "options") ∷
+    option_row 1 (codes " ts") ∷
+    option_row 2 (codes " sack") ∷
+    option_row 8 (codes " ecn") ∷
+    option_row 16 (codes " ecnseen") ∷
+    option_row 32 (codes " fastopen") ∷
+    hidden_part field.Wscale LowFour (codes "snd_wscale") ∷
+    hidden_part field.Wscale HighFour (codes "rcv_wscale") ∷
+    (offset_of field.Wscale, Negotiated, Halves, codes " wscale:(", None) ∷ (
+      offset_of field.DeliveryRateAppLimited,
+      FirstBit,
+      Bits 1,
+      codes " app_limited",
+      Some (codes "delivery_rate_app_limited"),
+    ) ∷
+    hidden_part field.DeliveryRateAppLimited NextTwo (codes "fastopen_client_fail") ∷ []
+
+-- the rows of the times and metrics, from `tcpi_rto` to `tcpi_total_retrans`
+unfoldable pub tcp_metric_rows : List FieldRow
+tcp_metric_rows =
+    shown field.Rto (codes " rto:") (codes "rto") ∷
+    shown field.Ato (codes " ato:") (codes "ato") ∷
+    shown field.SndMss (codes " mss:") (codes "snd_mss") ∷
+    shown field.RcvMss (codes " rcvmss:") (codes "rcv_mss") ∷
+    shown field.Unacked (codes " unacked:") (codes "unacked") ∷
+    shown field.Sacked (codes " sacked:") (codes "sacked") ∷
+    shown field.Lost (codes " lost:") (codes "lost") ∷
+    shown field.Retrans (codes " retrans_now:") (codes "retrans") ∷
+    hidden field.Fackets (codes "fackets") ∷
+    shown field.LastDataSent (codes " lastsnd:") (codes "last_data_sent") ∷
+    hidden field.LastAckSent (codes "last_ack_sent") ∷
+    shown field.LastDataRecv (codes " lastrcv:") (codes "last_data_recv") ∷
+    shown field.LastAckRecv (codes " lastack:") (codes "last_ack_recv") ∷
+    shown field.Pmtu (codes " pmtu:") (codes "pmtu") ∷
+    shown field.RcvSsthresh (codes " rcv_ssthresh:") (codes "rcv_ssthresh") ∷
+    shown field.Rtt (codes " rtt:") (codes "rtt") ∷
+    shown field.Rttvar (codes " rttvar:") (codes "rttvar") ∷ (
+      offset_of field.SndSsthresh,
+      Four,
+      Threshold,
+      codes " ssthresh:",
+      Some (codes "snd_ssthresh"),
+    ) ∷
+    shown field.SndCwnd (codes " cwnd:") (codes "snd_cwnd") ∷
+    shown field.Advmss (codes " advmss:") (codes "advmss") ∷
+    shown field.Reordering (codes " reordering:") (codes "reordering") ∷
+    shown field.RcvRtt (codes " rcv_rtt:") (codes "rcv_rtt") ∷
+    shown field.RcvSpace (codes " rcv_space:") (codes "rcv_space") ∷
+    shown field.TotalRetrans (codes " retrans:") (codes "total_retrans") ∷ []
+
+-- the rows of the rates and counters, from `tcpi_pacing_rate` on
+unfoldable pub tcp_rate_rows : List FieldRow
+tcp_rate_rows =
+    shown field.PacingRate (codes " pacing_rate:") (codes "pacing_rate") ∷
+    shown field.MaxPacingRate (codes " max_pacing_rate:") (codes "max_pacing_rate") ∷
+    shown field.BytesAcked (codes " bytes_acked:") (codes "bytes_acked") ∷
+    shown field.BytesReceived (codes " received:") (codes "bytes_received") ∷
+    shown field.SegsOut (codes " segs_out:") (codes "segs_out") ∷
+    shown field.SegsIn (codes " segs_in:") (codes "segs_in") ∷
+    shown field.NotsentBytes (codes " notsent:") (codes "notsent_bytes") ∷
+    shown field.MinRtt (codes " minrtt:") (codes "min_rtt") ∷
+    shown field.DataSegsIn (codes " data_segs_in:") (codes "data_segs_in") ∷
+    shown field.DataSegsOut (codes " data_segs_out:") (codes "data_segs_out") ∷
+    shown field.DeliveryRate (codes " delivery_rate:") (codes "delivery_rate") ∷
+    shown field.BusyTime (codes " busy:") (codes "busy_time") ∷
+    shown field.RwndLimited (codes " rwnd_limited:") (codes "rwnd_limited") ∷
+    shown field.SndbufLimited (codes " sndbuf_limited:") (codes "sndbuf_limited") ∷
+    shown field.Delivered (codes " delivered:") (codes "delivered") ∷
+    shown field.DeliveredCe (codes " delivered_ce:") (codes "delivered_ce") ∷
+    shown field.BytesSent (codes " sent:") (codes "bytes_sent") ∷
+    shown field.BytesRetrans (codes " bytes_retrans:") (codes "bytes_retrans") ∷
+    shown field.DsackDups (codes " dsack_dups:") (codes "dsack_dups") ∷
+    shown field.ReordSeen (codes " reord_seen:") (codes "reord_seen") ∷
+    shown field.RcvOoopack (codes " rcv_ooopack:") (codes "rcv_ooopack") ∷
+    shown field.SndWnd (codes " snd_wnd:") (codes "snd_wnd") ∷
+    shown field.RcvWnd (codes " rcv_wnd:") (codes "rcv_wnd") ∷
+    shown field.Rehash (codes " rehash:") (codes "rehash") ∷
+    shown field.TotalRto (codes " total_rto:") (codes "total_rto") ∷
+    shown field.TotalRtoRecoveries (codes " total_rto_recoveries:") (codes "total_rto_recoveries") ∷
+    shown field.TotalRtoTime (codes " total_rto_time:") (codes "total_rto_time") ∷
+    shown field.ReceivedCe (codes " received_ce:") (codes "received_ce") ∷
+    shown field.DeliveredE1Bytes (codes " delivered_e1_bytes:") (codes "delivered_e1_bytes") ∷
+    shown field.DeliveredE0Bytes (codes " delivered_e0_bytes:") (codes "delivered_e0_bytes") ∷
+    shown field.DeliveredCeBytes (codes " delivered_ce_bytes:") (codes "delivered_ce_bytes") ∷
+    shown field.ReceivedE1Bytes (codes " received_e1_bytes:") (codes "received_e1_bytes") ∷
+    shown field.ReceivedE0Bytes (codes " received_e0_bytes:") (codes "received_e0_bytes") ∷
+    shown field.ReceivedCeBytes (codes " received_ce_bytes:") (codes "received_ce_bytes") ∷
+    shown field.AccecnFailMode (codes " accecn_fail_mode:") (codes "accecn_fail_mode") ∷
+    shown field.AccecnOptSeen (codes " accecn_opt_seen:") (codes "accecn_opt_seen") ∷
+    []
+
+-- a field of `struct mptcp_info` that the table shows if it is neither 0 nor unlimited
+abbrev pub mptcp_shown : MptcpField → List ℕ → List ℕ → FieldRow
+mptcp_shown f text member = row_of (mptcp_span_of f) Nonzero text (Some member)
+
+-- one that the table shows in hexadecimal digits, if it is not 0
+abbrev pub mptcp_hex : MptcpField → List ℕ → List ℕ → FieldRow
+mptcp_hex f text member = row_of (mptcp_span_of f) NonzeroHex text (Some member)
+
+-- a bit of `mptcpi_flags`, which the table shows if it is set
+abbrev pub mptcp_flag : ℕ → List ℕ → FieldRow
+mptcp_flag bit text = row_of (mptcp_span_of mptcp.Flags) (Bits bit) text None
+
+-- the rows of `struct mptcp_info`, in the order of the members
+unfoldable pub mptcp_rows : List FieldRow
+mptcp_rows =
+    mptcp_shown mptcp.Subflows (codes " subflows:") (codes "subflows") ∷
+    mptcp_shown mptcp.AddAddrSignal (codes " add_addr_signal:") (codes "add_addr_signal") ∷
+    mptcp_shown mptcp.AddAddrAccepted (codes " add_addr_accepted:") (codes "add_addr_accepted") ∷
+    mptcp_shown mptcp.SubflowsMax (codes " subflows_max:") (codes "subflows_max") ∷
+    mptcp_shown mptcp.AddAddrSignalMax (codes " add_addr_signal_max:")
+    (codes "add_addr_signal_max") ∷
+    mptcp_shown mptcp.AddAddrAcceptedMax (codes " add_addr_accepted_max:")
+    (codes "add_addr_accepted_max") ∷
+    row_of (mptcp_span_of mptcp.Flags) Never [] (Some (codes "flags")) ∷
+    mptcp_flag c.MPTCP_INFO_FLAG_FALLBACK (codes " fallback") ∷
+    mptcp_flag c.MPTCP_INFO_FLAG_REMOTE_KEY_RECEIVED (codes " remote_key") ∷
+    mptcp_hex mptcp.Token (codes " token:") (codes "token") ∷
+    mptcp_hex mptcp.WriteSeq (codes " write_seq:") (codes "write_seq") ∷
+    mptcp_hex mptcp.SndUna (codes " snd_una:") (codes "snd_una") ∷
+    mptcp_hex mptcp.RcvNxt (codes " rcv_nxt:") (codes "rcv_nxt") ∷
+    mptcp_shown mptcp.LocalAddrUsed (codes " local_addr_used:") (codes "local_addr_used") ∷
+    mptcp_shown mptcp.LocalAddrMax (codes " local_addr_max:") (codes "local_addr_max") ∷
+    mptcp_shown mptcp.CsumEnabled (codes " csum_enabled:") (codes "csum_enabled") ∷
+    mptcp_shown mptcp.Retransmits (codes " retransmits:") (codes "retransmits") ∷
+    mptcp_shown mptcp.BytesRetrans (codes " bytes_retrans:") (codes "bytes_retrans") ∷
+    mptcp_shown mptcp.BytesSent (codes " bytes_sent:") (codes "bytes_sent") ∷
+    mptcp_shown mptcp.BytesReceived (codes " bytes_received:") (codes "bytes_received") ∷
+    mptcp_shown mptcp.BytesAcked (codes " bytes_acked:") (codes "bytes_acked") ∷
+    mptcp_shown mptcp.SubflowsTotal (codes " subflows_total:") (codes "subflows_total") ∷
+    mptcp_shown mptcp.EndpLaminarMax (codes " endp_laminar_max:") (codes "endp_laminar_max") ∷
+    mptcp_shown mptcp.LastDataSent (codes " last_data_sent:") (codes "last_data_sent") ∷
+    mptcp_shown mptcp.LastDataRecv (codes " last_data_recv:") (codes "last_data_recv") ∷
+    mptcp_shown mptcp.LastAckRecv (codes " last_ack_recv:") (codes "last_ack_recv") ∷ []
+
+-- bits of a byte of bit fields: bits 0 to 3, bits 4 to 7, bit 0, or bits 1 and 2; or the whole byte
+abbrev pub bits_of : FieldPart → ℕ → ℕ
+bits_of LowFour n = n % 16
+bits_of HighFour n = n / 16
+bits_of FirstBit n = n % 2
+bits_of NextTwo n = n / 2 % 4
+bits_of _ n = n
+
+-- `bytes_at width offset bytes`: the bytes from the offset on, or None if there are fewer than
+-- `width`
+abbrev pub bytes_at : ℕ → ℕ → List ℕ → Option (List ℕ)
+bytes_at width offset bytes =
+    if nat_le (offset + width) (length bytes) then Some (drop offset bytes) else None
+
+-- `field_in width offset bytes`: the little-endian number of `width` bytes at the offset, or None
+-- if the bytes end before its end
+abbrev pub field_in : ℕ → ℕ → List ℕ → Option ℕ
+field_in width offset bytes = option_map (little_number width) (bytes_at width offset bytes)
+
+-- window scaling is negotiated, by `tcpi_options`
+abbrev pub has_scales : Option ℕ → Bool
+has_scales None = false
+has_scales (Some options) = not (bit_and options 4 == 0)
+
+-- the number of a row, if the bytes contain all of its field and it applies to the connection
+abbrev pub number_in : FieldPart → ℕ → List ℕ → Option ℕ
+number_in Two offset bytes = field_in 2 offset bytes
+number_in Four offset bytes = field_in 4 offset bytes
+number_in Eight offset bytes = field_in 8 offset bytes
+number_in Negotiated offset bytes =
+    if has_scales (field_in 1 (offset_of field.Options) bytes) then field_in 1 offset bytes
+    else None
+number_in part offset bytes = option_map (bits_of part) (field_in 1 offset bytes)
+
+-- the facts of a row
+unfoldable pub row_facts : List ℕ → FieldRow → Facts
+row_facts bytes row =
+    option_map_or (number_facts row.2 row.3 row.4) (number_in row.1 row.0 bytes) no_facts
+
+-- `field_facts bytes rows`: the facts of those rows whose fields the bytes contain
+unfoldable pub field_facts : List ℕ → List FieldRow → Facts
+field_facts bytes rows = facts_of_each (row_facts bytes) rows
+
+-- the fields of `struct tcp_info` that the bytes contain
+unfoldable pub tcp_fields : List ℕ → Facts
+tcp_fields bytes =
+    both (field_facts bytes tcp_state_rows)
+    (both (field_facts bytes tcp_metric_rows) (field_facts bytes tcp_rate_rows))
+
+-- the same, as the group `info`
+unfoldable pub tcp_info : List ℕ → Facts
+tcp_info bytes = group [] [] (codes "info") (tcp_fields bytes)
+
+-- the fields of `struct mptcp_info` that the bytes contain, as the group `info`
+unfoldable pub mptcp_info : List ℕ → Facts
+mptcp_info bytes = group [] [] (codes "info") (field_facts bytes mptcp_rows)

@@ -1,0 +1,8 @@
+-- Lemmas about the definitions.
+pub mod FactTokens
+pub mod AddressText
+pub mod EqualFilter
+pub mod EqualOptions
+pub mod LongNames
+pub mod EqualListError
+pub mod MemberTokens

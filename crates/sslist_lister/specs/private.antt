@@ -1,0 +1,5 @@
+-- Definitions that only the contracts of private functions need.
+pub mod Run
+pub mod Sentence
+pub mod JsonNames
+pub mod Report

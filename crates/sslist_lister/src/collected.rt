@@ -1,0 +1,149 @@
+//! The attributes of a reply, sorted in one walk: the first valid attribute of a kind counts, and
+//! each one that is invalid or unknown is listed.
+
+ghost use Rattle.std.specs.Prelude.{◌≡◌, ◌<◌, ◌++◌, ◌∷◌, ℕ, List, IfOk, None, OnOk, Ok, length};
+ghost use Rattle.std.specs.Prelude.{map, slice_index_or};
+ghost use Rattle.std.specs.Option.{option_or};
+ghost use Rattle.netlink_core.specs.Walk.{buffered_attribute};
+ghost use Rattle.sslist_lister.specs.Collected.{HasNone, attribute_status, collected};
+ghost use Rattle.sslist_lister.specs.Collected.{first_in};
+ghost use Rattle.sslist_lister.specs.Collected.{first_valid, is_valid, other_in_piece};
+ghost use Rattle.sslist_lister.specs.Collected.{other_model, slot_attribute, summary_of};
+ghost use Rattle.sslist_lister.specs.Collected.{with_element};
+ghost use Rattle.sslist_lister.specs.Pieces.{AttributeOrError, attributes_or_error};
+ghost use Rattle.sslist_lister.specs.Pieces.{framing_error_of};
+
+use crate::attributes::{Sockets, show_attribute};
+use crate::facts::Status;
+use crate::pieces::next_piece;
+use netlink_core::{DecodeError, NlaBuffer, NlasIterator};
+use sock_diag_extras::constants::INET_DIAG_SOCKOPT;
+use std::alloc::{AllocError, Global};
+
+/// Number of kinds from 0 to the greatest one with facts.
+const KINDS: usize = INET_DIAG_SOCKOPT as usize + 1;
+
+/// The first valid attribute of each kind.
+#[derive(Drop)]
+pub(crate) struct FirstValid<'a> {
+    /// Its element for each kind, from 0 on.
+    pub(crate) slots: [Option<NlaBuffer<'a>>; KINDS],
+}
+
+/// The attributes of a reply.
+#[derive(Drop)]
+pub(crate) struct Attributes<'a> {
+    /// The kind of sockets that the reply is about.
+    pub(crate) sockets: Sockets,
+    /// The first valid attribute of each kind.
+    pub(crate) first: FirstValid<'a>,
+    /// The unknown and the invalid attributes, each with its status.
+    pub(crate) others: Vec<(NlaBuffer<'a>, Status)>,
+    /// The error of the bytes after the last attribute.
+    pub(crate) end: Option<DecodeError>,
+}
+
+impl<'a> Attributes<'a> {
+    /// Returns no attributes of a reply about these sockets.
+    #[inline(always)]
+    pub(crate) fn new(alloc: Global, sockets: Sockets) -> Attributes<'a>
+        ensures sockets { result.sockets ≡ sockets }
+        ensures none { HasNone result }
+    {
+        Attributes {
+            sockets,
+            first: FirstValid {
+                slots: [None; KINDS],
+            },
+            others: Vec::new(alloc),
+            end: None,
+        }
+    }
+
+    /// Adds the attributes in the bytes after the header of a reply. It fills the array in place:
+    /// a function that returned it would copy it.
+    pub(crate) fn collect(&mut self, bytes: &'a [u8]) -> Result<(), AllocError>
+        requires { HasNone self.now }
+        ensures summary { OnOk result (collected self.new
+            ≡ summary_of self.old.sockets (attributes_or_error 0 bytes.entry.now)) }
+        ensures end { OnOk result (self.new.end
+            ≡ framing_error_of (attributes_or_error 0 bytes.entry.now)) }
+    {
+        let sockets = self.sockets;
+        let mut walk = NlasIterator::new(bytes);
+        while let Some(piece) = next_piece(&mut walk) {
+            match piece {
+                Ok(nla) => add(sockets, &mut self.first.slots, &mut self.others, nla)?,
+                Err(error) => self.end = self.end.or(Some(error)),
+            }
+        }
+        Ok(())
+    }
+
+    /// Returns the first valid attribute of a kind.
+    pub(crate) fn first_of(&self, kind: u16) -> Option<NlaBuffer<'a>>
+        ensures { slot_attribute result ≡ first_in kind (collected self.now) }
+    {
+        element(&self.first.slots, kind as usize)
+    }
+}
+
+/// Adds an attribute to the first valid ones, or to the others.
+fn add<'a>(
+    sockets: Sockets,
+    slots: &mut [Option<NlaBuffer<'a>>],
+    others: &mut Vec<(NlaBuffer<'a>, Status)>,
+    nla: NlaBuffer<'a>,
+) -> Result<(), AllocError>
+    ensures length { OnOk result (length slots.new ≡ length slots.old) }
+    ensures first { OnOk result ((later : List AttributeOrError) (k : ℕ) → k < length slots.old
+        → option_or (slot_attribute (slice_index_or slots.new k None)) (first_valid sockets later k)
+        ≡ option_or (slot_attribute (slice_index_or slots.old k None))
+        (first_valid sockets (Ok (buffered_attribute nla.entry) ∷ later) k)) }
+    ensures others { OnOk result (map other_model others.new.items ≡ map other_model
+        others.old.items ++ other_in_piece sockets (Ok (buffered_attribute nla.entry))) }
+{
+    let status = status_in(*others.allocator(), sockets, &nla)?;
+    if is_valid(&status) {
+        set_if_none(slots, nla.kind() as usize, nla);
+        Ok(())
+    } else {
+        Ok(others.push((nla, status))?)
+    }
+}
+
+/// Returns the status of an attribute.
+#[tactic(auto, unfolding(crate::specs::Collected::attribute_status))]
+fn status_in(alloc: Global, sockets: Sockets, nla: &NlaBuffer<'_>) -> Result<Status, AllocError>
+    ensures { IfOk result (λ status.
+        status ≡ attribute_status sockets (buffered_attribute nla.now)) }
+{
+    show_attribute(&mut (), alloc, false, sockets, nla)
+}
+
+/// Returns whether a status is that of a valid attribute, which has facts.
+fn is_valid(status: &Status) -> bool
+    ensures { result ≡ is_valid status.now }
+{
+    matches!(status, Ok(true))
+}
+
+/// Returns the element at an index. Returns `None` if there is none.
+fn element<T: Copy>(slots: &[Option<T>], index: usize) -> Option<T>
+    ensures { result ≡ slice_index_or slots.now index None }
+{
+    if index < slots.len() {
+        slots[index]
+    } else {
+        None
+    }
+}
+
+/// Sets the element at an index, unless it is set or there is none.
+fn set_if_none<T: Copy>(slots: &mut [Option<T>], index: usize, value: T)
+    ensures { slots.new ≡ with_element slots.old index value }
+{
+    if index < slots.len() && slots[index].is_none() {
+        slots[index] = Some(value);
+    }
+}

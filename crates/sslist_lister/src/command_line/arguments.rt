@@ -1,0 +1,531 @@
+//! Arguments of the command line of a program that lists captures.
+
+ghost use Rattle.std.specs.Prelude.{◌≡◌, bytes_eq, find, option_map};
+ghost use Rattle.sslist_lister.specs.command_line.Choice.{address_argument, address_option};
+ghost use Rattle.sslist_lister.specs.command_line.Choice.{argument_at, ends_in_f, family_argument};
+ghost use Rattle.sslist_lister.specs.command_line.Choice.{family_named, first_other_letter};
+ghost use Rattle.sslist_lister.specs.command_line.Choice.{first_unknown_letter, has_letter_value};
+ghost use Rattle.sslist_lister.specs.command_line.Choice.{has_unexpected_value, is_file};
+ghost use Rattle.sslist_lister.specs.command_line.Choice.{letter_named, letter_rejection};
+ghost use Rattle.sslist_lister.specs.command_line.Choice.{letters_argument, listening_after};
+ghost use Rattle.sslist_lister.specs.command_line.Choice.{long_argument, long_rejection};
+ghost use Rattle.sslist_lister.specs.command_line.Choice.{misses_value, names_file, next_place};
+ghost use Rattle.sslist_lister.specs.command_line.Choice.{option_argument, port_argument};
+ghost use Rattle.sslist_lister.specs.command_line.Choice.{port_option, state_argument};
+ghost use Rattle.sslist_lister.specs.command_line.Choice.{valued_argument, with_argument};
+ghost use Rattle.sslist_lister.specs.command_line.Choice.{with_details, with_end_address};
+ghost use Rattle.sslist_lister.specs.command_line.Choice.{with_end_port, with_family, with_letters};
+ghost use Rattle.sslist_lister.specs.command_line.Choice.{with_sockets, without_last_f};
+
+use crate::command_line::addresses::{AddressCondition, address_condition};
+use crate::command_line::choice::Rejection;
+use crate::command_line::filter::{PortCondition, SocketFilter, port_condition, states_named};
+use crate::command_line::options::{AnyFamily, Family, Options};
+use crate::command_line::text::index_of;
+
+/// Letters that are options. The letter `f`, which needs the name of a family, is not among them.
+const LETTERS: &[u8] = b"tuxM046oemiOHlna";
+
+/// The long names of letters, as in ss(8): each name and its letter.
+const LONG_NAMES: [(&str, u8); 16] = [
+    ("--numeric", b'n'),
+    ("--all", b'a'),
+    ("--listening", b'l'),
+    ("--options", b'o'),
+    ("--extended", b'e'),
+    ("--memory", b'm'),
+    ("--info", b'i'),
+    ("--ipv4", b'4'),
+    ("--ipv6", b'6'),
+    ("--packet", b'0'),
+    ("--tcp", b't'),
+    ("--udp", b'u'),
+    ("--unix", b'x'),
+    ("--mptcp", b'M'),
+    ("--no-header", b'H'),
+    ("--oneline", b'O'),
+];
+
+/// What an argument can be, by the arguments before it.
+#[derive(Clone, Copy)]
+pub(crate) enum Place {
+    /// An option or the name of a file.
+    Any,
+    /// The name of a family, since the argument before it ends in the letter `f`.
+    Family,
+    /// The name of a file, since it follows `--`.
+    File,
+}
+
+/// An end of a socket.
+#[derive(Clone, Copy)]
+pub(crate) enum End {
+    /// The local end.
+    Local,
+    /// The remote end.
+    Remote,
+}
+
+/// An argument of the command line.
+#[derive(Clone, Copy)]
+pub(crate) enum Argument {
+    /// `--help` or `-h`.
+    Help,
+    /// `--version` or `-V`.
+    Version,
+    /// `--utf8`.
+    Utf8,
+    /// `--requests`.
+    Requests,
+    /// `--json`.
+    Json,
+    /// An option that selects sockets of a family, or the name of a family after `-f`.
+    Sockets(AnyFamily),
+    /// `--state=`, with these states, a bit for each.
+    States(u32),
+    /// `--sport=` or `--dport=`, with this condition on the port of an end.
+    Port(End, PortCondition),
+    /// `--src=` or `--dst=`, with this condition on the address of an end.
+    Address(End, AddressCondition),
+    /// A hyphen and letters, each of which is an option.
+    Letters {
+        /// The last letter is `f`, so that the next argument is the name of a family.
+        needs_family: bool,
+    },
+    /// The long name of this letter.
+    Letter(u8),
+    /// `--`.
+    EndOfOptions,
+    /// The name of a file, or `-` for standard input.
+    File,
+    /// An argument that is rejected, for this reason.
+    Rejected(Rejection),
+}
+
+/// Parses an argument.
+pub(crate) fn argument_at(place: Place, word: &[u8]) -> Argument
+    ensures { result ≡ argument_at place word.now }
+{
+    match place {
+        Place::Any if is_file(word) => Argument::File,
+        Place::Any => option_argument(word),
+        Place::Family => family_argument(Rejection::UnknownFamily, word),
+        Place::File => Argument::File,
+    }
+}
+
+/// Returns whether an argument that may be an option is the name of a file: it does not begin with
+/// a hyphen, or is only a hyphen.
+fn is_file(word: &[u8]) -> bool
+    ensures { result ≡ is_file word.now }
+{
+    word.len() < 2 || !word.starts_with(b"-")
+}
+
+/// Parses an option.
+fn option_argument(word: &[u8]) -> Argument
+    ensures { result ≡ option_argument word.now }
+{
+    if equal(word, "--") {
+        Argument::EndOfOptions
+    } else if equal(word, "--help") || equal(word, "-h") {
+        Argument::Help
+    } else if equal(word, "--version") || equal(word, "-V") {
+        Argument::Version
+    } else if equal(word, "--utf8") {
+        Argument::Utf8
+    } else if equal(word, "--requests") {
+        Argument::Requests
+    } else if equal(word, "--json") {
+        Argument::Json
+    } else if equal(word, "--vsock") {
+        Argument::Sockets(AnyFamily::Other(Family::Vsock))
+    } else if equal(word, "--xdp") {
+        Argument::Sockets(AnyFamily::Other(Family::Xdp))
+    } else {
+        valued_argument(word)
+    }
+}
+
+/// Returns whether an argument is equal to a text.
+pub(crate) fn equal(word: &[u8], text: &str) -> bool
+    ensures { result ≡ bytes_eq word.now text.now }
+{
+    word == text.as_bytes()
+}
+
+/// Parses an option that contains its value, consists of letters, or is the long name of a letter.
+fn valued_argument(word: &[u8]) -> Argument
+    ensures { result ≡ valued_argument word.now }
+{
+    if word.starts_with(b"--family=") {
+        family_argument(Rejection::UnknownFamilyValue, &word[9..])
+    } else if word.starts_with(b"--state=") {
+        state_argument(&word[8..])
+    } else {
+        port_option(word)
+    }
+}
+
+/// Parses an option that contains a condition on a port or an address, consists of letters, or is
+/// the long name of a letter.
+fn port_option(word: &[u8]) -> Argument
+    ensures { result ≡ port_option word.now }
+{
+    if word.starts_with(b"--sport=") {
+        port_argument(End::Local, &word[8..])
+    } else if word.starts_with(b"--dport=") {
+        port_argument(End::Remote, &word[8..])
+    } else {
+        address_option(word)
+    }
+}
+
+/// Parses an option that contains a condition on an address, consists of letters, or is the long
+/// name of a letter.
+fn address_option(word: &[u8]) -> Argument
+    ensures { result ≡ address_option word.now }
+{
+    if word.starts_with(b"--src=") {
+        address_argument(End::Local, &word[6..])
+    } else if word.starts_with(b"--dst=") {
+        address_argument(End::Remote, &word[6..])
+    } else {
+        letters_argument(word)
+    }
+}
+
+/// Parses the name of states.
+fn state_argument(name: &[u8]) -> Argument
+    ensures { result ≡ state_argument name.now }
+{
+    match states_named(name) {
+        Some(states) => Argument::States(states),
+        None => Argument::Rejected(Rejection::UnknownStateValue),
+    }
+}
+
+/// Parses a condition on the port of an end.
+fn port_argument(end: End, text: &[u8]) -> Argument
+    ensures { result ≡ port_argument end text.now }
+{
+    match port_condition(text) {
+        Some(condition) => Argument::Port(end, condition),
+        None => Argument::Rejected(Rejection::InvalidPortValue),
+    }
+}
+
+/// Parses a condition on the address of an end.
+fn address_argument(end: End, text: &[u8]) -> Argument
+    ensures { result ≡ address_argument end text.now }
+{
+    match address_condition(text) {
+        Some(condition) => Argument::Address(end, condition),
+        None => Argument::Rejected(Rejection::InvalidAddressValue),
+    }
+}
+
+/// Parses letters after a hyphen, or the long name of a letter.
+fn letters_argument(word: &[u8]) -> Argument
+    ensures { result ≡ letters_argument word.now }
+{
+    if word.is_empty() || word.starts_with(b"--") {
+        return long_argument(word);
+    }
+    match first_other_letter(&word[1..]) {
+        Some(letter) => Argument::Rejected(letter_rejection(letter)),
+        None => Argument::Letters {
+            needs_family: ends_in_f(word),
+        },
+    }
+}
+
+/// Parses the long name of a letter. Any other word is rejected.
+fn long_argument(word: &[u8]) -> Argument
+    ensures { result ≡ long_argument word.now }
+{
+    match letter_named(word) {
+        Some(letter) => Argument::Letter(letter),
+        None => Argument::Rejected(long_rejection(word)),
+    }
+}
+
+/// Returns the letter with this long name.
+#[tactic(auto, unfolding(crate::specs::command_line::Choice::letter_named))]
+fn letter_named(name: &[u8]) -> Option<u8>
+    ensures { result ≡ letter_named name.now }
+{
+    letter_in(&LONG_NAMES, name)
+}
+
+/// Returns the letter of the first row with this name.
+fn letter_in(rows: &[(&str, u8)], name: &[u8]) -> Option<u8>
+    ensures { result ≡ option_map (λ row. row.1)
+        (find (λ row. bytes_eq name.now row.0.now) rows.now) }
+{
+    for &(other, letter) in rows {
+        if equal(name, other) {
+            return Some(letter);
+        }
+    }
+    None
+}
+
+/// Returns the reason why a long option is rejected.
+fn long_rejection(word: &[u8]) -> Rejection
+    ensures { result ≡ long_rejection word.now }
+{
+    if misses_value(word) {
+        Rejection::MissingValue
+    } else if has_unexpected_value(word) {
+        Rejection::UnexpectedValue
+    } else {
+        Rejection::UnknownOption
+    }
+}
+
+/// Returns whether a word is an option that needs a value, without one.
+fn misses_value(word: &[u8]) -> bool
+    ensures { result ≡ misses_value word.now }
+{
+    equal(word, "--family")
+        || equal(word, "--state")
+        || equal(word, "--sport")
+        || equal(word, "--dport")
+        || equal(word, "--src")
+        || equal(word, "--dst")
+}
+
+/// Returns whether a word is an option that takes no value, with one.
+fn has_unexpected_value(word: &[u8]) -> bool
+    ensures { result ≡ has_unexpected_value word.now }
+{
+    word.starts_with(b"--help=")
+        || word.starts_with(b"--version=")
+        || word.starts_with(b"--utf8=")
+        || word.starts_with(b"--requests=")
+        || word.starts_with(b"--json=")
+        || word.starts_with(b"--vsock=")
+        || word.starts_with(b"--xdp=")
+        || has_letter_value(word)
+}
+
+/// Returns whether a word is the long name of a letter, with a value.
+fn has_letter_value(word: &[u8]) -> bool
+    ensures { result ≡ has_letter_value word.now }
+{
+    match index_of(b'=', word) {
+        Some(index) => letter_named(&word[..index]).is_some(),
+        None => false,
+    }
+}
+
+/// Returns the reason why letters are rejected. `letter` is the first of them that is not an option
+/// at its place.
+fn letter_rejection(letter: u8) -> Rejection
+    ensures { result ≡ letter_rejection letter }
+{
+    if letter == b'f' || letter == b'h' || letter == b'V' {
+        Rejection::MisplacedLetter(letter)
+    } else {
+        Rejection::UnknownLetter(letter)
+    }
+}
+
+/// Parses the name of a family. `rejection` is the reason to reject any other text.
+fn family_argument(rejection: Rejection, name: &[u8]) -> Argument
+    ensures { result ≡ family_argument rejection name.now }
+{
+    match family_named(name) {
+        Some(family) => Argument::Sockets(family),
+        None => Argument::Rejected(rejection),
+    }
+}
+
+/// Returns the family of this name, as the option `-f` of ss(8) has it. `packet` is another name of
+/// `link`.
+fn family_named(name: &[u8]) -> Option<AnyFamily>
+    ensures { result ≡ family_named name.now }
+{
+    if equal(name, "inet") {
+        Some(AnyFamily::Inet)
+    } else if equal(name, "inet6") {
+        Some(AnyFamily::Inet6)
+    } else if equal(name, "unix") {
+        Some(AnyFamily::Unix)
+    } else if equal(name, "netlink") {
+        Some(AnyFamily::Other(Family::Netlink))
+    } else if equal(name, "link") || equal(name, "packet") {
+        Some(AnyFamily::Other(Family::Packet))
+    } else if equal(name, "vsock") {
+        Some(AnyFamily::Other(Family::Vsock))
+    } else if equal(name, "xdp") {
+        Some(AnyFamily::Other(Family::Xdp))
+    } else {
+        None
+    }
+}
+
+/// Returns the first letter that is not an option at its place. The last letter may also be `f`.
+fn first_other_letter(letters: &[u8]) -> Option<u8>
+    ensures { result ≡ first_other_letter letters.now }
+{
+    first_unknown_letter(without_last_f(letters))
+}
+
+/// Returns the letters without an `f` at their end.
+fn without_last_f(letters: &[u8]) -> &[u8]
+    ensures { result.now ≡ without_last_f letters.now }
+{
+    if letters.ends_with(b"f") {
+        &letters[..letters.len() - 1]
+    } else {
+        letters
+    }
+}
+
+/// Returns the first letter that is not in `LETTERS`.
+fn first_unknown_letter(letters: &[u8]) -> Option<u8>
+    ensures { result ≡ first_unknown_letter letters.now }
+{
+    for &letter in letters {
+        if !LETTERS.contains(&letter) {
+            return Some(letter);
+        }
+    }
+    None
+}
+
+/// Returns whether the last letter is `f`.
+fn ends_in_f(letters: &[u8]) -> bool
+    ensures { result ≡ ends_in_f letters.now }
+{
+    letters.ends_with(b"f")
+}
+
+impl Argument {
+    /// Returns whether an argument is the name of a file.
+    pub(crate) fn names_file(self) -> bool
+        ensures { result ≡ names_file self }
+    {
+        matches!(self, Argument::File)
+    }
+
+    /// Returns the place of the next argument.
+    pub(crate) fn next_place(self, place: Place) -> Place
+        ensures { result ≡ next_place place self }
+    {
+        match (place, self) {
+            (Place::File, _) | (_, Argument::EndOfOptions) => Place::File,
+            (_, Argument::Letters { needs_family: true }) => Place::Family,
+            _ => Place::Any,
+        }
+    }
+}
+
+impl Options {
+    /// Sets the options of an argument, which consists of the bytes `word`.
+    pub(crate) fn add_argument(&mut self, argument: Argument, word: &[u8])
+        ensures { self.new ≡ with_argument self.old argument word.now }
+    {
+        match argument {
+            Argument::Utf8 => self.utf8 = true,
+            Argument::Requests => self.requests = true,
+            Argument::Json => self.json = true,
+            Argument::Sockets(family) => self.add_family(family),
+            Argument::States(states) => self.filter.states |= states,
+            Argument::Port(end, condition) => self.filter.set_port(end, condition),
+            Argument::Address(end, condition) => self.filter.set_address(end, condition),
+            Argument::Letters { .. } if !word.is_empty() => self.add_letters(&word[1..]),
+            Argument::Letter(letter) => self.add_letters(&[letter]),
+            _ => {}
+        }
+    }
+
+    /// Selects sockets of a family.
+    fn add_family(&mut self, family: AnyFamily)
+        ensures { self.new ≡ with_family family self.old }
+    {
+        match family {
+            AnyFamily::Inet => self.inet = true,
+            AnyFamily::Inet6 => self.inet6 = true,
+            AnyFamily::Unix => self.unix = true,
+            AnyFamily::Other(Family::Netlink) => self.netlink = true,
+            AnyFamily::Other(Family::Packet) => self.packet = true,
+            AnyFamily::Other(Family::Vsock) => self.vsock = true,
+            AnyFamily::Other(Family::Xdp) => self.xdp = true,
+        }
+    }
+
+    /// Sets the options of letters.
+    fn add_letters(&mut self, letters: &[u8])
+        ensures { self.new ≡ with_letters letters.now self.old }
+    {
+        self.add_details(letters);
+        self.add_sockets(letters);
+    }
+
+    /// Sets the options of letters that select details or their form.
+    fn add_details(&mut self, letters: &[u8])
+        ensures { self.new ≡ with_details letters.now self.old }
+    {
+        self.timer |= letters.contains(&b'o');
+        self.extended |= letters.contains(&b'e');
+        self.memory |= letters.contains(&b'm');
+        self.connection |= letters.contains(&b'i');
+        self.one_line |= letters.contains(&b'O');
+        self.no_heading |= letters.contains(&b'H');
+    }
+
+    /// Sets the options of letters that select sockets.
+    fn add_sockets(&mut self, letters: &[u8])
+        ensures { self.new ≡ with_sockets letters.now self.old }
+    {
+        self.tcp |= letters.contains(&b't');
+        self.udp |= letters.contains(&b'u');
+        self.mptcp |= letters.contains(&b'M');
+        self.unix |= letters.contains(&b'x');
+        self.packet |= letters.contains(&b'0');
+        self.inet |= letters.contains(&b'4');
+        self.inet6 |= letters.contains(&b'6');
+        self.listening = listening_after(self.listening, letters);
+    }
+}
+
+impl SocketFilter {
+    /// Sets the condition on the port of an end.
+    fn set_port(&mut self, end: End, condition: PortCondition)
+        ensures { self.new ≡ with_end_port end condition self.old }
+    {
+        match end {
+            End::Local => self.source_port = Some(condition),
+            End::Remote => self.destination_port = Some(condition),
+        }
+    }
+
+    /// Sets the condition on the address of an end.
+    fn set_address(&mut self, end: End, condition: AddressCondition)
+        ensures { self.new ≡ with_end_address end condition self.old }
+    {
+        match end {
+            End::Local => self.source_address = Some(condition),
+            End::Remote => self.destination_address = Some(condition),
+        }
+    }
+}
+
+/// Returns whether only listening sockets are listed after these letters: the last one that is `l`
+/// or `a` decides.
+fn listening_after(before: bool, letters: &[u8]) -> bool
+    ensures { result ≡ listening_after before letters.now }
+{
+    let mut listening = before;
+    for &letter in letters {
+        if letter == b'l' {
+            listening = true;
+        } else if letter == b'a' {
+            listening = false;
+        }
+    }
+    listening
+}

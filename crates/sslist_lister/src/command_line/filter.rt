@@ -1,0 +1,205 @@
+//! Conditions on the sockets that are listed: on their states, ports and addresses.
+
+ghost use Rattle.std.specs.Prelude.{◌≡◌};
+ghost use Rattle.sslist_lister.specs.command_line.Filter.{closed_range, group_named, port_range};
+ghost use Rattle.sslist_lister.specs.command_line.Filter.{has_endpoint_condition, has_state};
+ghost use Rattle.sslist_lister.specs.command_line.Filter.{is_closed_name, is_name, meets_addresses};
+ghost use Rattle.sslist_lister.specs.command_line.Filter.{meets_port, meets_ports, port_condition};
+ghost use Rattle.sslist_lister.specs.command_line.Filter.{state_bit, state_named, states_named};
+
+use crate::command_line::addresses::{AddressCondition, meets_address};
+use crate::command_line::text::{decimal_u16, index_of};
+use std::net::IpAddr;
+
+/// Conditions on a socket, which is listed only if it meets all of them.
+#[derive(Clone, Copy, Debug, Default, PartialEq, Eq)]
+pub struct SocketFilter {
+    /// `--state`: the states, a bit for each as in `idiag_states`. 0 if there is no such option.
+    pub states: u32,
+    /// `--sport`: the condition on the local port of an IPv4 or IPv6 socket.
+    pub source_port: Option<PortCondition>,
+    /// `--dport`: the condition on the remote port of an IPv4 or IPv6 socket.
+    pub destination_port: Option<PortCondition>,
+    /// `--src`: the condition on the local address of an IPv4 or IPv6 socket.
+    pub source_address: Option<AddressCondition>,
+    /// `--dst`: the condition on the remote address of an IPv4 or IPv6 socket.
+    pub destination_address: Option<AddressCondition>,
+}
+
+/// A condition on a port: it is in a range.
+#[derive(Clone, Copy, Debug, PartialEq, Eq)]
+pub struct PortCondition {
+    /// Lowest port of the range.
+    pub lowest: u16,
+    /// Highest port of the range. No port meets the condition if it is less than the lowest one.
+    pub highest: u16,
+}
+
+impl SocketFilter {
+    /// Returns whether a state is one of the selected states.
+    pub(crate) fn has_state(self, state: u8) -> bool
+        ensures { result ≡ has_state self.states state }
+    {
+        self.states & state_bit(state) != 0
+    }
+
+    /// Returns whether there is a condition on a port or an address.
+    pub(crate) fn has_endpoint_condition(self) -> bool
+        ensures { result ≡ has_endpoint_condition self }
+    {
+        self.source_port.is_some()
+            || self.destination_port.is_some()
+            || self.source_address.is_some()
+            || self.destination_address.is_some()
+    }
+
+    /// Returns whether the ports of a socket meet the conditions on them.
+    pub fn meets_ports(self, source: u16, destination: u16) -> bool
+        ensures { result ≡ meets_ports self source destination }
+    {
+        meets_port(self.source_port, source) && meets_port(self.destination_port, destination)
+    }
+
+    /// Returns whether the addresses of a socket meet the conditions on them.
+    pub fn meets_addresses(self, source: IpAddr, destination: IpAddr) -> bool
+        ensures { result ≡ meets_addresses self source destination }
+    {
+        meets_address(self.source_address, source)
+            && meets_address(self.destination_address, destination)
+    }
+}
+
+/// Returns whether a port meets a condition. Each port does if there is none.
+fn meets_port(condition: Option<PortCondition>, port: u16) -> bool
+    ensures { result ≡ meets_port condition port }
+{
+    match condition {
+        None => true,
+        Some(condition) => condition.lowest <= port && port <= condition.highest,
+    }
+}
+
+/// Returns the bit of a state. States from 31 on share one.
+fn state_bit(state: u8) -> u32
+    ensures { result ≡ state_bit state }
+{
+    if state < 31 { 1 << state } else { 1 << 31 }
+}
+
+/// Returns the states with this name, a bit for each: a name that the filter `state` of ss(8) has,
+/// or a name of the column State, in upper or lower case.
+pub(crate) fn states_named(name: &[u8]) -> Option<u32>
+    ensures { result ≡ states_named name.now }
+{
+    match state_named(name) {
+        Some(state) => Some(state_bit(state)),
+        None => group_named(name),
+    }
+}
+
+/// Returns whether a name is equal to a text, except for the case of ASCII letters.
+fn is_name(name: &[u8], text: &str) -> bool
+    ensures { result ≡ is_name name.now text.now }
+{
+    name.eq_ignore_ascii_case(text.as_bytes())
+}
+
+/// Returns the state with this name.
+fn state_named(name: &[u8]) -> Option<u8>
+    ensures { result ≡ state_named name.now }
+{
+    if is_name(name, "established") || is_name(name, "estab") {
+        Some(1)
+    } else if is_name(name, "syn-sent") {
+        Some(2)
+    } else if is_name(name, "syn-recv") || is_name(name, "syn-rcv") {
+        Some(3)
+    } else if is_name(name, "fin-wait-1") {
+        Some(4)
+    } else if is_name(name, "fin-wait-2") {
+        Some(5)
+    } else if is_name(name, "time-wait") {
+        Some(6)
+    } else if is_closed_name(name) {
+        Some(7)
+    } else if is_name(name, "close-wait") {
+        Some(8)
+    } else if is_name(name, "last-ack") {
+        Some(9)
+    } else if is_name(name, "listening") || is_name(name, "listen") {
+        Some(10)
+    } else if is_name(name, "closing") {
+        Some(11)
+    } else {
+        None
+    }
+}
+
+/// Returns whether a name is that of the state `TCP_CLOSE`.
+fn is_closed_name(name: &[u8]) -> bool
+    ensures { result ≡ is_closed_name name.now }
+{
+    is_name(name, "closed")
+        || is_name(name, "close")
+        || is_name(name, "unconnected")
+        || is_name(name, "unconn")
+}
+
+/// Returns the states in the group of states with this name.
+fn group_named(name: &[u8]) -> Option<u32>
+    ensures { result ≡ group_named name.now }
+{
+    if is_name(name, "all") {
+        Some(0xffff_ffff)
+    } else if is_name(name, "connected") {
+        Some(0xffff_fb7f)
+    } else if is_name(name, "synchronized") {
+        Some(0xffff_fb7b)
+    } else if is_name(name, "bucket") {
+        Some(0x48)
+    } else if is_name(name, "big") {
+        Some(0xffff_ffb7)
+    } else {
+        None
+    }
+}
+
+/// Parses a condition on a port: `N` for the port N, `N-M` for a port from N to M, `N-` for one
+/// that is at least N, and `-M` for one that is at most M.
+pub(crate) fn port_condition(text: &[u8]) -> Option<PortCondition>
+    ensures { result ≡ port_condition text.now }
+{
+    if text.starts_with(b"-") {
+        port_range(Some(0), decimal_u16(&text[1..]))
+    } else if text.ends_with(b"-") {
+        port_range(decimal_u16(&text[..text.len() - 1]), Some(u16::MAX))
+    } else {
+        closed_range(text)
+    }
+}
+
+/// Parses a range of ports `N-M`, or the range `N` of one port.
+fn closed_range(text: &[u8]) -> Option<PortCondition>
+    ensures { result ≡ closed_range text.now }
+{
+    match index_of(b'-', text) {
+        Some(index) => port_range(decimal_u16(&text[..index]), decimal_u16(&text[index + 1..])),
+        None => {
+            let port = decimal_u16(text);
+            port_range(port, port)
+        }
+    }
+}
+
+/// Returns the range from a lowest to a highest port, if there are both, and the highest one is not
+/// lower.
+fn port_range(lowest: Option<u16>, highest: Option<u16>) -> Option<PortCondition>
+    ensures { result ≡ port_range lowest highest }
+{
+    let (lowest, highest) = (lowest?, highest?);
+    if lowest <= highest {
+        Some(PortCondition { lowest, highest })
+    } else {
+        None
+    }
+}

@@ -1,0 +1,244 @@
+//! Selection of the sockets that are listed, and of the details that are shown for each.
+
+ghost use Rattle.std.specs.Prelude.{◌≡◌};
+ghost use Rattle.sslist_lister.specs.command_line.Options.{selects_family, is_detail_selected};
+ghost use Rattle.sslist_lister.specs.command_line.Options.{lists_family, lists_state};
+ghost use Rattle.sslist_lister.specs.command_line.Options.{lists_protocol, lists_unix};
+ghost use Rattle.sslist_lister.specs.command_line.Options.{lists_version, selects_inet_protocol};
+ghost use Rattle.sslist_lister.specs.command_line.Options.{selects_other_family, selects_protocol};
+ghost use Rattle.sslist_lister.specs.command_line.Options.{selects_sockets, shows_detail};
+
+use crate::command_line::filter::SocketFilter;
+
+/// The number of TCP in a request, `IPPROTO_TCP` of linux/in.h.
+pub(crate) const IPPROTO_TCP: u32 = 6;
+
+/// The number of UDP in a request, `IPPROTO_UDP` of linux/in.h.
+pub(crate) const IPPROTO_UDP: u32 = 17;
+
+/// The number of MPTCP in a request, `IPPROTO_MPTCP` of linux/in.h. It does not fit a byte, so it
+/// is in the attribute `INET_DIAG_REQ_PROTOCOL`.
+pub(crate) const IPPROTO_MPTCP: u32 = 262;
+
+/// State `TCP_CLOSE`, which ss(8) prints as `UNCONN`.
+const UNCONNECTED: u8 = 7;
+
+/// State `TCP_LISTEN`.
+const LISTENING: u8 = 10;
+
+/// The options of a command line.
+///
+/// If none of `timer`, `extended`, `memory` and `connection` is set, all details are shown. If none
+/// of `tcp`, `udp`, `mptcp`, `unix`, `netlink`, `packet`, `vsock`, `xdp`, `inet` and `inet6` is
+/// set, sockets of all families are listed.
+#[derive(Clone, Copy, Debug, Default, PartialEq, Eq)]
+pub struct Options {
+    /// `-o`: show the timer.
+    pub timer: bool,
+    /// `-e`: show the cookie, and all details that `-o`, `-m` and `-i` do not show.
+    pub extended: bool,
+    /// `-m`: show the memory.
+    pub memory: bool,
+    /// `-i`: show the information about the TCP connection (`INET_DIAG_INFO`), and the name and
+    /// measurements of its congestion control.
+    pub connection: bool,
+    /// `-O`: write the details on the same line as the columns.
+    pub one_line: bool,
+    /// `-t`: list TCP sockets.
+    pub tcp: bool,
+    /// `-u`: list UDP sockets.
+    pub udp: bool,
+    /// `-M`: list MPTCP sockets.
+    pub mptcp: bool,
+    /// `-x`, `-f unix`: list UNIX sockets.
+    pub unix: bool,
+    /// `-f netlink`: list netlink sockets.
+    pub netlink: bool,
+    /// `-0`, `-f link`: list packet sockets.
+    pub packet: bool,
+    /// `--vsock`, `-f vsock`: list vsock sockets.
+    pub vsock: bool,
+    /// `--xdp`, `-f xdp`: list XDP sockets.
+    pub xdp: bool,
+    /// `-4`, `-f inet`: list IPv4 sockets, and IPv6 sockets only if `inet6` is set.
+    pub inet: bool,
+    /// `-6`, `-f inet6`: list IPv6 sockets, and IPv4 sockets only if `inet` is set.
+    pub inet6: bool,
+    /// `-l`: list only sockets in the states `LISTEN` and `UNCONN`.
+    pub listening: bool,
+    /// `-H`: write neither the heading nor a caption.
+    pub no_heading: bool,
+    /// `--utf8`: show letters of names that are valid UTF-8.
+    pub utf8: bool,
+    /// `--requests`: write a line with the time of each request.
+    pub requests: bool,
+    /// `--json`: write a JSON object for each socket, and neither a heading nor a caption.
+    pub json: bool,
+    /// `--state`, `--sport`, `--dport`, `--src`, `--dst`: conditions that a listed socket meets.
+    pub filter: SocketFilter,
+}
+
+/// A group of details that an option selects.
+#[derive(Clone, Copy, PartialEq, Eq)]
+pub enum Detail {
+    /// Timer (`-o`).
+    Timer,
+    /// Cookie, and all details of no other group (`-e`).
+    Extended,
+    /// Memory (`-m`).
+    Memory,
+    /// Information about the TCP connection (`INET_DIAG_INFO`), and the name and measurements of
+    /// its congestion control (`-i`).
+    Connection,
+}
+
+/// A family of sockets other than UNIX, IPv4 and IPv6.
+#[derive(Clone, Copy, PartialEq, Eq)]
+pub enum Family {
+    /// Netlink sockets.
+    Netlink,
+    /// Packet sockets.
+    Packet,
+    /// Vsock sockets.
+    Vsock,
+    /// XDP sockets.
+    Xdp,
+}
+
+/// A family of sockets that an option selects.
+#[derive(Clone, Copy)]
+pub(crate) enum AnyFamily {
+    /// IPv4 sockets.
+    Inet,
+    /// IPv6 sockets.
+    Inet6,
+    /// UNIX sockets.
+    Unix,
+    /// Sockets of another family.
+    Other(Family),
+}
+
+impl Options {
+    /// Returns whether a group of details is shown: if its option is set, or if none of `timer`,
+    /// `extended`, `memory` and `connection` is set.
+    pub fn shows(self, detail: Detail) -> bool
+        ensures { result ≡ shows_detail self detail }
+    {
+        self.has_detail(detail) || !(self.timer || self.extended || self.memory || self.connection)
+    }
+
+    /// Returns whether the option of a group of details is set.
+    fn has_detail(self, detail: Detail) -> bool
+        ensures { result ≡ is_detail_selected self detail }
+    {
+        match detail {
+            Detail::Timer => self.timer,
+            Detail::Extended => self.extended,
+            Detail::Memory => self.memory,
+            Detail::Connection => self.connection,
+        }
+    }
+
+    /// Returns whether a UNIX socket in this state is listed: if `-x` is set, or if no option that
+    /// selects sockets is set, of any family; and if sockets in this state are listed, and there is
+    /// no condition on a port or an address.
+    pub fn lists_unix(self, state: u8) -> bool
+        ensures { result ≡ lists_unix self state }
+    {
+        (self.unix || !self.selects())
+            && self.lists_state(state)
+            && !self.filter.has_endpoint_condition()
+    }
+
+    /// Returns whether IPv4 and IPv6 sockets of a protocol, a number `IPPROTO_..`, are listed: if
+    /// the option of this protocol is set; or if no option of a protocol is, and one of these
+    /// families is selected or no option that selects sockets is set. If the protocol is not known
+    /// (`None`), any of the options of TCP, UDP and MPTCP counts.
+    pub fn lists_protocol(self, protocol: Option<u32>) -> bool
+        ensures { result ≡ lists_protocol self protocol }
+    {
+        self.selects_protocol(protocol)
+            || (!self.selects_inet_protocol()
+                && (self.inet || self.inet6 || !self.selects_other_family()))
+    }
+
+    /// Returns whether the option of a protocol is set.
+    fn selects_protocol(self, protocol: Option<u32>) -> bool
+        ensures { result ≡ selects_protocol self protocol }
+    {
+        match protocol {
+            Some(IPPROTO_TCP) => self.tcp,
+            Some(IPPROTO_UDP) => self.udp,
+            Some(IPPROTO_MPTCP) => self.mptcp,
+            Some(_) => false,
+            None => self.tcp || self.udp || self.mptcp,
+        }
+    }
+
+    /// Returns whether IPv6 sockets are listed, or else IPv4 sockets: if the option of this family
+    /// is set, or if neither of the two is.
+    pub fn lists_version(self, is_ipv6: bool) -> bool
+        ensures { result ≡ lists_version self is_ipv6 }
+    {
+        if is_ipv6 {
+            self.inet6 || !self.inet
+        } else {
+            self.inet || !self.inet6
+        }
+    }
+
+    /// Returns whether sockets in a state are listed: in the states of `--state`, or if there is no
+    /// such option in any state, but with `-l` only in `LISTEN` and `UNCONN`.
+    pub fn lists_state(self, state: u8) -> bool
+        ensures { result ≡ lists_state self state }
+    {
+        if self.filter.states != 0 {
+            return self.filter.has_state(state);
+        }
+        !self.listening || state == LISTENING || state == UNCONNECTED
+    }
+
+    /// Returns whether a socket of a family in this state is listed: if the option of this family
+    /// is set, or if no option that selects sockets is set, of any family; and if sockets in this
+    /// state are listed, and there is no condition on a port or an address.
+    pub fn lists_family(self, family: Family, state: u8) -> bool
+        ensures { result ≡ lists_family self family state }
+    {
+        (self.has_family(family) || !self.selects())
+            && self.lists_state(state)
+            && !self.filter.has_endpoint_condition()
+    }
+
+    /// Returns whether the option of a family is set.
+    fn has_family(self, family: Family) -> bool
+        ensures { result ≡ selects_family self family }
+    {
+        match family {
+            Family::Netlink => self.netlink,
+            Family::Packet => self.packet,
+            Family::Vsock => self.vsock,
+            Family::Xdp => self.xdp,
+        }
+    }
+
+    /// Returns whether an option that selects sockets is set.
+    fn selects(self) -> bool
+        ensures { result ≡ selects_sockets self }
+    {
+        self.selects_inet_protocol() || self.inet || self.inet6 || self.selects_other_family()
+    }
+
+    /// Returns whether the option of a protocol of IPv4 and IPv6 sockets is set.
+    fn selects_inet_protocol(self) -> bool
+        ensures { result ≡ selects_inet_protocol self }
+    {
+        self.tcp || self.udp || self.mptcp
+    }
+
+    /// Returns whether the option of a family other than IPv4 and IPv6 is set.
+    fn selects_other_family(self) -> bool
+        ensures { result ≡ selects_other_family self }
+    {
+        self.unix || self.netlink || self.packet || self.vsock || self.xdp
+    }
+}

@@ -1,0 +1,47 @@
+//! Parts of an argument: what precedes and follows a byte, and decimal numbers.
+
+ghost use Rattle.std.specs.Prelude.{◌≡◌, ◌<◌, IfSome, length};
+ghost use Rattle.sslist_lister.specs.command_line.Text.{index_of, decimal_u16, with_digit};
+
+/// Returns the index of the first byte that is equal to `byte`.
+pub(crate) fn index_of(byte: u8, text: &[u8]) -> Option<usize>
+    ensures value { result ≡ index_of byte text.now }
+    ensures bound { IfSome result (λ index. index < length text.now) }
+{
+    for (index, &other) in text.iter().enumerate() {
+        if other == byte {
+            return Some(index);
+        }
+    }
+    None
+}
+
+/// Parses a number of at most 65535 in decimal. Zeros may precede it.
+pub(crate) fn decimal_u16(digits: &[u8]) -> Option<u16>
+    ensures { result ≡ decimal_u16 digits.now }
+{
+    if digits.is_empty() {
+        return None;
+    }
+    let mut number = 0u16;
+    for &digit in digits {
+        number = with_digit(number, digit)?;
+    }
+    Some(number)
+}
+
+/// Appends a digit to a number. Returns `None` if it is not a digit, or if the number exceeds
+/// 65535.
+fn with_digit(number: u16, digit: u8) -> Option<u16>
+    ensures { result ≡ with_digit number digit }
+{
+    if !digit.is_ascii_digit() {
+        return None;
+    }
+    let longer = u32::from(number) * 10 + u32::from(digit - b'0');
+    if longer > 65535 {
+        None
+    } else {
+        Some(longer as u16)
+    }
+}

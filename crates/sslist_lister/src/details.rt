@@ -1,0 +1,195 @@
+//! Details of a socket: what a reply contains besides the columns, and the attributes that are
+//! unknown or invalid.
+
+ghost use Rattle.std.specs.Prelude.{◌≡◌, ◌≤◌, ◌++◌, Some, flat_map, length, OnOk};
+ghost use Rattle.sslist_lister.specs.texts.Parts.{separator, details_after_separator};
+ghost use Rattle.netlink_core.specs.Walk.{buffered_attribute};
+ghost use Rattle.sslist_lister.specs.Collected.{collected, other_model, slot_attribute};
+ghost use Rattle.sslist_lister.specs.Details.{detail_group, details, invalid_attribute_text};
+ghost use Rattle.sslist_lister.specs.Details.{other_detail, status_text, timer_in};
+ghost use Rattle.sslist_lister.specs.Details.{unknown_attribute_text, valid_detail};
+
+use crate::attributes::{Sockets, memory_kind, show_attribute};
+use crate::collected::Attributes;
+use crate::command_line::{Detail, Options};
+use crate::facts::Status;
+use crate::kinds::reason_of;
+use crate::texts::cells::push_number;
+use crate::texts::parts::{TimerFields, push_pair, push_shown_cookie, push_shown_timer, separator};
+use byteorder::{ByteOrder, LittleEndian};
+use netlink_core::{DecodeError, NlaBuffer};
+use sock_diag_extras::constants::INET_DIAG_ULP_INFO;
+use sock_diag_records::constants::{
+    INET_DIAG_BBRINFO, INET_DIAG_CONG, INET_DIAG_DCTCPINFO, INET_DIAG_INFO, INET_DIAG_MD5SIG,
+    INET_DIAG_MEMINFO, INET_DIAG_SKMEMINFO, INET_DIAG_VEGASINFO, UNIX_DIAG_MEMINFO,
+};
+use std::alloc::AllocError;
+
+/// Returns the timer fields of a reply about an IPv4 or IPv6 socket.
+pub(crate) fn timer_of(payload: &[u8]) -> TimerFields
+    requires { 72 ≤ length payload.now }
+    ensures { result ≡ timer_in payload.now }
+{
+    TimerFields {
+        class: payload[2],
+        retransmits: payload[3],
+        expires: LittleEndian::read_u32(&payload[52..]),
+    }
+}
+
+/// Appends the details of a socket. They follow the separator, which is a line feed and a tab, or
+/// nothing with `-O`. Appends nothing if there are no details.
+pub(crate) fn push_details(
+    text: &mut Vec<u8>,
+    options: Options,
+    timer: &TimerFields,
+    cookie: &[u8; 8],
+    found: &Attributes<'_>,
+) -> Result<(), AllocError>
+    ensures { OnOk result (text.new.items ≡ text.old.items
+        ++ details_after_separator options
+        (details options timer.now cookie.now (collected found.now))) }
+{
+    let start = text.len();
+    text.extend_from_slice(separator(options))?;
+    let after_separator = text.len();
+    push_selected(text, options, timer, cookie, found)?;
+    if text.len() == after_separator {
+        text.truncate(start);
+    }
+    Ok(())
+}
+
+/// Appends the timer of a socket, its cookie, and the details of its attributes, as far as the
+/// options select them.
+#[tactic(auto, using(crate::proofs::Adding::appended_texts_concatenate, crate::proofs::Slots::mapped_texts))]
+fn push_selected(
+    text: &mut Vec<u8>,
+    options: Options,
+    timer: &TimerFields,
+    cookie: &[u8; 8],
+    found: &Attributes<'_>,
+) -> Result<(), AllocError>
+    ensures { OnOk result (text.new.items ≡ text.old.items
+        ++ details options timer.now cookie.now (collected found.now)) }
+{
+    push_shown_timer(text, options, timer)?;
+    push_shown_cookie(text, options, cookie)?;
+    push_valid(text, options, found.sockets, &found.first.slots)?;
+    push_others(text, options, found.sockets, found.others.as_slice())
+}
+
+/// Appends the facts of each valid attribute, as far as the options select them.
+fn push_valid(
+    text: &mut Vec<u8>,
+    options: Options,
+    sockets: Sockets,
+    slots: &[Option<NlaBuffer<'_>>],
+) -> Result<(), AllocError>
+    ensures { OnOk result (text.new.items ≡ text.old.items
+        ++ flat_map (λ slot. valid_detail options sockets (slot_attribute slot)) slots.now) }
+{
+    for slot in slots {
+        if let Some(nla) = slot {
+            push_facts(text, options, sockets, nla)?;
+        }
+    }
+    Ok(())
+}
+
+/// Appends the facts of a valid attribute, if the options select its group.
+fn push_facts(
+    text: &mut Vec<u8>,
+    options: Options,
+    sockets: Sockets,
+    nla: &NlaBuffer<'_>,
+) -> Result<(), AllocError>
+    ensures { OnOk result (text.new.items ≡ text.old.items
+        ++ valid_detail options sockets (Some (buffered_attribute nla.now))) }
+{
+    if !options.shows(detail_group(sockets, nla.kind())) {
+        return Ok(());
+    }
+    let alloc = *text.allocator();
+    let _ = show_attribute(text, alloc, options.utf8, sockets, nla)?;
+    Ok(())
+}
+
+/// Appends each unknown or invalid attribute, as far as the options select them.
+fn push_others(
+    text: &mut Vec<u8>,
+    options: Options,
+    sockets: Sockets,
+    others: &[(NlaBuffer<'_>, Status)],
+) -> Result<(), AllocError>
+    ensures { OnOk result (text.new.items ≡ text.old.items
+        ++ flat_map (λ other. other_detail options sockets (other_model other)) others.now) }
+{
+    for (nla, status) in others {
+        if options.shows(detail_group(sockets, nla.kind())) {
+            push_status(text, nla, status)?;
+        }
+    }
+    Ok(())
+}
+
+/// Returns the group of details that an attribute of this kind belongs to.
+fn detail_group(sockets: Sockets, kind: u16) -> Detail
+    ensures { result ≡ detail_group sockets kind }
+{
+    match (sockets, kind) {
+        (Sockets::Unix, UNIX_DIAG_MEMINFO)
+        | (Sockets::Inet(_), INET_DIAG_MEMINFO | INET_DIAG_SKMEMINFO) => Detail::Memory,
+        (Sockets::Other(family), _) if memory_kind(family) == Some(kind) => Detail::Memory,
+        (
+            Sockets::Inet(_),
+            INET_DIAG_INFO
+            | INET_DIAG_VEGASINFO
+            | INET_DIAG_CONG
+            | INET_DIAG_DCTCPINFO
+            | INET_DIAG_BBRINFO
+            | INET_DIAG_MD5SIG
+            | INET_DIAG_ULP_INFO,
+        ) => Detail::Connection,
+        _ => Detail::Extended,
+    }
+}
+
+/// Appends an attribute without facts: one of an unknown kind, or with an invalid value.
+fn push_status(text: &mut Vec<u8>, nla: &NlaBuffer<'_>, status: &Status) -> Result<(), AllocError>
+    ensures { OnOk result (text.new.items
+        ≡ text.old.items ++ status_text (buffered_attribute nla.now) status.now) }
+{
+    match status {
+        Ok(true) => Ok(()),
+        Ok(false) => push_unknown(text, nla),
+        Err(error) => push_invalid(text, nla, error),
+    }
+}
+
+/// Appends the kind of an invalid attribute, the length of its value in bytes, and the reason.
+fn push_invalid(
+    text: &mut Vec<u8>,
+    nla: &NlaBuffer<'_>,
+    error: &DecodeError,
+) -> Result<(), AllocError>
+    ensures { OnOk result (text.new.items ≡ text.old.items
+        ++ invalid_attribute_text (buffered_attribute nla.now) error.now) }
+{
+    text.extend_from_slice(b" unread:(")?;
+    push_number(text, nla.kind().into())?;
+    text.push(b',')?;
+    push_number(text, nla.value().len() as u64)?;
+    text.push(b',')?;
+    text.extend_from_slice(reason_of(error).as_bytes())?;
+    Ok(text.push(b')')?)
+}
+
+/// Appends the kind of an unknown attribute, and the length of its value in bytes.
+fn push_unknown(text: &mut Vec<u8>, nla: &NlaBuffer<'_>) -> Result<(), AllocError>
+    ensures { OnOk result (text.new.items
+        ≡ text.old.items ++ unknown_attribute_text (buffered_attribute nla.now)) }
+{
+    let length = nla.value().len() as u64;
+    push_pair(text, b"unknown", nla.kind().into(), length)
+}

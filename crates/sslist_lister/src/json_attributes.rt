@@ -1,0 +1,203 @@
+//! JSON of a socket: the members of its header, those of its attributes, and the number of its
+//! list. If a function of this module fails, an allocation failed, and the content of the text or
+//! the writer is not specified.
+
+ghost use Rattle.std.specs.Prelude.{◌≡◌, ◌++◌, List, OnOk, codes, flat_map, map};
+ghost use Rattle.json.specs.Lex.{tokens};
+ghost use Rattle.json.specs.Tree.{json_tokens};
+ghost use Rattle.netlink_core.specs.Walk.{buffered_attribute};
+ghost use Rattle.sslist_lister.specs.Collected.{collected, other_model, slot_attribute};
+ghost use Rattle.sslist_lister.specs.JsonAttributes.{attribute_members, attributes_members};
+ghost use Rattle.sslist_lister.specs.JsonAttributes.{item_members, later_list, other_item};
+ghost use Rattle.sslist_lister.specs.JsonAttributes.{socket_json, socket_members};
+ghost use Rattle.sslist_lister.specs.JsonAttributes.{valid_members};
+ghost use Rattle.sslist_lister.specs.texts.JsonData.{JsonMember, array_member, json_text};
+ghost use Rattle.sslist_lister.specs.texts.JsonData.{object_of, optional_member};
+ghost use Rattle.sslist_lister.specs.texts.JsonWriting.{AddsMembers, AddsTokens, KeepsText};
+ghost use Rattle.sslist_lister.specs.texts.JsonWriting.{members_tokens};
+
+use crate::attributes::{Sockets, show_attribute};
+use crate::collected::Attributes;
+use crate::facts::Status;
+use crate::kinds::reason_of;
+use crate::texts::json_writing::{write_numbers, write_optional, write_text};
+use json::Writer;
+use netlink_core::NlaBuffer;
+use std::alloc::{AllocError, Global};
+use std::mem;
+
+/// The header of a reply, which can be written as JSON.
+pub(crate) trait JsonHeader {
+    // The members of the header.
+    ghost json_members: { Self → List JsonMember };
+
+    /// Writes the members of the header.
+    fn write_json(&self, alloc: Global, writer: &mut Writer) -> Result<(), AllocError>
+        ensures before { KeepsText result writer.old writer.new }
+        ensures members { AddsMembers result writer.old writer.new (json_members self.now) };
+}
+
+/// Appends the line of a socket with this header and these attributes, in the list of this number:
+/// a JSON object without spaces, and a line feed.
+pub(crate) fn push_json<H: JsonHeader>(
+    text: &mut Vec<u8>,
+    list: u64,
+    header: &H,
+    found: &Attributes<'_>,
+) -> Result<(), AllocError>
+    ensures line { OnOk result (text.new.items ≡ text.old.items
+        ++ socket_json list (H.json_members header.now) (collected found.now)) }
+    // The text can be parsed: its tokens are those of the object.
+    ensures reads_back { OnOk result (tokens (json_text (object_of
+        (socket_members list (H.json_members header.now) (collected found.now))))
+        ≡ json_tokens (object_of
+        (socket_members list (H.json_members header.now) (collected found.now)))) }
+{
+    let alloc = *text.allocator();
+    let mut writer = Writer::new(mem::replace(text, Vec::new(alloc)));
+    write_object(alloc, &mut writer, list, header, found)?;
+    *text = writer.into_inner();
+    Ok(text.push(b'\n')?)
+}
+
+/// Writes the object of a socket with this header and these attributes, in the list of this number.
+#[tactic(auto, using(crate::proofs::JsonWriting::json_rules, crate::proofs::JsonWriting::object_tokens))]
+fn write_object<H: JsonHeader>(
+    alloc: Global,
+    writer: &mut Writer,
+    list: u64,
+    header: &H,
+    found: &Attributes<'_>,
+) -> Result<(), AllocError>
+    ensures before { KeepsText result writer.old writer.new }
+    ensures tokens { AddsTokens result writer.old writer.new (json_tokens (object_of
+        (socket_members list (H.json_members header.now) (collected found.now)))) }
+{
+    writer.begin_object()?;
+    header.write_json(alloc, writer)?;
+    write_attributes(alloc, writer, found)?;
+    write_optional(writer, "list", later_list(list))?;
+    writer.end_object()
+}
+
+/// Returns the number of a list, unless it is the first one.
+fn later_list(list: u64) -> Option<u64>
+    ensures { result ≡ later_list list }
+{
+    if list > 1 { Some(list) } else { None }
+}
+
+/// Writes the members of the attributes of a reply, and then those that are unknown or invalid.
+#[tactic(auto, using(crate::proofs::JsonWriting::json_rules), unfolding(crate::specs::JsonAttributes::attributes_members))]
+fn write_attributes(
+    alloc: Global,
+    writer: &mut Writer,
+    found: &Attributes<'_>,
+) -> Result<(), AllocError>
+    ensures before { KeepsText result writer.old writer.new }
+    ensures members { AddsMembers result writer.old writer.new
+        (attributes_members (collected found.now)) }
+{
+    write_members(alloc, writer, found)?;
+    write_others(writer, found)
+}
+
+/// Writes the members of the first valid attribute of each kind.
+#[tactic(auto, using(crate::proofs::Slots::tokens_of_slots))]
+fn write_members(
+    alloc: Global,
+    writer: &mut Writer,
+    found: &Attributes<'_>,
+) -> Result<(), AllocError>
+    ensures before { KeepsText result writer.old writer.new }
+    ensures members { AddsMembers result writer.old writer.new
+        (flat_map (valid_members found.now.sockets) (map slot_attribute found.now.first.slots)) }
+{
+    write_valid(alloc, writer, found.sockets, &found.first.slots)
+}
+
+/// Writes the members of each valid attribute.
+#[tactic(auto, unfolding(crate::specs::texts::JsonWriting::members_tokens))]
+fn write_valid(
+    alloc: Global,
+    writer: &mut Writer,
+    sockets: Sockets,
+    slots: &[Option<NlaBuffer<'_>>],
+) -> Result<(), AllocError>
+    ensures before { KeepsText result writer.old writer.new }
+    ensures tokens { AddsTokens result writer.old writer.new (flat_map (λ slot.
+        members_tokens (valid_members sockets (slot_attribute slot))) slots.now) }
+{
+    for slot in slots {
+        if let Some(nla) = slot {
+            let _ = show_attribute(writer, alloc, false, sockets, nla)?;
+        }
+    }
+    Ok(())
+}
+
+/// Writes the member `other_attributes`: the attributes that are unknown or invalid.
+#[tactic(auto, using(crate::proofs::JsonWriting::json_rules, crate::proofs::Slots::tokens_of_others))]
+fn write_others(writer: &mut Writer, found: &Attributes<'_>) -> Result<(), AllocError>
+    ensures before { KeepsText result writer.old writer.new }
+    ensures members { AddsMembers result writer.old writer.new (array_member
+        (codes "other_attributes") (map other_item (map other_model found.now.others.items))) }
+{
+    writer.key("other_attributes")?;
+    writer.begin_array()?;
+    write_items(writer, found.others.as_slice())?;
+    writer.end_array()
+}
+
+/// Writes an item for each of these attributes.
+fn write_items(writer: &mut Writer, others: &[(NlaBuffer<'_>, Status)]) -> Result<(), AllocError>
+    ensures before { KeepsText result writer.old writer.new }
+    ensures tokens { AddsTokens result writer.old writer.new
+        (flat_map (λ other. json_tokens (other_item (other_model other))) others.now) }
+{
+    for (nla, status) in others {
+        write_item(writer, nla, status)?;
+    }
+    Ok(())
+}
+
+/// Writes an item for an attribute with this status.
+fn write_item(writer: &mut Writer, nla: &NlaBuffer<'_>, status: &Status) -> Result<(), AllocError>
+    ensures before { KeepsText result writer.old writer.new }
+    ensures tokens { AddsTokens result writer.old writer.new
+        (json_tokens (other_item (buffered_attribute nla.now, status.now))) }
+{
+    writer.begin_object()?;
+    write_item_members(writer, nla, status)?;
+    writer.end_object()
+}
+
+/// Writes the type of an attribute and the length of its value, and the reason why the value is
+/// invalid.
+#[tactic(auto, using(crate::proofs::JsonWriting::json_rules), unfolding(crate::specs::JsonAttributes::item_members))]
+fn write_item_members(
+    writer: &mut Writer,
+    nla: &NlaBuffer<'_>,
+    status: &Status,
+) -> Result<(), AllocError>
+    ensures before { KeepsText result writer.old writer.new }
+    ensures members { AddsMembers result writer.old writer.new
+        (item_members (buffered_attribute nla.now) status.now) }
+{
+    write_attribute_members(writer, nla)?;
+    match status {
+        Ok(_) => Ok(()),
+        Err(error) => write_text(writer, "error", reason_of(error)),
+    }
+}
+
+/// Writes the type of an attribute and the length of its value.
+#[tactic(auto, unfolding(crate::specs::JsonAttributes::attribute_members))]
+fn write_attribute_members(writer: &mut Writer, nla: &NlaBuffer<'_>) -> Result<(), AllocError>
+    ensures before { KeepsText result writer.old writer.new }
+    ensures members { AddsMembers result writer.old writer.new
+        (attribute_members (buffered_attribute nla.now)) }
+{
+    let (kind, length) = (nla.kind() as u64, nla.value().len() as u64);
+    write_numbers(writer, &[("kind", kind), ("length", length)])
+}

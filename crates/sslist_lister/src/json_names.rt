@@ -1,0 +1,76 @@
+//! Members of JSON objects with the name of a UNIX socket, and with lists of numbers. If a function
+//! of this module fails, an allocation failed, and the content of the writer is not specified.
+
+ghost use Rattle.std.specs.Prelude.{◌≡◌, ◌++◌, ◌∷◌, [], OnOk, codes, decimal, flat_map};
+ghost use Rattle.json.specs.Token.{number};
+ghost use Rattle.sock_diag_attributes.specs.NameModel.{socket_name_model};
+ghost use Rattle.sock_diag_attributes.specs.NumbersModel.{numbers_view_model};
+ghost use Rattle.sslist_lister.specs.JsonNames.{name_members};
+ghost use Rattle.sslist_lister.specs.texts.JsonData.{numbers_member, object_member};
+ghost use Rattle.sslist_lister.specs.texts.JsonWriting.{AddsMembers, AddsTokens, KeepsText};
+
+use crate::texts::json_writing::{begin_member, write_bytes};
+use json::Writer;
+use sock_diag_attributes::unix::nlas::{NameView, NumbersView};
+use std::alloc::{AllocError, Global};
+
+/// Writes the member `name` of a UNIX socket.
+pub(crate) fn write_name(
+    alloc: Global,
+    writer: &mut Writer,
+    name: NameView<'_>,
+) -> Result<(), AllocError>
+    ensures before { KeepsText result writer.old writer.new }
+    ensures members { AddsMembers result writer.old writer.new (object_member (codes "name")
+        (name_members (socket_name_model (λ b. b.now) name.entry))) }
+{
+    begin_member(writer, "name")?;
+    write_name_members(alloc, writer, name)?;
+    writer.end_object()
+}
+
+/// Writes the members of the name of a UNIX socket.
+fn write_name_members(
+    alloc: Global,
+    writer: &mut Writer,
+    name: NameView<'_>,
+) -> Result<(), AllocError>
+    ensures before { KeepsText result writer.old writer.new }
+    ensures members { AddsMembers result writer.old writer.new
+        (name_members (socket_name_model (λ b. b.now) name.entry)) }
+{
+    match name {
+        NameView::Pathname(path) => write_bytes(alloc, writer, "path", "path_hex", path),
+        NameView::Abstract(address) => {
+            write_bytes(alloc, writer, "abstract", "abstract_hex", address)
+        }
+    }
+}
+
+/// Writes a member whose value is an array of numbers.
+pub(crate) fn write_list(
+    writer: &mut Writer,
+    name: &str,
+    numbers: &NumbersView<'_>,
+) -> Result<(), AllocError>
+    ensures before { KeepsText result writer.old writer.new }
+    ensures members { AddsMembers result writer.old writer.new
+        (numbers_member name.now (numbers_view_model numbers.now)) }
+{
+    writer.key(name)?;
+    writer.begin_array()?;
+    write_items(writer, numbers)?;
+    writer.end_array()
+}
+
+/// Writes each number of a list.
+fn write_items(writer: &mut Writer, numbers: &NumbersView<'_>) -> Result<(), AllocError>
+    ensures before { KeepsText result writer.old writer.new }
+    ensures tokens { AddsTokens result writer.old writer.new
+        (flat_map (λ n. number (decimal n) ∷ []) (numbers_view_model numbers.now)) }
+{
+    for value in numbers.iter() {
+        writer.u64(value.into())?;
+    }
+    Ok(())
+}

@@ -1,0 +1,118 @@
+//! Headers of replies about UNIX, IPv4 and IPv6 sockets in lines of JSON.
+
+ghost use Rattle.sslist_lister.specs.JsonSockets.{inet_back_members, inet_front_members};
+ghost use Rattle.sslist_lister.specs.JsonSockets.{inet_header_members, unix_header_members};
+ghost use Rattle.sslist_lister.specs.texts.JsonWriting.{AddsMembers, KeepsText};
+
+use crate::json_attributes::JsonHeader;
+use crate::kinds::{name_of_inet_kind, name_of_unix_kind};
+use crate::line::InetSocket;
+use crate::texts::cells::name_of_state;
+use crate::texts::json_writing::{write_address, write_cookie, write_numbers, write_text};
+use crate::texts::parts::TimerFields;
+use json::Writer;
+use sock_diag_records::constants::AF_UNIX;
+use sock_diag_records::inet::InetResponseHeader;
+use sock_diag_records::unix::UnixResponseHeader;
+use std::alloc::{AllocError, Global};
+
+impl JsonHeader for UnixResponseHeader {
+    ghost json_members = { unix_header_members };
+
+    fn write_json(&self, alloc: Global, writer: &mut Writer) -> Result<(), AllocError> {
+        write_unix_header(alloc, writer, self)
+    }
+}
+
+impl JsonHeader for InetSocket {
+    ghost json_members = { λ it. inet_header_members it.protocol it.timer it.header };
+
+    fn write_json(&self, alloc: Global, writer: &mut Writer) -> Result<(), AllocError> {
+        write_inet_header(alloc, writer, self.protocol, &self.timer, &self.header)
+    }
+}
+
+/// Writes the members of the header of a UNIX socket.
+fn write_unix_header(
+    alloc: Global,
+    writer: &mut Writer,
+    header: &UnixResponseHeader,
+) -> Result<(), AllocError>
+    ensures before { KeepsText result writer.old writer.new }
+    ensures members { AddsMembers result writer.old writer.new (unix_header_members header.now) }
+{
+    write_text(writer, "netid", name_of_unix_kind(header.kind))?;
+    write_text(writer, "state_name", name_of_state(header.state))?;
+    let rows = [
+        ("family", AF_UNIX as u64),
+        ("type", header.kind as u64),
+        ("state", header.state as u64),
+        ("ino", header.inode as u64),
+    ];
+    write_numbers(writer, &rows)?;
+    write_cookie(alloc, writer, &header.cookie)
+}
+
+/// Writes the members of the header of an IPv4 or IPv6 socket.
+fn write_inet_header(
+    alloc: Global,
+    writer: &mut Writer,
+    protocol: Option<u32>,
+    timer: &TimerFields,
+    header: &InetResponseHeader,
+) -> Result<(), AllocError>
+    ensures before { KeepsText result writer.old writer.new }
+    ensures members { AddsMembers result writer.old writer.new
+        (inet_header_members protocol timer.now header.now) }
+{
+    let id = &header.socket_id;
+    write_text(writer, "netid", name_of_inet_kind(protocol, header.family))?;
+    write_text(writer, "state_name", name_of_state(header.state))?;
+    write_inet_front(writer, timer, header)?;
+    write_address(alloc, writer, "src", id.source_address)?;
+    write_address(alloc, writer, "dst", id.destination_address)?;
+    write_numbers(writer, &[("if", id.interface_id as u64)])?;
+    write_cookie(alloc, writer, &id.cookie)?;
+    write_inet_back(writer, timer, header)
+}
+
+/// Writes the members of the header of an IPv4 or IPv6 socket that precede the addresses.
+fn write_inet_front(
+    writer: &mut Writer,
+    timer: &TimerFields,
+    header: &InetResponseHeader,
+) -> Result<(), AllocError>
+    ensures before { KeepsText result writer.old writer.new }
+    ensures members { AddsMembers result writer.old writer.new
+        (inet_front_members timer.now header.now) }
+{
+    let rows = [
+        ("family", header.family as u64),
+        ("state", header.state as u64),
+        ("timer", timer.class as u64),
+        ("retrans", timer.retransmits as u64),
+        ("sport", header.socket_id.source_port as u64),
+        ("dport", header.socket_id.destination_port as u64),
+    ];
+    write_numbers(writer, &rows)
+}
+
+/// Writes the members of the header of an IPv4 or IPv6 socket that follow the cookie.
+fn write_inet_back(
+    writer: &mut Writer,
+    timer: &TimerFields,
+    header: &InetResponseHeader,
+) -> Result<(), AllocError>
+    ensures before { KeepsText result writer.old writer.new }
+    ensures members { AddsMembers result writer.old writer.new
+        (inet_back_members timer.now header.now) }
+{
+    let rows = [
+        ("expires", timer.expires as u64),
+        ("rqueue", header.recv_queue as u64),
+        ("wqueue", header.send_queue as u64),
+        ("uid", header.uid as u64),
+        ("inode", header.inode as u64),
+    ];
+    write_numbers(writer, &rows)
+}

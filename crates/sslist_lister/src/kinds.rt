@@ -1,0 +1,87 @@
+//! Names of kinds of sockets, and of reasons why a value is invalid: one list of each,
+//! for the table and for the lines of JSON.
+
+ghost use Rattle.std.specs.Prelude.{◌≡◌};
+ghost use Rattle.sslist_lister.specs.Details.{error_reason};
+ghost use Rattle.sslist_lister.specs.Others.{other_kind, vsock_kind};
+ghost use Rattle.sslist_lister.specs.Table.{family_name, inet_kind, unix_kind};
+
+use crate::command_line::{Family, IPPROTO_MPTCP, IPPROTO_TCP, IPPROTO_UDP};
+use netlink_core::DecodeError;
+use sock_diag_records::constants::{AF_INET6, SOCK_DGRAM, SOCK_RAW, SOCK_SEQPACKET, SOCK_STREAM};
+
+/// Returns the kind of a UNIX socket, by its type `SOCK_..`, as ss(8) prints it.
+pub(crate) fn name_of_unix_kind(kind: u8) -> &'static str
+    ensures { result.now ≡ unix_kind kind }
+{
+    match kind {
+        SOCK_STREAM => "u_str",
+        SOCK_DGRAM => "u_dgr",
+        SOCK_SEQPACKET => "u_seq",
+        _ => "unix",
+    }
+}
+
+/// Returns the name of the protocol of the request, as ss(8) prints it. Returns the name of the
+/// family if the protocol is not known or has no name here.
+pub(crate) fn name_of_inet_kind(protocol: Option<u32>, family: u8) -> &'static str
+    ensures { result.now ≡ inet_kind protocol family }
+{
+    match protocol {
+        Some(IPPROTO_TCP) => "tcp",
+        Some(IPPROTO_UDP) => "udp",
+        Some(33) => "dccp",
+        Some(132) => "sctp",
+        Some(136) => "udplite",
+        Some(255) => "raw",
+        Some(IPPROTO_MPTCP) => "mptcp",
+        _ => name_of_inet_family(family),
+    }
+}
+
+/// Returns the name of a family: `inet6` for `AF_INET6`, or else `inet`.
+pub(crate) fn name_of_inet_family(family: u8) -> &'static str
+    ensures { result.now ≡ family_name family }
+{
+    if family == AF_INET6 { "inet6" } else { "inet" }
+}
+
+/// Returns the kind of a netlink, packet, vsock or XDP socket, as ss(8) prints it.
+pub(crate) fn name_of_other_kind(family: Family, kind: u8) -> &'static str
+    ensures { result.now ≡ other_kind family kind }
+{
+    match family {
+        Family::Netlink => "nl",
+        Family::Packet if kind == SOCK_RAW => "p_raw",
+        Family::Packet => "p_dgr",
+        Family::Vsock => name_of_vsock_kind(kind),
+        Family::Xdp => "xdp",
+    }
+}
+
+/// Returns the kind of a vsock socket, by its type.
+fn name_of_vsock_kind(kind: u8) -> &'static str
+    ensures { result.now ≡ vsock_kind kind }
+{
+    match kind {
+        SOCK_STREAM => "v_str",
+        SOCK_DGRAM => "v_dgr",
+        SOCK_SEQPACKET => "v_seq",
+        _ => "vsock",
+    }
+}
+
+/// Returns the reason why a value is invalid, in one word.
+pub(crate) fn reason_of(error: &DecodeError) -> &'static str
+    ensures { result.now ≡ error_reason error.now }
+{
+    match error {
+        DecodeError::BufferTooSmall { .. } => "too-short",
+        DecodeError::WrongLength { .. } | DecodeError::NotMultipleOfFour { .. } => "wrong-length",
+        DecodeError::NotUtf8 => "not-utf8",
+        DecodeError::NameEmpty => "empty",
+        DecodeError::NameInnerZero { .. } => "inner-zero",
+        DecodeError::NameWithoutEnd => "no-end",
+        _ => "refused",
+    }
+}

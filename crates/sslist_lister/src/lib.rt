@@ -1,0 +1,211 @@
+//! Lists the sockets in a capture of netlink traffic, as ss(8) lists those of a running system.
+#![tactic(auto)]
+
+ghost use Rattle.std.specs.Prelude.{◌≡◌, ◌↔◌, ◌++◌, Bool, MatchResult, Result, true};
+ghost use Rattle.std.specs.Process.{exit_status};
+ghost use Rattle.sslist_lister.specs.texts.Reports.{ReportsText, ReportsMore};
+ghost use Rattle.sslist_lister.specs.texts.Reports.{closing_line};
+ghost use Rattle.program_streams.specs.declared.streams.WriteError.{WriteError};
+ghost use Rattle.sslist_lister.specs.declared.texts.list_error.ListError.{ListError};
+ghost use Rattle.sslist_lister.specs.Run.{Fails, Finishes};
+ghost use Rattle.sslist_lister.specs.private.Run.{closing_text};
+
+mod attributes;
+mod collected;
+mod command_line;
+mod details;
+mod error_text;
+mod explanation;
+mod facts;
+mod headings;
+mod json_attributes;
+pub mod json_laws;
+mod json_names;
+mod json_others;
+mod json_sockets;
+mod kinds;
+pub mod laws;
+mod line;
+mod list;
+mod lists;
+mod md5_keys;
+mod messages;
+mod name_cells;
+mod others;
+mod pieces;
+mod request_line;
+mod requests;
+mod stream;
+mod tcp;
+mod texts;
+mod ulp_info;
+mod ulp_names;
+
+pub use command_line::{
+    AddressCondition, Choice, Detail, Family, ListCapture, Options, PortCondition, Rejection,
+    SocketFilter, choose, list_captures, names_several,
+};
+pub use error_text::push_decode_error;
+pub use headings::heading;
+pub use line::HEADING;
+pub use list::list_packet;
+pub use netlink_captures::{
+    ByteOrder, CaptureError, Compression, FileHeader, Packet, PacketHeader, TimeUnit,
+};
+pub use program_streams::{ReadError, Sink, Source, WriteError, send};
+pub use requests::{Query, Requests};
+use std::alloc::Global;
+use std::process::ExitCode;
+pub use stream::run;
+use texts::reports::report_failure;
+pub use texts::{ListError, PacketOutput, escaped};
+
+/// Version of the program, equal to the file `VERSION` of the repository.
+pub const VERSION: &str = "1.0.0";
+
+/// The text that `sslist --help` prints.
+pub const HELP: &str = "\
+Usage: sslist [OPTION ..] [FILE ..]
+
+Lists the sockets in captures of netlink traffic: in each FILE, or in standard
+input if there is none, or if FILE is -. A capture is in pcap or pcapng format,
+as written by tcpdump -i nlmon0 -w -, or by sockdump, which records the sockets
+of this machine: sockdump | sslist. Arguments after -- are files.
+
+Select sockets (several options add up):
+  -t, --tcp              TCP sockets
+  -u, --udp              UDP sockets
+  -M, --mptcp            MPTCP sockets
+  -4, --ipv4             IPv4 sockets; with -t, -u or -M only these protocols
+  -6, --ipv6             IPv6 sockets; with -t, -u or -M only these protocols
+  -x, --unix             UNIX sockets
+  -0, --packet           packet sockets
+      --vsock            vsock sockets
+      --xdp              XDP sockets
+  -f, --family=FAMILY    sockets of inet, inet6, unix, link (packet), netlink,
+                         vsock or xdp
+  -l, --listening        only listening sockets: states LISTEN and UNCONN
+  -a, --all              sockets in all states (default)
+
+Filter sockets (a socket is listed if it meets all of these):
+      --state=STATE      in this state; several options add up
+      --sport=PORT       IPv4 and IPv6 sockets with this local port
+      --dport=PORT       IPv4 and IPv6 sockets with this remote port
+      --src=ADDRESS      IPv4 or IPv6 sockets with this local address
+      --dst=ADDRESS      IPv4 or IPv6 sockets with this remote address
+  STATE is established (or estab), syn-sent, syn-recv (or syn-rcv), fin-wait-1,
+  fin-wait-2, time-wait, closed (or close, unconnected, unconn), close-wait,
+  last-ack, listening (or listen) or closing; or a group: all, connected (all
+  but closed and listening), synchronized (connected but not syn-sent), bucket
+  (syn-recv and time-wait), big (all but bucket). Case does not matter. Such an
+  option replaces -l and -a.
+  PORT is a number, not a name: N is port N, N-M is N to M, N- is N or more, -M
+  is M or less. ADDRESS is IPv4, for IPv4 sockets, or IPv6, for IPv6 sockets.
+  ADDRESS/LENGTH is all addresses with the same first LENGTH bits: 10.0.0.0/8.
+  Of several for the same port or address the last one counts. Filters written
+  as in ss(8), such as state listening, are taken as names of files.
+
+Select details (all by default; several options add up):
+  -o, --options          the timer
+  -m, --memory           the memory
+  -i, --info             the TCP connection
+  -e, --extended         the cookie and all other details
+
+Format:
+  -H, --no-header        no heading
+  -O, --oneline          one line per socket
+  -n, --numeric          ignored: service names are never resolved
+      --utf8             in names that are valid UTF-8, show letters instead of
+                         escaped bytes
+      --requests         also a line for each request, with its time
+      --json             a JSON object for each socket, one per line
+
+  -h, --help             print this text and exit
+  -V, --version          print the version and exit
+
+Other options of ss(8), such as -p, -s, -r, -w and -A, are rejected.
+
+Exit status:
+  0: each capture was read to its end, and standard error has nothing but notes,
+     which say that the kernel has no sockets of a kind or cannot list them.
+     Sockets that the options leave out do not change the status.
+  1: anything else, which standard error names, except for a closed output pipe.
+  2: an argument is wrong, and nothing was listed.";
+
+/// Lists a capture by [`run`], whose table begins with `heading`, and writes a line on `errors` if
+/// the run fails. The line begins with `front` and names the failure. A closed output pipe has no
+/// line. Returns the exit status: 0 if the whole capture was listed completely, and 1 if the
+/// run failed or a packet had an error.
+pub fn run_to_status<R: Source, W: Sink, E: Sink>(
+    alloc: Global,
+    options: Options,
+    front: &str,
+    heading: &[u8],
+    input: &mut R,
+    output: &mut W,
+    errors: &mut E,
+) -> ExitCode
+    // The status is 0 if and only if the whole capture was listed completely: `Finishes .. true`.
+    // Then the input is at its end, and the table was written. Otherwise the status is 1. On
+    // `errors` are the diagnostics and the line that names the failure, or a prefix of this text
+    // if a write failed there (`is_open` is false). R.left: the bytes that are left to read, if
+    // known. W.held, E.held: the bytes written, if known. R.failed, E.failed: a read or a write
+    // failed with this error.
+    ensures { (outcome : Result Bool ListError) × (is_open : Bool)
+        × ((exit_status result ≡ 0) ↔ (outcome ≡ Ok true))
+        × ((exit_status result ≡ 1) ↔ ¬ (outcome ≡ Ok true))
+        × MatchResult outcome
+        (Finishes options (R.left input.old) (R.left input.new) (W.held output.old)
+        (W.held output.new) heading.now front.now
+        (λ diagnostics. ReportsText (E.held errors.old) (E.held errors.new)
+        ((e : WriteError) × E.failed errors.new e) diagnostics is_open))
+        (λ e. Fails options (R.left input.old) (R.left input.new) (W.held output.old)
+        (W.held output.new) heading.now front.now
+        (λ diagnostics. ReportsText (E.held errors.old) (E.held errors.new)
+        ((e : WriteError) × E.failed errors.new e)
+        (diagnostics ++ closing_line front.now e) is_open) (R.failed input.new) e) }
+{
+    let mut is_open = true;
+    let outcome = run(
+        alloc,
+        options,
+        front,
+        heading,
+        input,
+        output,
+        errors,
+        &mut is_open,
+    );
+    report_outcome(errors, &mut is_open, front, &outcome);
+    exit_code(&outcome)
+}
+
+/// Writes the line that names a failure, if `is_open` is set. Writes nothing if the run did not
+/// fail, or if the failure is a closed output pipe. If this write fails too, only the exit status
+/// reports the failure.
+fn report_outcome<E: Sink>(
+    errors: &mut E,
+    is_open: &mut bool,
+    front: &str,
+    outcome: &Result<bool, ListError>,
+)
+    ensures { ReportsMore (E.held errors.old) ((e : WriteError) × E.failed errors.old e) is_open.old
+        (E.held errors.new) ((e : WriteError) × E.failed errors.new e) is_open.new
+        (closing_text front.now outcome.now) }
+{
+    match outcome {
+        Ok(_) => {}
+        Err(failure) => report_failure(errors, is_open, front, failure),
+    }
+}
+
+/// Returns the exit status of a run: 0 if the whole capture was listed completely, otherwise 1.
+fn exit_code(outcome: &Result<bool, ListError>) -> ExitCode
+    ensures success { (exit_status result ≡ 0) ↔ (outcome.now ≡ Ok true) }
+    ensures failure { (exit_status result ≡ 1) ↔ ¬ (outcome.now ≡ Ok true) }
+{
+    match outcome {
+        Ok(true) => ExitCode::SUCCESS,
+        Ok(false) | Err(_) => ExitCode::FAILURE,
+    }
+}

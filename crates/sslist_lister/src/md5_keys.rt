@@ -1,0 +1,181 @@
+//! The MD5 keys of a TCP socket (`INET_DIAG_MD5SIG`). A function of this module that appends to a
+//! text or to a writer may fail: then an allocation failed, and the content is not specified.
+
+ghost use Rattle.std.specs.Prelude.{◌≡◌, ◌≤◌, ◌++◌, OnOk, SomeIff, flat_map, length};
+ghost use Rattle.json.specs.Tree.{json_tokens};
+ghost use Rattle.sslist_lister.specs.Md5Keys.{are_md5_keys, key_at, key_byte, md5_facts};
+ghost use Rattle.sslist_lister.specs.Md5Keys.{md5_key_members, md5_key_text, md5_key_value};
+ghost use Rattle.sslist_lister.specs.Md5Keys.{md5_keys, md5_keys_text, peer_member, peer_text};
+ghost use Rattle.sslist_lister.specs.texts.JsonWriting.{AddsMembers, AddsTokens, KeepsText};
+
+use crate::texts::cells::{push_digits, push_escaped_byte, push_number};
+use crate::texts::json_writing::{write_address, write_numbers, write_text};
+use json::Writer;
+use sock_diag_extras::{Md5Signature, read_attribute_record};
+use std::alloc::{AllocError, Global};
+use std::io::Write;
+use std::net::IpAddr;
+
+/// Length of a `struct tcp_diag_md5sig` in bytes.
+pub(crate) const KEY_LENGTH: usize = 100;
+
+/// Returns whether a value has at least one key, and only whole ones.
+pub(crate) fn has_md5_keys(value: &[u8]) -> bool
+    ensures { result ≡ are_md5_keys value.now }
+{
+    value.len() >= KEY_LENGTH && value.len() % KEY_LENGTH == 0
+}
+
+/// Appends the keys in a value.
+#[tactic(auto, unfolding(crate::specs::Md5Keys::md5_facts))]
+pub(crate) fn push_md5_keys(text: &mut Vec<u8>, value: &[u8]) -> Result<(), AllocError>
+    ensures { OnOk result (text.new.items ≡ text.old.items ++ (md5_facts value.now).text) }
+{
+    text.extend_from_slice(b" md5keys")?;
+    push_keys(text, value)
+}
+
+/// Returns the key at the start of the bytes. Returns `None` if there are fewer than 100.
+#[tactic(auto, unfolding(crate::specs::Md5Keys::key_at))]
+fn read_key(bytes: &[u8]) -> Option<Md5Signature>
+    ensures { SomeIff result (100 ≤ length bytes.now) (key_at bytes.now) }
+{
+    read_attribute_record::<Md5Signature>(bytes)
+}
+
+/// Appends a colon and the keys, separated by commas.
+#[tactic(auto, using(crate::proofs::Md5Keys::key_rules))]
+fn push_keys(text: &mut Vec<u8>, value: &[u8]) -> Result<(), AllocError>
+    ensures { OnOk result (text.new.items ≡ text.old.items
+        ++ md5_keys_text 58 (md5_keys value.now)) }
+{
+    let mut separator = b':';
+    let mut rest = value;
+    while let Some(key) = read_key(rest) {
+        text.push(separator)?;
+        push_key(text, &key)?;
+        separator = b',';
+        rest = &rest[KEY_LENGTH..];
+    }
+    Ok(())
+}
+
+/// Appends the address of the peers, the length of the prefix, and the bytes of the key.
+#[tactic(auto, unfolding(crate::specs::Md5Keys::md5_key_text))]
+fn push_key(text: &mut Vec<u8>, key: &Md5Signature) -> Result<(), AllocError>
+    ensures { OnOk result (text.new.items ≡ text.old.items ++ md5_key_text key.now) }
+{
+    push_peer_ip(text, key.ip())?;
+    text.push(b'/')?;
+    push_number(text, key.prefix_length.into())?;
+    text.push(b'=')?;
+    push_key_bytes(text, key.used_key())
+}
+
+/// Appends an address, or `*` for `None`.
+fn push_peer_ip(text: &mut Vec<u8>, ip: Option<IpAddr>) -> Result<(), AllocError>
+    ensures { OnOk result (text.new.items ≡ text.old.items ++ peer_text ip) }
+{
+    let Some(ip) = ip else {
+        return Ok(text.push(b'*')?);
+    };
+    match write!(text, "{ip}") {
+        Ok(()) => Ok(()),
+        Err(_) => Err(AllocError),
+    }
+}
+
+/// Appends the bytes of a key.
+fn push_key_bytes(text: &mut Vec<u8>, bytes: &[u8]) -> Result<(), AllocError>
+    ensures { OnOk result (text.new.items ≡ text.old.items ++ flat_map key_byte bytes.now) }
+{
+    for byte in bytes {
+        push_key_byte(text, *byte)?;
+    }
+    Ok(())
+}
+
+/// Appends a byte as [`push_escaped_byte`] does, except for a comma, which is escaped.
+fn push_key_byte(text: &mut Vec<u8>, byte: u8) -> Result<(), AllocError>
+    ensures { OnOk result (text.new.items ≡ text.old.items ++ key_byte byte) }
+{
+    if byte == b',' {
+        push_digits(text, byte)
+    } else {
+        push_escaped_byte(text, byte)
+    }
+}
+
+/// Writes the member `md5sig`: an object for each key in a value.
+pub(crate) fn write_md5_keys(
+    alloc: Global,
+    writer: &mut Writer,
+    value: &[u8],
+) -> Result<(), AllocError>
+    ensures before { KeepsText result writer.old writer.new }
+    ensures members { AddsMembers result writer.old writer.new (md5_facts value.now).members }
+{
+    writer.key("md5sig")?;
+    writer.begin_array()?;
+    write_keys(alloc, writer, value)?;
+    writer.end_array()
+}
+
+/// Writes an object for each key.
+#[tactic(auto, using(crate::proofs::Md5Keys::key_rules))]
+fn write_keys(alloc: Global, writer: &mut Writer, value: &[u8]) -> Result<(), AllocError>
+    ensures before { KeepsText result writer.old writer.new }
+    ensures tokens { AddsTokens result writer.old writer.new
+        (flat_map (λ key. json_tokens (md5_key_value key)) (md5_keys value.now)) }
+{
+    let mut rest = value;
+    while let Some(key) = read_key(rest) {
+        write_key(alloc, writer, &key)?;
+        rest = &rest[KEY_LENGTH..];
+    }
+    Ok(())
+}
+
+/// Writes an object with the members of a key.
+fn write_key(alloc: Global, writer: &mut Writer, key: &Md5Signature) -> Result<(), AllocError>
+    ensures before { KeepsText result writer.old writer.new }
+    ensures tokens { AddsTokens result writer.old writer.new
+        (json_tokens (md5_key_value key.now)) }
+{
+    writer.begin_object()?;
+    write_key_members(alloc, writer, key)?;
+    writer.end_object()
+}
+
+/// Writes the members of a key.
+#[tactic(auto, using(crate::proofs::JsonWriting::json_rules), unfolding(crate::specs::Md5Keys::md5_key_members))]
+fn write_key_members(
+    alloc: Global,
+    writer: &mut Writer,
+    key: &Md5Signature,
+) -> Result<(), AllocError>
+    ensures before { KeepsText result writer.old writer.new }
+    ensures members { AddsMembers result writer.old writer.new (md5_key_members key.now) }
+{
+    let rows = [
+        ("family", key.family as u64),
+        ("prefixlen", key.prefix_length as u64),
+        ("keylen", key.key_length as u64),
+    ];
+    write_numbers(writer, &rows)?;
+    write_peer(alloc, writer, key.ip())?;
+    let digits = hex::encode(alloc, key.used_key())?;
+    write_text(writer, "key", digits.as_str())
+}
+
+/// Writes the address of the peers. Writes nothing for `None`.
+#[tactic(auto, unfolding(crate::specs::Md5Keys::peer_member, crate::specs::texts::JsonWriting::members_tokens))]
+fn write_peer(alloc: Global, writer: &mut Writer, ip: Option<IpAddr>) -> Result<(), AllocError>
+    ensures before { KeepsText result writer.old writer.new }
+    ensures members { AddsMembers result writer.old writer.new (peer_member ip) }
+{
+    match ip {
+        Some(ip) => write_address(alloc, writer, "addr", ip),
+        None => Ok(()),
+    }
+}

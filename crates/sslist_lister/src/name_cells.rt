@@ -1,0 +1,116 @@
+//! Cells with the names of UNIX sockets.
+
+ghost use Rattle.std.specs.Prelude.{◌≡◌, ◌++◌, ◌≤◌, [], ℕ, List, OnOk, Some, drop};
+ghost use Rattle.std.specs.Prelude.{option_map, vec_len};
+ghost use Rattle.sslist_lister.specs.texts.Escapes.{unescaped_bytes};
+ghost use Rattle.sock_diag_attributes.specs.declared.unix.name.SocketName.TheVariants.{Abstract};
+ghost use Rattle.sock_diag_attributes.specs.declared.unix.name.SocketName.TheVariants.{Pathname};
+ghost use Rattle.sock_diag_attributes.specs.NameModel.{socket_name_model};
+ghost use Rattle.sslist_lister.specs.texts.Widths.{cell_width, name_column, spaces_after};
+ghost use Rattle.sslist_lister.specs.Table.{needs_escaped_first_byte, name_cell, name_of_cell};
+
+use crate::texts::cells::push_digits;
+use crate::texts::names::push_shown;
+use sock_diag_attributes::unix::nlas::NameView;
+use std::alloc::AllocError;
+use unicode_width::UnicodeWidthStr;
+
+/// Appends a column with the name of a UNIX socket, or with `*` for `None`.
+pub(crate) fn push_name_column(
+    text: &mut Vec<u8>,
+    width: usize,
+    utf8: bool,
+    name: Option<NameView<'_>>,
+) -> Result<(), AllocError>
+    ensures { OnOk result (text.new.items ≡ text.old.items
+        ++ name_column utf8 width
+        (name_cell utf8 (option_map (socket_name_model (λ b. b.now)) name.entry))) }
+{
+    let start = text.len();
+    push_name(text, utf8, name)?;
+    end_name_column(text, start, width, utf8)
+}
+
+/// Appends the name of a UNIX socket, or `*` for `None`.
+fn push_name(text: &mut Vec<u8>, utf8: bool, name: Option<NameView<'_>>) -> Result<(), AllocError>
+    ensures { OnOk result (text.new.items ≡ text.old.items
+        ++ name_cell utf8 (option_map (socket_name_model (λ b. b.now)) name.entry)) }
+{
+    match name {
+        Some(NameView::Pathname(path)) => push_path(text, utf8, path),
+        Some(NameView::Abstract(address)) => push_abstract(text, utf8, address),
+        None => Ok(text.push(b'*')?),
+    }
+}
+
+/// Ends the column of a name that begins at the offset `start`: appends spaces until it takes
+/// `width` columns of a terminal, and one more space. A longer column is not cut. `start` must be
+/// at most the length of the text.
+fn end_name_column(
+    text: &mut Vec<u8>,
+    start: usize,
+    width: usize,
+    utf8: bool,
+) -> Result<(), AllocError>
+    requires { start ≤ vec_len text.old }
+    ensures { OnOk result (text.new.items
+        ≡ text.old.items ++ spaces_after utf8 width (drop start text.old.items)) }
+{
+    let spaces = width.saturating_sub(cell_width(utf8, &text[start..]));
+    let Some(end) = text.len().checked_add(spaces) else {
+        return Err(AllocError);
+    };
+    text.resize(end, b' ')?;
+    Ok(text.push(b' ')?)
+}
+
+/// Returns the number of columns that a cell takes in a terminal: the width of its characters if
+/// `utf8` is set, or else a column for each byte.
+fn cell_width(utf8: bool, cell: &[u8]) -> usize
+    ensures { result ≡ cell_width utf8 cell.now }
+{
+    if !utf8 {
+        return cell.len();
+    }
+    match str::from_utf8(cell) {
+        Ok(text) => text.width(),
+        Err(_) => cell.len(),
+    }
+}
+
+/// Appends an abstract name after `@`.
+fn push_abstract(text: &mut Vec<u8>, utf8: bool, address: &[u8]) -> Result<(), AllocError>
+    ensures cell { OnOk result (text.new.items
+        ≡ text.old.items ++ name_cell utf8 (Some (Abstract address.now))) }
+    // The name can be read back from the cell if a space follows.
+    ensures unescapes { (behind : List ℕ) → unescaped_bytes 0 behind ≡ []
+        → name_of_cell (name_cell utf8 (Some (Abstract address.now)) ++ behind)
+        ≡ Some (Abstract address.now) }
+{
+    text.push(b'@')?;
+    push_shown(text, utf8, address)
+}
+
+/// Appends a path. If it begins with `@`, or is `*`, its first byte is escaped, since these are an
+/// abstract name and no name.
+fn push_path(text: &mut Vec<u8>, utf8: bool, path: &[u8]) -> Result<(), AllocError>
+    ensures cell { OnOk result (text.new.items
+        ≡ text.old.items ++ name_cell utf8 (Some (Pathname path.now))) }
+    // The name can be read back from the cell if a space follows.
+    ensures unescapes { (behind : List ℕ) → unescaped_bytes 0 behind ≡ []
+        → name_of_cell (name_cell utf8 (Some (Pathname path.now)) ++ behind)
+        ≡ Some (Pathname path.now) }
+{
+    if !is_mistaken(path) {
+        return push_shown(text, utf8, path);
+    }
+    push_digits(text, path[0])?;
+    push_shown(text, utf8, &path[1..])
+}
+
+/// Returns whether a path begins with `@` or is `*`.
+fn is_mistaken(path: &[u8]) -> bool
+    ensures { result ≡ needs_escaped_first_byte path.now }
+{
+    (!path.is_empty() && path[0] == b'@') || (path.len() == 1 && path[0] == b'*')
+}

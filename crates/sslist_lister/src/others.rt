@@ -1,0 +1,425 @@
+//! Lines of the replies about netlink, packet, vsock and XDP sockets.
+
+ghost use Rattle.std.specs.Prelude.{◌≡◌, ◌++◌, ◌≤◌, drop, IfOk, OnOk, option_map};
+ghost use Rattle.sslist_lister.specs.texts.CellsModel.{cells_model};
+ghost use Rattle.sslist_lister.specs.texts.Cells.{column};
+ghost use Rattle.netlink_core.specs.Walk.{buffered_attribute};
+ghost use Rattle.sslist_lister.specs.Collected.{Summary, collected, summary_of};
+ghost use Rattle.sslist_lister.specs.JsonListing.{other_output};
+ghost use Rattle.sslist_lister.specs.Listing.{family_error, family_lines, other_reply_error};
+ghost use Rattle.sslist_lister.specs.Listing.{other_reply_lines};
+ghost use Rattle.sslist_lister.specs.Others.{family_numbered, optional_numbers_text};
+ghost use Rattle.sslist_lister.specs.Others.{numbers_text, interface_number, netlink_socket};
+ghost use Rattle.sslist_lister.specs.Others.{other_columns, other_line};
+ghost use Rattle.sslist_lister.specs.Others.{other_lines, packet_socket, none_if_equal};
+ghost use Rattle.sslist_lister.specs.Others.{user_kind, vsock_socket};
+ghost use Rattle.sslist_lister.specs.Others.{u32_in_attribute, u32_in_first};
+ghost use Rattle.sslist_lister.specs.Others.{xdp_socket};
+ghost use Rattle.sslist_lister.specs.Pieces.{attributes_or_error, framing_error_of};
+ghost use Rattle.sslist_lister.specs.declared.attributes.Sockets.TheVariants.{Other};
+ghost use Rattle.sslist_lister.specs.declared.others.OtherSocket.{OtherSocket as SocketShown};
+ghost use Rattle.sslist_lister.specs.declared.command_line.options.Family.{Family as SocketFamily};
+ghost use Rattle.sslist_lister.specs.declared.command_line.options.Family.TheVariants.{Netlink};
+ghost use Rattle.sslist_lister.specs.declared.command_line.options.Family.TheVariants.{Packet};
+ghost use Rattle.sslist_lister.specs.declared.command_line.options.Family.TheVariants.{Vsock, Xdp};
+
+use crate::attributes::{Sockets, memory_kind};
+use crate::collected::Attributes;
+use crate::command_line::{Family, Options};
+use crate::details::push_details;
+use crate::json_attributes::{JsonHeader, push_json};
+use crate::kinds::name_of_other_kind;
+use crate::line::LOCAL;
+use crate::texts::cells::{Cells, end_column, push_first_columns, push_number_or_star};
+use crate::texts::parts::NO_TIMER;
+use byteorder::{ByteOrder, LittleEndian};
+use netlink_core::{DecodeError, NlaBuffer, Record, read_record};
+use sock_diag_families::netlink::NetlinkResponseHeader;
+use sock_diag_families::packet::{PACKET_DIAG_INFO, PACKET_DIAG_UID, PacketResponseHeader};
+use sock_diag_families::vsock::{AF_VSOCK, VsockResponseHeader};
+use sock_diag_families::xdp::{AF_XDP, XDP_DIAG_INFO, XDP_DIAG_UID, XdpResponseHeader};
+use sock_diag_records::constants::{AF_NETLINK, AF_PACKET, TCP_CLOSE};
+use std::alloc::AllocError;
+
+/// `NETLINK_CONNECTED`, the state of a netlink socket that is connected to another one.
+const NETLINK_CONNECTED: u8 = 1;
+
+/// `VMADDR_CID_ANY` and `VMADDR_PORT_ANY` of vsock(7).
+const ANY: u32 = 0xffff_ffff;
+
+/// A local or peer address: two numbers. `None` is shown as `*`.
+type Numbers = (Option<u32>, Option<u32>);
+
+/// The values of a netlink, packet, vsock or XDP socket that a line shows. The memory and the user
+/// id are not among them: they are in attributes.
+#[derive(Clone, Copy)]
+pub(crate) struct OtherSocket {
+    family: Family,
+    /// Type of the socket, one of `SOCK_..`.
+    kind: u8,
+    state: u8,
+    inode: u32,
+    cookie: u64,
+    local: Numbers,
+    peer: Option<Numbers>,
+}
+
+/// A header of a reply about a netlink, packet, vsock or XDP socket.
+pub(crate) trait Listed: Record<Param = ()> + JsonHeader + Drop {
+    // The family of the socket.
+    ghost listed_family: { SocketFamily };
+
+    // The values that a line shows, by the header and what the reply has in its attributes.
+    ghost listed: { Self → Summary → SocketShown };
+
+    /// Returns the family of the socket.
+    fn family() -> Family
+        ensures { result ≡ listed_family };
+
+    /// Returns the values of the socket.
+    fn socket(&self, found: &Attributes<'_>) -> OtherSocket
+        ensures { result ≡ listed self.now (collected found.now) };
+}
+
+/// Returns the family of this number, if it is a netlink, packet, vsock or XDP family.
+pub(crate) fn family_numbered(number: u8) -> Option<Family>
+    ensures { result ≡ family_numbered number }
+{
+    match number {
+        AF_NETLINK => Some(Family::Netlink),
+        AF_PACKET => Some(Family::Packet),
+        AF_VSOCK => Some(Family::Vsock),
+        AF_XDP => Some(Family::Xdp),
+        _ => None,
+    }
+}
+
+/// Appends the lines of a socket of the family of this number. Returns the decode error of the
+/// reply, if it has one. An unknown family has no lines and no error.
+pub(crate) fn push_other(
+    text: &mut Vec<u8>,
+    options: Options,
+    list: u64,
+    number: u8,
+    payload: &[u8],
+) -> Result<Option<DecodeError>, AllocError>
+    ensures lines { OnOk result (text.new.items ≡ text.old.items
+        ++ family_lines options list (family_numbered number) payload.now) }
+    ensures error { IfOk result
+        (λ error. error ≡ family_error (family_numbered number) payload.now) }
+{
+    match family_numbered(number) {
+        Some(Family::Netlink) => push_listed::<NetlinkResponseHeader>(text, options, list, payload),
+        Some(Family::Packet) => push_listed::<PacketResponseHeader>(text, options, list, payload),
+        Some(Family::Vsock) => push_listed::<VsockResponseHeader>(text, options, list, payload),
+        Some(Family::Xdp) => push_listed::<XdpResponseHeader>(text, options, list, payload),
+        None => Ok(None),
+    }
+}
+
+/// Appends the lines of a reply with this header. Returns its decode error, if it has one.
+fn push_listed<H: Listed>(
+    text: &mut Vec<u8>,
+    options: Options,
+    list: u64,
+    payload: &[u8],
+) -> Result<Option<DecodeError>, AllocError>
+    ensures lines { OnOk result (text.new.items ≡ text.old.items
+        ++ other_reply_lines options list H.layout H.listed H.listed_family H.json_members
+        payload.now) }
+    ensures error { IfOk result (λ error. error ≡ other_reply_error H.layout payload.now) }
+{
+    match read_record::<H>(payload, ()) {
+        Ok(header) => push_socket(text, options, list, &header, attributes_of::<H>(payload)),
+        Err(error) => Ok(Some(error)),
+    }
+}
+
+/// Appends what is written for a socket with this header and the attributes in these bytes, if the
+/// options select it. Returns the error of the bytes after the last attribute.
+fn push_socket<H: Listed>(
+    text: &mut Vec<u8>,
+    options: Options,
+    list: u64,
+    header: &H,
+    bytes: &[u8],
+) -> Result<Option<DecodeError>, AllocError>
+    ensures lines { OnOk result (text.new.items ≡ text.old.items
+        ++ other_output options list (H.listed header.now (summary_of (Other H.listed_family)
+        (attributes_or_error 0 bytes.now))) (H.json_members header.now)
+        (summary_of (Other H.listed_family) (attributes_or_error 0 bytes.now))) }
+    ensures error { IfOk result
+        (λ error. error ≡ framing_error_of (attributes_or_error 0 bytes.now)) }
+{
+    let mut found = Attributes::new(*text.allocator(), Sockets::Other(H::family()));
+    found.collect(bytes)?;
+    let socket = header.socket(&found);
+    push_output(text, options, list, header, &socket, &found)?;
+    Ok(found.end)
+}
+
+/// Appends what is written for a socket with this header and these attributes, if the options
+/// select it: its lines of the table, or its line of JSON.
+fn push_output<H: Listed>(
+    text: &mut Vec<u8>,
+    options: Options,
+    list: u64,
+    header: &H,
+    socket: &OtherSocket,
+    found: &Attributes<'_>,
+) -> Result<(), AllocError>
+    ensures { OnOk result (text.new.items ≡ text.old.items ++ other_output options list socket.now
+        (H.json_members header.now) (collected found.now)) }
+{
+    if !options.lists_family(socket.family, socket.state) {
+        return Ok(());
+    }
+    if options.json {
+        return push_json(text, list, header, found);
+    }
+    push_lines(text, options, socket, found)
+}
+
+/// Returns the bytes after the header.
+fn attributes_of<H: Listed>(payload: &[u8]) -> &[u8]
+    ensures { result.now ≡ drop H.layout.least payload.now }
+{
+    let (_, least) = H::name_and_least();
+    if payload.len() < least {
+        return &[];
+    }
+    &payload[least..]
+}
+
+/// Appends the lines of the table for a socket with these attributes.
+#[tactic(auto, using(crate::proofs::Adding::three_texts_concatenate))]
+fn push_lines(
+    text: &mut Vec<u8>,
+    options: Options,
+    socket: &OtherSocket,
+    found: &Attributes<'_>,
+) -> Result<(), AllocError>
+    ensures { OnOk result (text.new.items ≡ text.old.items
+        ++ other_lines options socket.now (collected found.now)) }
+{
+    push_other_line(text, socket, found)?;
+    let mut cookie = [0; 8];
+    LittleEndian::write_u64(&mut cookie, socket.cookie);
+    push_details(text, options, &NO_TIMER, &cookie, found)?;
+    Ok(text.push(b'\n')?)
+}
+
+/// Appends the columns of a socket.
+fn push_other_line(
+    text: &mut Vec<u8>,
+    socket: &OtherSocket,
+    found: &Attributes<'_>,
+) -> Result<(), AllocError>
+    ensures { OnOk result (text.new.items ≡ text.old.items
+        ++ other_line socket.now (collected found.now)) }
+{
+    push_first_columns(text, &other_cells(socket, found))?;
+    push_local(text, socket.local)?;
+    push_end(text, socket.peer)
+}
+
+/// Returns the first columns of a socket. The queues are in the attribute with its memory, and the
+/// user id is in an attribute too.
+fn other_cells(socket: &OtherSocket, found: &Attributes<'_>) -> Cells
+    ensures { cells_model result ≡ other_columns socket.now (collected found.now) }
+{
+    let memory = memory_kind(socket.family);
+    Cells {
+        kind: name_of_other_kind(socket.family, socket.kind).as_bytes(),
+        state: socket.state,
+        receive_queue: word_in(found, memory, 0),
+        send_queue: word_in(found, memory, 8),
+        inode: socket.inode,
+        uid: word_in(found, user_kind(socket.family), 0),
+    }
+}
+
+/// Returns the kind of the attribute with the user id of a socket. Netlink and vsock sockets have
+/// none.
+fn user_kind(family: Family) -> Option<u16>
+    ensures { result ≡ user_kind family }
+{
+    match family {
+        Family::Packet => Some(PACKET_DIAG_UID),
+        Family::Xdp => Some(XDP_DIAG_UID),
+        Family::Netlink | Family::Vsock => None,
+    }
+}
+
+/// Appends the column of the local address.
+fn push_local(text: &mut Vec<u8>, address: Numbers) -> Result<(), AllocError>
+    ensures { OnOk result (text.new.items ≡ text.old.items
+        ++ column LOCAL (numbers_text address)) }
+{
+    let start = text.len();
+    push_numbers(text, address)?;
+    end_column(text, start, LOCAL)
+}
+
+/// Appends an address, or `*` for `None`.
+fn push_end(text: &mut Vec<u8>, address: Option<Numbers>) -> Result<(), AllocError>
+    ensures { OnOk result (text.new.items ≡ text.old.items ++ optional_numbers_text address) }
+{
+    match address {
+        Some(address) => push_numbers(text, address),
+        None => Ok(text.push(b'*')?),
+    }
+}
+
+/// Appends both numbers of an address, separated by a colon. A number that is `None` is `*`.
+fn push_numbers(text: &mut Vec<u8>, address: Numbers) -> Result<(), AllocError>
+    ensures { OnOk result (text.new.items ≡ text.old.items ++ numbers_text address) }
+{
+    let (first, second) = address;
+    push_number_or_star(text, first)?;
+    text.push(b':')?;
+    push_number_or_star(text, second)
+}
+
+/// Returns the `u32` at an offset of the value of the first valid attribute of a kind. Returns
+/// `None` if there is none.
+fn word_in(found: &Attributes<'_>, kind: Option<u16>, place: usize) -> Option<u32>
+    requires { place ≤ 8 }
+    ensures { result ≡ u32_in_first kind place (collected found.now) }
+{
+    match kind {
+        Some(kind) => read_word(found.first_of(kind), place),
+        None => None,
+    }
+}
+
+/// Returns the little-endian `u32` at an offset of the value of an attribute. Returns `None` if
+/// there is no attribute, or if its value is too short.
+fn read_word(attribute: Option<NlaBuffer<'_>>, place: usize) -> Option<u32>
+    requires { place ≤ 8 }
+    ensures { result ≡ u32_in_attribute place (option_map buffered_attribute attribute.entry) }
+{
+    match attribute {
+        Some(nla) if nla.value().len() >= place + 4 => {
+            Some(LittleEndian::read_u32(&nla.value()[place..]))
+        }
+        _ => None,
+    }
+}
+
+/// Returns `None` if the number is `none`, or else the number.
+fn unless(none: u32, number: u32) -> Option<u32>
+    ensures { result ≡ none_if_equal none number }
+{
+    if number == none { None } else { Some(number) }
+}
+
+/// Returns the interface number: the `u32` at offset 0 of the first valid attribute of a kind.
+/// Returns `None` if there is none, or if it is 0.
+fn interface_in(found: &Attributes<'_>, kind: u16) -> Option<u32>
+    ensures { result ≡ interface_number kind (collected found.now) }
+{
+    unless(0, word_in(found, Some(kind), 0)?)
+}
+
+impl Listed for NetlinkResponseHeader {
+    ghost listed_family = { Netlink };
+
+    ghost listed = { netlink_socket };
+
+    fn family() -> Family {
+        Family::Netlink
+    }
+
+    fn socket(&self, _found: &Attributes<'_>) -> OtherSocket {
+        let peer = if self.state == NETLINK_CONNECTED {
+            Some((Some(self.destination_group), Some(self.destination_port)))
+        } else {
+            None
+        };
+        OtherSocket {
+            family: Family::Netlink,
+            kind: self.kind,
+            state: TCP_CLOSE,
+            inode: self.inode,
+            cookie: self.cookie,
+            local: (Some(self.protocol.into()), Some(self.port)),
+            peer,
+        }
+    }
+}
+
+impl Listed for PacketResponseHeader {
+    ghost listed_family = { Packet };
+
+    ghost listed = { packet_socket };
+
+    fn family() -> Family {
+        Family::Packet
+    }
+
+    fn socket(&self, found: &Attributes<'_>) -> OtherSocket {
+        let interface = interface_in(found, PACKET_DIAG_INFO);
+        OtherSocket {
+            family: Family::Packet,
+            kind: self.kind,
+            state: TCP_CLOSE,
+            inode: self.inode,
+            cookie: self.cookie,
+            local: (Some(self.protocol.into()), interface),
+            peer: None,
+        }
+    }
+}
+
+impl Listed for VsockResponseHeader {
+    ghost listed_family = { Vsock };
+
+    ghost listed = { vsock_socket };
+
+    fn family() -> Family {
+        Family::Vsock
+    }
+
+    fn socket(&self, _found: &Attributes<'_>) -> OtherSocket {
+        let peer = (
+            unless(ANY, self.destination_context),
+            unless(ANY, self.destination_port),
+        );
+        OtherSocket {
+            family: Family::Vsock,
+            kind: self.kind,
+            state: self.state,
+            inode: self.inode,
+            cookie: self.cookie,
+            local: (
+                unless(ANY, self.source_context),
+                unless(ANY, self.source_port),
+            ),
+            peer: Some(peer),
+        }
+    }
+}
+
+impl Listed for XdpResponseHeader {
+    ghost listed_family = { Xdp };
+
+    ghost listed = { xdp_socket };
+
+    fn family() -> Family {
+        Family::Xdp
+    }
+
+    fn socket(&self, found: &Attributes<'_>) -> OtherSocket {
+        let interface = interface_in(found, XDP_DIAG_INFO);
+        OtherSocket {
+            family: Family::Xdp,
+            kind: self.kind,
+            state: TCP_CLOSE,
+            inode: self.inode,
+            cookie: self.cookie,
+            local: (interface, word_in(found, Some(XDP_DIAG_INFO), 4)),
+            peer: None,
+        }
+    }
+}

@@ -1,0 +1,373 @@
+//! The facts of a TCP or MPTCP connection: the fields of `struct tcp_info` or `struct mptcp_info`,
+//! as far as a value contains them.
+
+ghost use Rattle.std.specs.Prelude.{◌≡◌, ◌++◌, OnOk, flat_map, map, option_map};
+ghost use Rattle.sslist_lister.specs.Facts.{Shows};
+ghost use Rattle.sslist_lister.specs.Tcp.{bits_of, bytes_at, field_facts, field_in};
+ghost use Rattle.sslist_lister.specs.Tcp.{has_scales, mptcp_info, mptcp_rows, number_in};
+ghost use Rattle.sslist_lister.specs.Tcp.{row_facts, tcp_fields, tcp_info, tcp_metric_rows};
+ghost use Rattle.sslist_lister.specs.Tcp.{tcp_rate_rows, tcp_state_rows};
+
+use crate::facts::{FactSink, Shown};
+use byteorder::{ByteOrder, LittleEndian};
+use sock_diag_extras::constants::{MPTCP_INFO_FLAG_FALLBACK, MPTCP_INFO_FLAG_REMOTE_KEY_RECEIVED};
+use sock_diag_records::constants::{
+    TCPI_OPT_ECN, TCPI_OPT_ECN_SEEN, TCPI_OPT_SACK, TCPI_OPT_SYN_DATA, TCPI_OPT_TIMESTAMPS,
+    TCPI_OPT_WSCALE,
+};
+use std::alloc::AllocError;
+
+/// The number of a row: a little-endian number at an offset, or some of its bits.
+#[derive(Clone, Copy)]
+pub(crate) enum FieldPart {
+    /// A byte.
+    Byte,
+    /// A number of two bytes.
+    Two,
+    /// A number of four bytes.
+    Four,
+    /// A number of eight bytes.
+    Eight,
+    /// A byte, if window scaling is negotiated.
+    Negotiated,
+    /// Bits 0 to 3 of a byte.
+    LowFour,
+    /// Bits 4 to 7 of a byte.
+    HighFour,
+    /// Bit 0 of a byte.
+    FirstBit,
+    /// Bits 1 and 2 of a byte.
+    NextTwo,
+}
+
+/// A row: the offset of a field in bytes, the number there, how the table shows it, its text there,
+/// and its name in JSON.
+type FieldRow = (usize, FieldPart, Shown, &'static [u8], Option<&'static str>);
+
+/// A row.
+macro_rules! row {
+    ($offset:literal, $part:ident, $format:expr, $text:literal, $member:expr) => {
+        ($offset, FieldPart::$part, $format, $text, $member)
+    };
+}
+
+/// A field that the table shows if it is neither 0 nor unlimited.
+macro_rules! shown {
+    ($offset:literal, $part:ident, $text:literal, $member:literal) => {
+        row!($offset, $part, Shown::Nonzero, $text, Some($member))
+    };
+}
+
+/// A number that the table does not show.
+macro_rules! hidden {
+    ($offset:literal, $part:ident, $member:literal) => {
+        row!($offset, $part, Shown::Never, b"", Some($member))
+    };
+}
+
+/// A number that the table shows in hexadecimal digits, if it is not 0.
+macro_rules! hexadecimal {
+    ($offset:literal, $part:ident, $text:literal, $member:literal) => {
+        row!($offset, $part, Shown::NonzeroHex, $text, Some($member))
+    };
+}
+
+/// A bit of a field of flags at an offset, which the table shows if it is set.
+macro_rules! flag {
+    ($offset:literal, $part:ident, $bit:ident, $text:literal) => {
+        row!($offset, $part, Shown::Bits($bit as u64), $text, None)
+    };
+}
+
+/// Offset of `tcpi_options` in bytes.
+const OPTIONS: usize = 5;
+
+/// The facts of the first eight bytes of `struct tcp_info`: the state, the options and the window
+/// scales.
+static TCP_STATE_ROWS: [FieldRow; 16] = [
+    hidden!(0, Byte, "state"),
+    hidden!(1, Byte, "ca_state"),
+    hidden!(2, Byte, "retransmits"),
+    hidden!(3, Byte, "probes"),
+    shown!(4, Byte, b" backoff:", "backoff"),
+    hidden!(5, Byte, "options"),
+    flag!(5, Byte, TCPI_OPT_TIMESTAMPS, b" ts"),
+    flag!(5, Byte, TCPI_OPT_SACK, b" sack"),
+    flag!(5, Byte, TCPI_OPT_ECN, b" ecn"),
+    flag!(5, Byte, TCPI_OPT_ECN_SEEN, b" ecnseen"),
+    flag!(5, Byte, TCPI_OPT_SYN_DATA, b" fastopen"),
+    hidden!(6, LowFour, "snd_wscale"),
+    hidden!(6, HighFour, "rcv_wscale"),
+    row!(6, Negotiated, Shown::Halves, b" wscale:(", None),
+    row!(
+        7,
+        FirstBit,
+        Shown::Bits(1),
+        b" app_limited",
+        Some("delivery_rate_app_limited")
+    ),
+    hidden!(7, NextTwo, "fastopen_client_fail"),
+];
+
+/// The facts of the times and metrics in `struct tcp_info`, up to `tcpi_total_retrans`.
+static TCP_METRIC_ROWS: [FieldRow; 24] = [
+    shown!(8, Four, b" rto:", "rto"),
+    shown!(12, Four, b" ato:", "ato"),
+    shown!(16, Four, b" mss:", "snd_mss"),
+    shown!(20, Four, b" rcvmss:", "rcv_mss"),
+    shown!(24, Four, b" unacked:", "unacked"),
+    shown!(28, Four, b" sacked:", "sacked"),
+    shown!(32, Four, b" lost:", "lost"),
+    shown!(36, Four, b" retrans_now:", "retrans"),
+    hidden!(40, Four, "fackets"),
+    shown!(44, Four, b" lastsnd:", "last_data_sent"),
+    hidden!(48, Four, "last_ack_sent"),
+    shown!(52, Four, b" lastrcv:", "last_data_recv"),
+    shown!(56, Four, b" lastack:", "last_ack_recv"),
+    shown!(60, Four, b" pmtu:", "pmtu"),
+    shown!(64, Four, b" rcv_ssthresh:", "rcv_ssthresh"),
+    shown!(68, Four, b" rtt:", "rtt"),
+    shown!(72, Four, b" rttvar:", "rttvar"),
+    row!(
+        76,
+        Four,
+        Shown::Threshold,
+        b" ssthresh:",
+        Some("snd_ssthresh")
+    ),
+    shown!(80, Four, b" cwnd:", "snd_cwnd"),
+    shown!(84, Four, b" advmss:", "advmss"),
+    shown!(88, Four, b" reordering:", "reordering"),
+    shown!(92, Four, b" rcv_rtt:", "rcv_rtt"),
+    shown!(96, Four, b" rcv_space:", "rcv_space"),
+    shown!(100, Four, b" retrans:", "total_retrans"),
+];
+
+/// The facts of the rates and counters in `struct tcp_info`, from `tcpi_pacing_rate` on.
+static TCP_RATE_ROWS: [FieldRow; 36] = [
+    shown!(104, Eight, b" pacing_rate:", "pacing_rate"),
+    shown!(112, Eight, b" max_pacing_rate:", "max_pacing_rate"),
+    shown!(120, Eight, b" bytes_acked:", "bytes_acked"),
+    shown!(128, Eight, b" received:", "bytes_received"),
+    shown!(136, Four, b" segs_out:", "segs_out"),
+    shown!(140, Four, b" segs_in:", "segs_in"),
+    shown!(144, Four, b" notsent:", "notsent_bytes"),
+    shown!(148, Four, b" minrtt:", "min_rtt"),
+    shown!(152, Four, b" data_segs_in:", "data_segs_in"),
+    shown!(156, Four, b" data_segs_out:", "data_segs_out"),
+    shown!(160, Eight, b" delivery_rate:", "delivery_rate"),
+    shown!(168, Eight, b" busy:", "busy_time"),
+    shown!(176, Eight, b" rwnd_limited:", "rwnd_limited"),
+    shown!(184, Eight, b" sndbuf_limited:", "sndbuf_limited"),
+    shown!(192, Four, b" delivered:", "delivered"),
+    shown!(196, Four, b" delivered_ce:", "delivered_ce"),
+    shown!(200, Eight, b" sent:", "bytes_sent"),
+    shown!(208, Eight, b" bytes_retrans:", "bytes_retrans"),
+    shown!(216, Four, b" dsack_dups:", "dsack_dups"),
+    shown!(220, Four, b" reord_seen:", "reord_seen"),
+    shown!(224, Four, b" rcv_ooopack:", "rcv_ooopack"),
+    shown!(228, Four, b" snd_wnd:", "snd_wnd"),
+    shown!(232, Four, b" rcv_wnd:", "rcv_wnd"),
+    shown!(236, Four, b" rehash:", "rehash"),
+    shown!(240, Two, b" total_rto:", "total_rto"),
+    shown!(242, Two, b" total_rto_recoveries:", "total_rto_recoveries"),
+    shown!(244, Four, b" total_rto_time:", "total_rto_time"),
+    shown!(248, Four, b" received_ce:", "received_ce"),
+    shown!(252, Four, b" delivered_e1_bytes:", "delivered_e1_bytes"),
+    shown!(256, Four, b" delivered_e0_bytes:", "delivered_e0_bytes"),
+    shown!(260, Four, b" delivered_ce_bytes:", "delivered_ce_bytes"),
+    shown!(264, Four, b" received_e1_bytes:", "received_e1_bytes"),
+    shown!(268, Four, b" received_e0_bytes:", "received_e0_bytes"),
+    shown!(272, Four, b" received_ce_bytes:", "received_ce_bytes"),
+    shown!(276, Two, b" accecn_fail_mode:", "accecn_fail_mode"),
+    shown!(278, Two, b" accecn_opt_seen:", "accecn_opt_seen"),
+];
+
+/// The facts of `struct mptcp_info`, in the order of its members.
+static MPTCP_ROWS: [FieldRow; 26] = [
+    shown!(0, Byte, b" subflows:", "subflows"),
+    shown!(1, Byte, b" add_addr_signal:", "add_addr_signal"),
+    shown!(2, Byte, b" add_addr_accepted:", "add_addr_accepted"),
+    shown!(3, Byte, b" subflows_max:", "subflows_max"),
+    shown!(4, Byte, b" add_addr_signal_max:", "add_addr_signal_max"),
+    shown!(5, Byte, b" add_addr_accepted_max:", "add_addr_accepted_max"),
+    hidden!(8, Four, "flags"),
+    flag!(8, Four, MPTCP_INFO_FLAG_FALLBACK, b" fallback"),
+    flag!(8, Four, MPTCP_INFO_FLAG_REMOTE_KEY_RECEIVED, b" remote_key"),
+    hexadecimal!(12, Four, b" token:", "token"),
+    hexadecimal!(16, Eight, b" write_seq:", "write_seq"),
+    hexadecimal!(24, Eight, b" snd_una:", "snd_una"),
+    hexadecimal!(32, Eight, b" rcv_nxt:", "rcv_nxt"),
+    shown!(40, Byte, b" local_addr_used:", "local_addr_used"),
+    shown!(41, Byte, b" local_addr_max:", "local_addr_max"),
+    shown!(42, Byte, b" csum_enabled:", "csum_enabled"),
+    shown!(44, Four, b" retransmits:", "retransmits"),
+    shown!(48, Eight, b" bytes_retrans:", "bytes_retrans"),
+    shown!(56, Eight, b" bytes_sent:", "bytes_sent"),
+    shown!(64, Eight, b" bytes_received:", "bytes_received"),
+    shown!(72, Eight, b" bytes_acked:", "bytes_acked"),
+    shown!(80, Byte, b" subflows_total:", "subflows_total"),
+    shown!(81, Byte, b" endp_laminar_max:", "endp_laminar_max"),
+    shown!(84, Four, b" last_data_sent:", "last_data_sent"),
+    shown!(88, Four, b" last_data_recv:", "last_data_recv"),
+    shown!(92, Four, b" last_ack_recv:", "last_ack_recv"),
+];
+
+/// Shows the fields of `struct tcp_info` that the bytes contain, as the group `info`.
+pub(crate) fn show_tcp_info<S: FactSink>(sink: &mut S, bytes: &[u8]) -> Result<(), AllocError>
+    ensures { Shows S.kept S.content S.items result sink.old sink.new (tcp_info bytes.now) }
+{
+    sink.begin(b"", "info")?;
+    show_tcp_fields(sink, bytes)?;
+    sink.end(b"")
+}
+
+/// Shows the fields of `struct tcp_info` that the bytes contain.
+fn show_tcp_fields<S: FactSink>(sink: &mut S, bytes: &[u8]) -> Result<(), AllocError>
+    ensures { Shows S.kept S.content S.items result sink.old sink.new (tcp_fields bytes.now) }
+{
+    show_fields(sink, bytes, tcp_state_rows())?;
+    show_fields(sink, bytes, tcp_metric_rows())?;
+    show_fields(sink, bytes, tcp_rate_rows())
+}
+
+/// Shows the fields of `struct mptcp_info` that the bytes contain, as the group `info`.
+pub(crate) fn show_mptcp_info<S: FactSink>(sink: &mut S, bytes: &[u8]) -> Result<(), AllocError>
+    ensures { Shows S.kept S.content S.items result sink.old sink.new (mptcp_info bytes.now) }
+{
+    sink.begin(b"", "info")?;
+    show_fields(sink, bytes, mptcp_rows())?;
+    sink.end(b"")
+}
+
+/// Returns the rows of the first eight bytes of `struct tcp_info`.
+#[tactic(auto, unfolding(crate::specs::Tcp::tcp_state_rows))]
+fn tcp_state_rows() -> &'static [FieldRow]
+    ensures { map (λ row. (row.0, row.1, row.2, row.3.now, option_map (λ m. m.now) row.4))
+        result.now ≡ tcp_state_rows }
+{
+    &TCP_STATE_ROWS
+}
+
+/// Returns the rows of the times and metrics in `struct tcp_info`.
+#[tactic(auto, unfolding(crate::specs::Tcp::tcp_metric_rows))]
+fn tcp_metric_rows() -> &'static [FieldRow]
+    ensures { map (λ row. (row.0, row.1, row.2, row.3.now, option_map (λ m. m.now) row.4))
+        result.now ≡ tcp_metric_rows }
+{
+    &TCP_METRIC_ROWS
+}
+
+/// Returns the rows of the rates and counters in `struct tcp_info`.
+#[tactic(auto, unfolding(crate::specs::Tcp::tcp_rate_rows))]
+fn tcp_rate_rows() -> &'static [FieldRow]
+    ensures { map (λ row. (row.0, row.1, row.2, row.3.now, option_map (λ m. m.now) row.4))
+        result.now ≡ tcp_rate_rows }
+{
+    &TCP_RATE_ROWS
+}
+
+/// Returns the rows of `struct mptcp_info`.
+#[tactic(auto, unfolding(crate::specs::Tcp::mptcp_rows))]
+fn mptcp_rows() -> &'static [FieldRow]
+    ensures { map (λ row. (row.0, row.1, row.2, row.3.now, option_map (λ m. m.now) row.4))
+        result.now ≡ mptcp_rows }
+{
+    &MPTCP_ROWS
+}
+
+/// Shows the facts of these rows, in the order of the rows.
+fn show_fields<S: FactSink>(sink: &mut S, bytes: &[u8], rows: &[FieldRow]) -> Result<(), AllocError>
+    ensures { Shows S.kept S.content S.items result sink.old sink.new (field_facts bytes.now
+        (map (λ row. (row.0, row.1, row.2, row.3.now, option_map (λ m. m.now) row.4)) rows.now)) }
+{
+    show_rows(sink, bytes, rows)
+}
+
+/// Shows the facts of these rows.
+#[tactic(auto, unfolding(crate::specs::Tcp::row_facts))]
+fn show_rows<S: FactSink>(sink: &mut S, bytes: &[u8], rows: &[FieldRow]) -> Result<(), AllocError>
+    ensures { OnOk result ((S.kept sink.new ≡ S.kept sink.old)
+        × (S.content sink.new ≡ S.content sink.old ++ flat_map (λ row. S.items (row_facts bytes.now
+        (row.0, row.1, row.2, row.3.now, option_map (λ m. m.now) row.4))) rows.now)) }
+{
+    for &(offset, part, format, text, member) in rows {
+        if let Some(number) = number_in(bytes, offset, part) {
+            sink.number(format, text, member, number)?;
+        }
+    }
+    Ok(())
+}
+
+/// Returns the number of a row. Returns `None` if the value ends before its end, or if it does not
+/// apply to the connection.
+#[inline(always)]
+fn number_in(value: &[u8], offset: usize, part: FieldPart) -> Option<u64>
+    ensures { result ≡ number_in part offset value.now }
+{
+    match part {
+        FieldPart::Four => {
+            let bytes = bytes_at(value, offset, 4)?;
+            Some(LittleEndian::read_u32(bytes).into())
+        }
+        FieldPart::Eight => {
+            let bytes = bytes_at(value, offset, 8)?;
+            Some(LittleEndian::read_u64(bytes))
+        }
+        FieldPart::Two => {
+            let bytes = bytes_at(value, offset, 2)?;
+            Some(LittleEndian::read_u16(bytes).into())
+        }
+        FieldPart::Negotiated if !has_scales(byte_at(value, OPTIONS)) => None,
+        FieldPart::Byte
+        | FieldPart::Negotiated
+        | FieldPart::LowFour
+        | FieldPart::HighFour
+        | FieldPart::FirstBit
+        | FieldPart::NextTwo => Some(bits_of(byte_at(value, offset)?, part)),
+    }
+}
+
+/// Returns the bytes from an offset on. Returns `None` if there are fewer than `width`.
+#[inline(always)]
+fn bytes_at<'a>(value: &'a [u8], offset: usize, width: usize) -> Option<&'a [u8]>
+    ensures { option_map (λ rest. rest.now) result ≡ bytes_at width offset value.entry.now }
+{
+    match value.get(offset..) {
+        Some(rest) if rest.len() >= width => Some(rest),
+        _ => None,
+    }
+}
+
+/// Returns the byte at an offset. Returns `None` if the value ends before it.
+#[inline(always)]
+fn byte_at(value: &[u8], offset: usize) -> Option<u64>
+    ensures { result ≡ field_in 1 offset value.now }
+{
+    let bytes = bytes_at(value, offset, 1)?;
+    Some(LittleEndian::read_uint(bytes, 1))
+}
+
+/// Returns whether window scaling is negotiated, by `tcpi_options`.
+fn has_scales(options: Option<u64>) -> bool
+    ensures { result ≡ has_scales options }
+{
+    match options {
+        Some(options) => options & TCPI_OPT_WSCALE as u64 != 0,
+        None => false,
+    }
+}
+
+/// Returns the bits of a byte that a row is about.
+#[inline(always)]
+fn bits_of(byte: u64, part: FieldPart) -> u64
+    ensures { result ≡ bits_of part byte }
+{
+    match part {
+        FieldPart::LowFour => byte % 16,
+        FieldPart::HighFour => byte / 16,
+        FieldPart::FirstBit => byte % 2,
+        FieldPart::NextTwo => byte / 2 % 4,
+        _ => byte,
+    }
+}

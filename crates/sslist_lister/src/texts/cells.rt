@@ -1,0 +1,226 @@
+//! Cells of a line. A function of this module allocates only to grow the text. If it fails, the
+//! content of the text is not specified.
+
+ghost use Rattle.sslist_lister.specs.texts.Cells.{state_name};
+ghost use Rattle.std.specs.Prelude.{◌≡◌, ◌++◌, ◌∷◌, [], ◌-◌, ◌≤◌, decimal, false, replicate};
+ghost use Rattle.std.specs.Prelude.{vec_len, OnOk};
+ghost use Rattle.std.specs.Fmt.{digits};
+ghost use Rattle.sslist_lister.specs.texts.Cells.{column, endpoint, first_columns};
+ghost use Rattle.sslist_lister.specs.texts.Cells.{bracketed_address};
+ghost use Rattle.sslist_lister.specs.texts.Cells.{number_cell, number_or_star, port_text};
+ghost use Rattle.sslist_lister.specs.texts.CellsModel.{cells_model};
+ghost use Rattle.sslist_lister.specs.texts.Escapes.{byte_digits, escaped_byte};
+
+use itoa::Buffer;
+use std::alloc::AllocError;
+use std::io::Write;
+use std::net::IpAddr;
+
+/// Returns the name of a socket state, as ss(8) prints it: `UNKNOWN` for 0 and from 12 on.
+pub(crate) fn name_of_state(state: u8) -> &'static str
+    ensures { result.now ≡ state_name state }
+{
+    match state {
+        1 => "ESTAB",
+        2 => "SYN-SENT",
+        3 => "SYN-RECV",
+        4 => "FIN-WAIT-1",
+        5 => "FIN-WAIT-2",
+        6 => "TIME-WAIT",
+        7 => "UNCONN",
+        8 => "CLOSE-WAIT",
+        9 => "LAST-ACK",
+        10 => "LISTEN",
+        11 => "CLOSING",
+        _ => "UNKNOWN",
+    }
+}
+
+/// Appends a number in decimal.
+pub(crate) fn push_number(text: &mut Vec<u8>, number: u64) -> Result<(), AllocError>
+    ensures { OnOk result (text.new.items ≡ text.old.items ++ decimal number) }
+{
+    let mut buffer = Buffer::new();
+    text.extend_from_slice(buffer.format(number).as_bytes())
+}
+
+/// Appends a number in lowercase hexadecimal digits, without leading zeros.
+pub(crate) fn push_hex(text: &mut Vec<u8>, number: u64) -> Result<(), AllocError>
+    ensures { OnOk result (text.new.items ≡ text.old.items ++ digits 16 false number) }
+{
+    match write!(text, "{number:x}") {
+        Ok(()) => Ok(()),
+        Err(_) => Err(AllocError),
+    }
+}
+
+/// Ends the column that begins at the offset `start`: appends spaces until it has `width` bytes,
+/// and one more space. A longer column is not cut. `start` must be at most the length of the text.
+pub(crate) fn end_column(text: &mut Vec<u8>, start: usize, width: usize) -> Result<(), AllocError>
+    requires { start ≤ vec_len text.old }
+    ensures { OnOk result (text.new.items
+        ≡ text.old.items ++ replicate (width - (vec_len text.old - start)) 32 ++ 32 ∷ []) }
+{
+    let Some(end) = start.checked_add(width) else {
+        return Err(AllocError);
+    };
+    text.resize(end.max(text.len()), b' ')?;
+    Ok(text.push(b' ')?)
+}
+
+/// Appends a column: a text, spaces until it has `width` bytes, and one more space. A longer text
+/// is not cut.
+pub(crate) fn push_column(
+    text: &mut Vec<u8>,
+    width: usize,
+    content: &[u8],
+) -> Result<(), AllocError>
+    ensures { OnOk result (text.new.items ≡ text.old.items ++ column width content.now) }
+{
+    let start = text.len();
+    text.extend_from_slice(content)?;
+    end_column(text, start, width)
+}
+
+/// Appends a column, padded to `width` bytes as by [`push_column`], with a number in decimal, or
+/// with `-` for `None`.
+pub(crate) fn push_number_column(
+    text: &mut Vec<u8>,
+    width: usize,
+    number: Option<u32>,
+) -> Result<(), AllocError>
+    ensures { OnOk result (text.new.items ≡ text.old.items ++ column width (number_cell number)) }
+{
+    let Some(number) = number else {
+        return push_column(text, width, b"-");
+    };
+    let start = text.len();
+    push_number(text, number.into())?;
+    end_column(text, start, width)
+}
+
+/// The content of the first columns of a line.
+#[derive(Clone, Copy)]
+pub struct Cells {
+    /// Kind of the socket, the column Netid.
+    pub kind: &'static [u8],
+    /// State of the socket, as the kernel numbers it.
+    pub state: u8,
+    /// Content of the column Recv-Q. `None` if the reply does not contain it.
+    pub receive_queue: Option<u32>,
+    /// Content of the column Send-Q. `None` if the reply does not contain it.
+    pub send_queue: Option<u32>,
+    /// Inode of the socket.
+    pub inode: u32,
+    /// User id. `None` if the reply does not contain it.
+    pub uid: Option<u32>,
+}
+
+/// Appends the columns before the two addresses, each padded with spaces to its width and followed
+/// by one more space; longer content is not truncated. Netid (width 5); State (10), its name as in
+/// ss(8); Recv-Q (6), Send-Q (6), Inode (10) and Uid (5), in decimal, or `-` for `None`.
+pub(crate) fn push_first_columns(text: &mut Vec<u8>, cells: &Cells) -> Result<(), AllocError>
+    ensures { OnOk result (text.new.items ≡ text.old.items
+        ++ first_columns (cells_model cells.now)) }
+{
+    push_column(text, 5, cells.kind)?;
+    push_column(text, 10, name_of_state(cells.state).as_bytes())?;
+    push_number_column(text, 6, cells.receive_queue)?;
+    push_number_column(text, 6, cells.send_queue)?;
+    push_number_column(text, 10, Some(cells.inode))?;
+    push_number_column(text, 5, cells.uid)
+}
+
+/// Appends a byte unchanged if it is from `!` to `~` and not a backslash. Otherwise appends `\x`
+/// and its two hexadecimal digits.
+pub(crate) fn push_escaped_byte(text: &mut Vec<u8>, byte: u8) -> Result<(), AllocError>
+    ensures { OnOk result (text.new.items ≡ text.old.items ++ escaped_byte byte) }
+{
+    if (b'!'..=b'~').contains(&byte) && byte != b'\\' {
+        return Ok(text.push(byte)?);
+    }
+    push_digits(text, byte)
+}
+
+/// Appends `\x` and the two hexadecimal digits of a byte.
+pub(crate) fn push_digits(text: &mut Vec<u8>, byte: u8) -> Result<(), AllocError>
+    ensures { OnOk result (text.new.items ≡ text.old.items ++ byte_digits byte) }
+{
+    let mut digits = [0u8; 2];
+    if hex::encode_to_slice(&[byte], &mut digits).is_err() {
+        unreachable!();
+    }
+    text.extend_from_slice(b"\\x")?;
+    text.extend_from_slice(&digits)
+}
+
+/// Appends a number, such as the inode of a UNIX socket's peer, or `*` for `None`.
+pub(crate) fn push_number_or_star(text: &mut Vec<u8>, number: Option<u32>) -> Result<(), AllocError>
+    ensures { OnOk result (text.new.items ≡ text.old.items ++ number_or_star number) }
+{
+    match number {
+        Some(number) => push_number(text, number.into()),
+        None => Ok(text.push(b'*')?),
+    }
+}
+
+/// Appends a column, padded to `width` bytes as by [`push_column`], with an address and a port, as
+/// [`push_endpoint`] writes them.
+pub(crate) fn push_endpoint_column(
+    text: &mut Vec<u8>,
+    width: usize,
+    address: IpAddr,
+    interface: u32,
+    port: u16,
+) -> Result<(), AllocError>
+    ensures { OnOk result (text.new.items ≡ text.old.items
+        ++ column width (endpoint address interface port)) }
+{
+    let start = text.len();
+    push_endpoint(text, address, interface, port)?;
+    end_column(text, start, width)
+}
+
+/// Appends an address, then `%` and the interface number if it is not 0, then `:` and the port, or
+/// `*` if the port is 0. An IPv6 address is in brackets and in its short form (RFC 5952).
+pub(crate) fn push_endpoint(
+    text: &mut Vec<u8>,
+    address: IpAddr,
+    interface: u32,
+    port: u16,
+) -> Result<(), AllocError>
+    ensures { OnOk result (text.new.items ≡ text.old.items ++ endpoint address interface port) }
+{
+    push_host(text, address)?;
+    if interface != 0 {
+        text.push(b'%')?;
+        push_number(text, interface.into())?;
+    }
+    text.push(b':')?;
+    push_port(text, port)
+}
+
+/// Appends an address, in brackets if it is an IPv6 address.
+fn push_host(text: &mut Vec<u8>, address: IpAddr) -> Result<(), AllocError>
+    ensures { OnOk result (text.new.items ≡ text.old.items ++ bracketed_address address) }
+{
+    let written = match address {
+        IpAddr::V4(_) => write!(text, "{address}"),
+        IpAddr::V6(_) => write!(text, "[{address}]"),
+    };
+    match written {
+        Ok(()) => Ok(()),
+        Err(_) => Err(AllocError),
+    }
+}
+
+/// Appends a port, or `*` for 0.
+fn push_port(text: &mut Vec<u8>, port: u16) -> Result<(), AllocError>
+    ensures { OnOk result (text.new.items ≡ text.old.items ++ port_text port) }
+{
+    if port == 0 {
+        Ok(text.push(b'*')?)
+    } else {
+        push_number(text, port.into())
+    }
+}

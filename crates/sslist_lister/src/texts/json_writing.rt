@@ -1,0 +1,149 @@
+//! Members of JSON objects. A function of this module appends to a writer. If it fails, an
+//! allocation failed, and the content of the writer is not specified.
+
+ghost use Rattle.std.specs.Prelude.{◌≡◌, ◌∷◌, [], ◌++◌, OnOk, map, false, codes, decimal, flat_map};
+ghost use Rattle.std.specs.Fmt.{digits};
+ghost use Rattle.std.specs.Net.Text.{ip_text};
+ghost use Rattle.json.specs.Token.{begin_array, begin_object, end_array, end_object, key, number};
+ghost use Rattle.sslist_lister.specs.texts.JsonData.{address_member, bytes_member, cookie_member};
+ghost use Rattle.sslist_lister.specs.texts.JsonData.{flag_member, hex_member};
+ghost use Rattle.sslist_lister.specs.texts.JsonData.{number_members};
+ghost use Rattle.sslist_lister.specs.texts.JsonData.{numbers_member, object_member};
+ghost use Rattle.sslist_lister.specs.texts.JsonData.{optional_member, text_member};
+ghost use Rattle.sslist_lister.specs.texts.JsonWriting.{AddsMembers, AddsTokens, KeepsText};
+
+use byteorder::{ByteOrder, LittleEndian};
+use json::Writer;
+use std::alloc::{AllocError, Global};
+use std::net::IpAddr;
+
+/// Writes the name of a member whose value is an object, and begins the object.
+pub(crate) fn begin_member(writer: &mut Writer, name: &str) -> Result<(), AllocError>
+    ensures before { KeepsText result writer.old writer.new }
+    ensures tokens { AddsTokens result writer.old writer.new (key name.now ∷ begin_object ∷ []) }
+{
+    writer.key(name)?;
+    writer.begin_object()
+}
+
+/// Writes a member whose value is a string.
+#[tactic(auto, unfolding(crate::specs::texts::JsonData::text_member, crate::specs::texts::JsonWriting::members_tokens))]
+pub(crate) fn write_text(writer: &mut Writer, name: &str, text: &str) -> Result<(), AllocError>
+    ensures before { KeepsText result writer.old writer.new }
+    ensures members { AddsMembers result writer.old writer.new (text_member name.now text.now) }
+{
+    writer.key(name)?;
+    writer.string(text)
+}
+
+/// Writes members whose values are numbers: a name and a number for each row.
+pub(crate) fn write_numbers(writer: &mut Writer, rows: &[(&str, u64)]) -> Result<(), AllocError>
+    ensures before { KeepsText result writer.old writer.new }
+    ensures members { AddsMembers result writer.old writer.new
+        (number_members (map (λ row. (row.0.now, row.1)) rows.now)) }
+{
+    write_rows(writer, rows)
+}
+
+/// Writes the tokens of each row: a name and a number.
+fn write_rows(writer: &mut Writer, rows: &[(&str, u64)]) -> Result<(), AllocError>
+    ensures before { KeepsText result writer.old writer.new }
+    ensures tokens { AddsTokens result writer.old writer.new
+        (flat_map (λ row. key row.0.now ∷ number (decimal row.1) ∷ []) rows.now) }
+{
+    for &(name, value) in rows {
+        writer.key(name)?;
+        writer.u64(value)?;
+    }
+    Ok(())
+}
+
+/// Writes a member whose value is a number. Writes nothing for `None`.
+#[tactic(auto, unfolding(crate::specs::texts::JsonData::optional_member, crate::specs::texts::JsonWriting::members_tokens))]
+pub(crate) fn write_optional(
+    writer: &mut Writer,
+    name: &str,
+    value: Option<u64>,
+) -> Result<(), AllocError>
+    ensures before { KeepsText result writer.old writer.new }
+    ensures members { AddsMembers result writer.old writer.new (optional_member name.now value) }
+{
+    let Some(value) = value else {
+        return Ok(());
+    };
+    writer.key(name)?;
+    writer.u64(value)
+}
+
+/// Writes a member whose value is `true` or `false`.
+#[tactic(auto, unfolding(crate::specs::texts::JsonData::flag_member, crate::specs::texts::JsonWriting::members_tokens))]
+pub(crate) fn write_flag(writer: &mut Writer, name: &str, flag: bool) -> Result<(), AllocError>
+    ensures before { KeepsText result writer.old writer.new }
+    ensures members { AddsMembers result writer.old writer.new (flag_member name.now flag) }
+{
+    writer.key(name)?;
+    writer.boolean(flag)
+}
+
+/// Writes a member whose value is a string: a number in lowercase hexadecimal digits.
+pub(crate) fn write_hex(
+    alloc: Global,
+    writer: &mut Writer,
+    name: &str,
+    value: u64,
+) -> Result<(), AllocError>
+    ensures before { KeepsText result writer.old writer.new }
+    ensures members { AddsMembers result writer.old writer.new (hex_member name.now value) }
+{
+    let text = format!(in alloc; "{value:x}")?;
+    write_text(writer, name, text.as_str())
+}
+
+/// Writes the member `cookie`.
+pub(crate) fn write_cookie(
+    alloc: Global,
+    writer: &mut Writer,
+    cookie: &[u8; 8],
+) -> Result<(), AllocError>
+    ensures before { KeepsText result writer.old writer.new }
+    ensures members { AddsMembers result writer.old writer.new (cookie_member cookie.now) }
+{
+    write_hex(alloc, writer, "cookie", LittleEndian::read_u64(cookie))
+}
+
+/// Writes a member whose value is the text of an IP address.
+pub(crate) fn write_address(
+    alloc: Global,
+    writer: &mut Writer,
+    name: &str,
+    address: IpAddr,
+) -> Result<(), AllocError>
+    ensures before { KeepsText result writer.old writer.new }
+    ensures members { AddsMembers result writer.old writer.new (address_member name.now address) }
+{
+    let text = format!(in alloc; "{address}")?;
+    write_text(writer, name, text.as_str())
+}
+
+/// Writes bytes that the owner of a socket chose: under `name` if they are valid UTF-8, or else
+/// their hexadecimal digits under `hex_name`.
+#[tactic(auto, using(crate::proofs::JsonWriting::utf8_member, crate::proofs::JsonWriting::other_member))]
+pub(crate) fn write_bytes(
+    alloc: Global,
+    writer: &mut Writer,
+    name: &str,
+    hex_name: &str,
+    bytes: &[u8],
+) -> Result<(), AllocError>
+    ensures before { KeepsText result writer.old writer.new }
+    ensures members { AddsMembers result writer.old writer.new
+        (bytes_member name.now hex_name.now bytes.now) }
+{
+    match str::from_utf8(bytes) {
+        Ok(text) => write_text(writer, name, text),
+        Err(_) => {
+            let digits = hex::encode(alloc, bytes)?;
+            write_text(writer, hex_name, digits.as_str())
+        }
+    }
+}

@@ -1,0 +1,160 @@
+//! Details of a line, each after a space. A function of this module allocates only to grow the
+//! text. If it fails, an allocation failed, and the content of the text is not specified.
+
+ghost use Rattle.std.specs.Prelude.{◌≡◌, ◌++◌, OnOk};
+ghost use Rattle.sslist_lister.specs.texts.Parts.{cookie_if_shown, directions, hex_detail};
+ghost use Rattle.sslist_lister.specs.texts.Parts.{pair_detail, separator, timer_if_shown};
+ghost use Rattle.sslist_lister.specs.texts.Parts.{timer_name, timer_text};
+
+use crate::command_line::{Detail, Options};
+use crate::texts::cells::{push_hex, push_number};
+use byteorder::{ByteOrder, LittleEndian};
+use std::alloc::AllocError;
+
+/// `RCV_SHUTDOWN`, the bit of a shutdown state for receiving.
+const SHUT_RECEIVING: u64 = 1;
+
+/// `SEND_SHUTDOWN`, the bit of a shutdown state for sending.
+const SHUT_SENDING: u64 = 2;
+
+/// The timer fields of `inet_diag_msg`, the header of a reply about an IPv4 or IPv6 socket.
+#[derive(Clone, Copy, PartialEq, Eq)]
+pub(crate) struct TimerFields {
+    /// Kind of the timer (`idiag_timer`). 0 if no timer runs.
+    pub class: u8,
+    /// Number of retransmits (`idiag_retrans`).
+    pub retransmits: u8,
+    /// Time until the timer expires (`idiag_expires`), in milliseconds.
+    pub expires: u32,
+}
+
+/// The fields of a socket without a timer.
+pub(crate) const NO_TIMER: TimerFields = TimerFields {
+    class: 0,
+    retransmits: 0,
+    expires: 0,
+};
+
+/// Returns what separates the columns from the details: nothing with `-O`, or else a line feed and
+/// a tab.
+pub(crate) fn separator(options: Options) -> &'static [u8]
+    ensures { result.now ≡ separator options }
+{
+    if options.one_line { b"" } else { b"\n\t" }
+}
+
+/// Appends the timer if one runs and the group of details `Timer` is shown: a space and
+/// `timer:(on,200ms,3)`, for a timer of the kind `on`, 200 milliseconds until it expires and 3
+/// retransmits.
+pub(crate) fn push_shown_timer(
+    text: &mut Vec<u8>,
+    options: Options,
+    timer: &TimerFields,
+) -> Result<(), AllocError>
+    ensures { OnOk result (text.new.items ≡ text.old.items ++ timer_if_shown options timer.now) }
+{
+    if !options.shows(Detail::Timer) {
+        return Ok(());
+    }
+    push_timer(text, timer)
+}
+
+/// Appends the kind of the timer, the time until it expires, and the number of retransmits. Appends
+/// nothing if no timer runs.
+fn push_timer(text: &mut Vec<u8>, timer: &TimerFields) -> Result<(), AllocError>
+    ensures { OnOk result (text.new.items ≡ text.old.items ++ timer_text timer.now) }
+{
+    if timer.class == 0 {
+        return Ok(());
+    }
+    text.extend_from_slice(b" timer:(")?;
+    text.extend_from_slice(name_of_timer(timer.class))?;
+    text.push(b',')?;
+    push_number(text, timer.expires.into())?;
+    text.extend_from_slice(b"ms,")?;
+    push_number(text, timer.retransmits.into())?;
+    Ok(text.push(b')')?)
+}
+
+/// Returns the name of a kind of timer, as ss(8) prints it.
+fn name_of_timer(class: u8) -> &'static [u8]
+    ensures { result.now ≡ timer_name class }
+{
+    match class {
+        1 => b"on",
+        2 => b"keepalive",
+        3 => b"timewait",
+        4 => b"persist",
+        _ => b"unknown",
+    }
+}
+
+/// Appends ` sk:` and the cookie, as a little-endian number in hexadecimal digits, if the group of
+/// details `Extended` is shown.
+pub(crate) fn push_shown_cookie(
+    text: &mut Vec<u8>,
+    options: Options,
+    cookie: &[u8; 8],
+) -> Result<(), AllocError>
+    ensures { OnOk result (text.new.items ≡ text.old.items ++ cookie_if_shown options cookie.now) }
+{
+    if !options.shows(Detail::Extended) {
+        return Ok(());
+    }
+    text.extend_from_slice(b" sk:")?;
+    push_hex(text, LittleEndian::read_u64(cookie))
+}
+
+/// Appends a space and the directions that are not shut down, as ss(8) does: `<->` if none is shut
+/// down. `<` is `-` if `state` has the bit 1 (`RCV_SHUTDOWN`), and `>` is `-` if it has the bit 2
+/// (`SEND_SHUTDOWN`).
+pub(crate) fn push_directions(text: &mut Vec<u8>, state: u64) -> Result<(), AllocError>
+    ensures { OnOk result (text.new.items ≡ text.old.items ++ directions state) }
+{
+    text.push(b' ')?;
+    text.push(if state & SHUT_RECEIVING == 0 {
+        b'<'
+    } else {
+        b'-'
+    })?;
+    text.push(b'-')?;
+    Ok(text.push(if state & SHUT_SENDING == 0 {
+        b'>'
+    } else {
+        b'-'
+    })?)
+}
+
+/// Appends a space, a name, a colon and two numbers in decimal, in parentheses and separated by a
+/// comma: ` wscale:(7,9)`.
+pub(crate) fn push_pair(
+    text: &mut Vec<u8>,
+    word: &[u8],
+    first: u64,
+    second: u64,
+) -> Result<(), AllocError>
+    ensures { OnOk result (text.new.items ≡ text.old.items
+        ++ pair_detail word.now first second) }
+{
+    text.push(b' ')?;
+    text.extend_from_slice(word)?;
+    text.extend_from_slice(b":(")?;
+    push_number(text, first)?;
+    text.push(b',')?;
+    push_number(text, second)?;
+    Ok(text.push(b')')?)
+}
+
+/// Appends a space, a name, a colon, `0x` and a number in lowercase hexadecimal digits.
+pub(crate) fn push_hex_detail(
+    text: &mut Vec<u8>,
+    word: &[u8],
+    number: u64,
+) -> Result<(), AllocError>
+    ensures { OnOk result (text.new.items ≡ text.old.items ++ hex_detail word.now number) }
+{
+    text.push(b' ')?;
+    text.extend_from_slice(word)?;
+    text.extend_from_slice(b":0x")?;
+    push_hex(text, number)
+}

@@ -1,0 +1,345 @@
+//! The facts of the upper layer protocol of a TCP socket (`INET_DIAG_ULP_INFO`): its name, and what
+//! TLS and MPTCP report. A function of this module that appends to a sink may fail: then an
+//! allocation failed, and the content of the sink is not specified.
+
+ghost use Rattle.std.specs.Prelude.{◌≡◌, ◌≤◌, ◌++◌, [], OnOk, codes, flat_map, map, option_map};
+ghost use Rattle.netlink_core.specs.Errors.{map_ok};
+ghost use Rattle.sslist_lister.specs.Facts.{Decodes, Shows, facts_of_each, group};
+ghost use Rattle.sslist_lister.specs.UlpInfo.{nested_group, nested_number, nested_value};
+ghost use Rattle.sslist_lister.specs.UlpInfo.{presence_facts, tokens_in};
+ghost use Rattle.sslist_lister.specs.UlpInfo.{subflow_facts, subflow_rows, tls_facts};
+ghost use Rattle.sslist_lister.specs.UlpInfo.{tls_rows, token_facts, ulp_name, ulp_number};
+ghost use Rattle.sslist_lister.specs.UlpInfo.{ulp_outcome, ulp_parts, ulp_row};
+
+use crate::facts::{FactSink, NumberRow, Shown, Status, show_numbers};
+use crate::pieces::find_kind;
+use byteorder::{ByteOrder, LittleEndian};
+use netlink_core::{DecodeError, parse_str};
+use sock_diag_extras::constants::{
+    INET_ULP_INFO_MPTCP, INET_ULP_INFO_NAME, INET_ULP_INFO_TLS, TLS_INFO_RX_NO_PAD,
+    TLS_INFO_ZC_RO_TX,
+};
+use sock_diag_extras::{SubflowField, TlsField};
+use std::alloc::AllocError;
+
+/// A number in the nested attributes.
+#[derive(Clone, Copy)]
+pub(crate) enum UlpField {
+    /// A field about TLS.
+    Tls(TlsField),
+    /// A field of a subflow of an MPTCP connection.
+    Subflow(SubflowField),
+}
+
+/// A row: how the table shows a number, its text there, its name in JSON, and its field.
+type UlpRow = (Shown, &'static [u8], Option<&'static str>, UlpField);
+
+/// A number about TLS.
+macro_rules! tls {
+    ($format:ident, $text:literal, $member:expr, $field:ident) => {
+        (
+            Shown::$format,
+            $text,
+            $member,
+            UlpField::Tls(TlsField::$field),
+        )
+    };
+}
+
+/// A number of a subflow.
+macro_rules! subflow {
+    ($format:ident, $text:literal, $member:literal, $field:ident) => {
+        (
+            Shown::$format,
+            $text,
+            Some($member),
+            UlpField::Subflow(SubflowField::$field),
+        )
+    };
+}
+
+/// The numbers about TLS. The table shows `rxconf` before `txconf`.
+static TLS_ROWS: [UlpRow; 5] = [
+    tls!(Version, b" version:", Some("version"), Version),
+    tls!(Cipher, b" cipher:", Some("cipher"), Cipher),
+    tls!(Mode, b" rxconf:", None, Receiving),
+    tls!(Mode, b" txconf:", Some("txconf"), Sending),
+    tls!(Never, b"", Some("rxconf"), Receiving),
+];
+
+/// The numbers of a subflow.
+static SUBFLOW_ROWS: [UlpRow; 10] = [
+    subflow!(Never, b"", "token_rem", RemoteToken),
+    subflow!(Never, b"", "token_loc", LocalToken),
+    subflow!(Never, b"", "relwrite_seq", RelativeWriteSequence),
+    subflow!(Hex, b" seq:", "map_seq", MapSequence),
+    subflow!(Hex, b" sfseq:", "map_sfseq", MapSubflowSequence),
+    subflow!(Hex, b" ssnoff:", "ssn_offset", SequenceOffset),
+    subflow!(Hex, b" maplen:", "map_datalen", MapLength),
+    subflow!(Never, b"", "flags", Flags),
+    subflow!(Never, b"", "id_rem", RemoteId),
+    subflow!(Never, b"", "id_loc", LocalId),
+];
+
+/// Shows the upper layer protocol in a value.
+pub(crate) fn show_ulp<S: FactSink>(sink: &mut S, value: &[u8]) -> Result<Status, AllocError>
+    ensures { Decodes S.kept S.content S.items result sink.old sink.new (ulp_outcome value.now) }
+{
+    match name_of_protocol(value) {
+        Ok(name) => {
+            show_ulp_info(sink, name, value)?;
+            Ok(Ok(true))
+        }
+        Err(error) => Ok(Err(error)),
+    }
+}
+
+/// Shows the name of a protocol, and what the value has about TLS and MPTCP, as a group.
+fn show_ulp_info<S: FactSink>(sink: &mut S, name: &str, value: &[u8]) -> Result<(), AllocError>
+    ensures { Shows S.kept S.content S.items result sink.old sink.new
+        (group [] [] (codes "ulp_info") (ulp_parts name.now value.now)) }
+{
+    sink.begin(b"", "ulp_info")?;
+    show_ulp_parts(sink, name, value)?;
+    sink.end(b"")
+}
+
+/// Shows the name of a protocol, and what the value has about TLS and MPTCP.
+fn show_ulp_parts<S: FactSink>(sink: &mut S, name: &str, value: &[u8]) -> Result<(), AllocError>
+    ensures { Shows S.kept S.content S.items result sink.old sink.new
+        (ulp_parts name.now value.now) }
+{
+    sink.name(false, b" tcp-ulp-", "name", name)?;
+    show_tls(sink, value)?;
+    show_subflow(sink, value)
+}
+
+/// Shows what TLS reports, if the value has it.
+fn show_tls<S: FactSink>(sink: &mut S, value: &[u8]) -> Result<(), AllocError>
+    ensures { Shows S.kept S.content S.items result sink.old sink.new
+        (nested_group (codes "tls") tls_facts (nested_value INET_ULP_INFO_TLS value.now)) }
+{
+    match find_value(value, INET_ULP_INFO_TLS) {
+        Some(bytes) => show_tls_info(sink, bytes),
+        None => Ok(()),
+    }
+}
+
+/// Shows what TLS reports, as a group.
+fn show_tls_info<S: FactSink>(sink: &mut S, bytes: &[u8]) -> Result<(), AllocError>
+    ensures { Shows S.kept S.content S.items result sink.old sink.new
+        (group [] [] (codes "tls") (tls_facts bytes.now)) }
+{
+    sink.begin(b"", "tls")?;
+    show_tls_parts(sink, bytes)?;
+    sink.end(b"")
+}
+
+/// Shows the numbers about TLS, and whether each flag is present.
+fn show_tls_parts<S: FactSink>(sink: &mut S, bytes: &[u8]) -> Result<(), AllocError>
+    ensures { Shows S.kept S.content S.items result sink.old sink.new (tls_facts bytes.now) }
+{
+    show_tls_numbers(sink, bytes)?;
+    show_presence(sink, bytes, TLS_INFO_ZC_RO_TX, b" zc_ro_tx", "zc_ro_tx")?;
+    show_presence(sink, bytes, TLS_INFO_RX_NO_PAD, b" no_pad_rx", "rx_no_pad")
+}
+
+/// Shows whether the nested attributes have one of this kind. The table shows this text if so.
+fn show_presence<S: FactSink>(
+    sink: &mut S,
+    bytes: &[u8],
+    kind: u16,
+    text: &[u8],
+    member: &str,
+) -> Result<(), AllocError>
+    ensures { Shows S.kept S.content S.items result sink.old sink.new
+        (presence_facts kind text.now member.now bytes.now) }
+{
+    let is_present = find_value(bytes, kind).is_some();
+    sink.flag(Shown::Bits(1), text, member, is_present)
+}
+
+/// Shows the numbers about TLS.
+fn show_tls_numbers<S: FactSink>(sink: &mut S, bytes: &[u8]) -> Result<(), AllocError>
+    ensures { Shows S.kept S.content S.items result sink.old sink.new
+        (facts_of_each (ulp_row bytes.now) tls_rows) }
+{
+    show_rows(sink, bytes, list_tls_rows())
+}
+
+/// Returns the rows of the numbers about TLS.
+#[tactic(auto, unfolding(crate::specs::UlpInfo::tls_rows))]
+fn list_tls_rows() -> &'static [UlpRow]
+    ensures { map (λ row. (row.0, row.1.now, option_map (λ m. m.now) row.2, row.3)) result.now
+        ≡ tls_rows }
+{
+    &TLS_ROWS
+}
+
+/// Shows what MPTCP reports, if the value has it.
+fn show_subflow<S: FactSink>(sink: &mut S, value: &[u8]) -> Result<(), AllocError>
+    ensures { Shows S.kept S.content S.items result sink.old sink.new (nested_group (codes "mptcp")
+        subflow_facts (nested_value INET_ULP_INFO_MPTCP value.now)) }
+{
+    match find_value(value, INET_ULP_INFO_MPTCP) {
+        Some(bytes) => show_subflow_info(sink, bytes),
+        None => Ok(()),
+    }
+}
+
+/// Shows what MPTCP reports, as a group.
+fn show_subflow_info<S: FactSink>(sink: &mut S, bytes: &[u8]) -> Result<(), AllocError>
+    ensures { Shows S.kept S.content S.items result sink.old sink.new
+        (group [] [] (codes "mptcp") (subflow_facts bytes.now)) }
+{
+    sink.begin(b"", "mptcp")?;
+    show_subflow_parts(sink, bytes)?;
+    sink.end(b"")
+}
+
+/// Shows the flags, the tokens and the numbers of a subflow.
+fn show_subflow_parts<S: FactSink>(sink: &mut S, bytes: &[u8]) -> Result<(), AllocError>
+    ensures { Shows S.kept S.content S.items result sink.old sink.new (subflow_facts bytes.now) }
+{
+    let flags = UlpField::Subflow(SubflowField::Flags);
+    show_row(sink, bytes, Shown::Letters, b" flags:", None, flags)?;
+    show_tokens(sink, bytes)?;
+    show_subflow_numbers(sink, bytes)
+}
+
+/// Shows the numbers of a subflow.
+fn show_subflow_numbers<S: FactSink>(sink: &mut S, bytes: &[u8]) -> Result<(), AllocError>
+    ensures { Shows S.kept S.content S.items result sink.old sink.new
+        (facts_of_each (ulp_row bytes.now) subflow_rows) }
+{
+    show_rows(sink, bytes, list_subflow_rows())
+}
+
+/// Returns the rows of the numbers of a subflow.
+#[tactic(auto, unfolding(crate::specs::UlpInfo::subflow_rows))]
+fn list_subflow_rows() -> &'static [UlpRow]
+    ensures { map (λ row. (row.0, row.1.now, option_map (λ m. m.now) row.2, row.3)) result.now
+        ≡ subflow_rows }
+{
+    &SUBFLOW_ROWS
+}
+
+/// Shows the tokens of a connection and the ids of the addresses, which JSON has as numbers of the
+/// subflow, if all four are present.
+fn show_tokens<S: FactSink>(sink: &mut S, bytes: &[u8]) -> Result<(), AllocError>
+    ensures { Shows S.kept S.content S.items result sink.old sink.new (tokens_in bytes.now) }
+{
+    show_four(
+        sink,
+        number_of(bytes, UlpField::Subflow(SubflowField::RemoteToken)),
+        number_of(bytes, UlpField::Subflow(SubflowField::RemoteId)),
+        number_of(bytes, UlpField::Subflow(SubflowField::LocalToken)),
+        number_of(bytes, UlpField::Subflow(SubflowField::LocalId)),
+    )
+}
+
+/// Shows these tokens and ids, if all four are present.
+fn show_four<S: FactSink>(
+    sink: &mut S,
+    remote: Option<u64>,
+    remote_id: Option<u64>,
+    local: Option<u64>,
+    local_id: Option<u64>,
+) -> Result<(), AllocError>
+    ensures { Shows S.kept S.content S.items result sink.old sink.new
+        (token_facts remote remote_id local local_id) }
+{
+    match (remote, remote_id, local, local_id) {
+        (Some(remote), Some(remote_id), Some(local), Some(local_id)) => {
+            let rows: [NumberRow<'_>; 4] = [
+                (Shown::Hex, b" token:", None, Some(remote)),
+                (Shown::Closed, b"(id:", None, Some(remote_id)),
+                (Shown::Hex, b"/", None, Some(local)),
+                (Shown::Closed, b"(id:", None, Some(local_id)),
+            ];
+            show_numbers(sink, &rows)
+        }
+        _ => Ok(()),
+    }
+}
+
+/// Shows the number of each row, if the nested attributes have its field.
+fn show_rows<S: FactSink>(sink: &mut S, bytes: &[u8], rows: &[UlpRow]) -> Result<(), AllocError>
+    ensures { OnOk result ((S.kept sink.new ≡ S.kept sink.old)
+        × (S.content sink.new ≡ S.content sink.old ++ flat_map (λ row. S.items (ulp_row bytes.now
+        (row.0, row.1.now, option_map (λ m. m.now) row.2, row.3))) rows.now)) }
+{
+    for &(format, text, member, field) in rows {
+        show_row(sink, bytes, format, text, member, field)?;
+    }
+    Ok(())
+}
+
+/// Shows a number, if the nested attributes have its field.
+#[tactic(auto, unfolding(crate::specs::UlpInfo::ulp_row))]
+fn show_row<S: FactSink>(
+    sink: &mut S,
+    bytes: &[u8],
+    format: Shown,
+    text: &[u8],
+    member: Option<&str>,
+    field: UlpField,
+) -> Result<(), AllocError>
+    ensures { Shows S.kept S.content S.items result sink.old sink.new (ulp_row bytes.now
+        (format, text.now, option_map (λ m. m.now) member.entry, field)) }
+{
+    match number_of(bytes, field) {
+        Some(number) => sink.number(format, text, member, number),
+        None => Ok(()),
+    }
+}
+
+/// Returns the number of a field of the nested attributes.
+fn number_of(bytes: &[u8], field: UlpField) -> Option<u64>
+    ensures { result ≡ ulp_number bytes.now field }
+{
+    match field {
+        UlpField::Tls(field) => {
+            let (kind, width) = field.row();
+            find_number(bytes, kind, width)
+        }
+        UlpField::Subflow(field) => {
+            let (kind, width) = field.row();
+            find_number(bytes, kind, width)
+        }
+    }
+}
+
+/// Returns the name of the protocol, without one terminating NUL if it has one. Fails if there is
+/// none, or if it is not valid UTF-8.
+fn name_of_protocol<'a>(value: &'a [u8]) -> Result<&'a str, DecodeError>
+    ensures { map_ok (λ name. name.now) result ≡ ulp_name value.entry.now }
+{
+    match find_value(value, INET_ULP_INFO_NAME) {
+        Some(name) => parse_str(name),
+        None => Err(DecodeError::NameEmpty),
+    }
+}
+
+/// Returns the little-endian number of `width` bytes in the first attribute of this kind. Returns
+/// `None` if there is none, or if its value has another length.
+pub(crate) fn find_number(bytes: &[u8], kind: u16, width: usize) -> Option<u64>
+    requires one { 1 ≤ width }
+    requires eight { width ≤ 8 }
+    ensures { result ≡ nested_number (kind, width) bytes.now }
+{
+    match find_value(bytes, kind) {
+        Some(value) if value.len() == width => Some(LittleEndian::read_uint(value, width)),
+        _ => None,
+    }
+}
+
+/// Returns the value of the first attribute of this kind in the bytes, if there is one.
+pub(crate) fn find_value<'a>(bytes: &'a [u8], kind: u16) -> Option<&'a [u8]>
+    ensures { option_map (λ value. value.now) result ≡ nested_value kind bytes.entry.now }
+{
+    match find_kind(bytes, kind) {
+        Some(nla) => Some(nla.value()),
+        None => None,
+    }
+}
