@@ -26,7 +26,7 @@ pub trait Nla {
     ghost attribute: { Self → Attribute };
 
     // Each number of the value fits its field. A type with a codec defines it, for the codec's laws
-    // (`in_range_by_codec` of `Wire`). By default `emit_value` states nothing.
+    // (`in_range_by_codec` of `Wire`). By default it holds of every value.
     ghost in_range: { Self → Type 0 } = { λ _. ⊤ };
 
     /// Returns the number of the value's bytes, without header and padding.
