@@ -1,5 +1,6 @@
 -- What a run of `sockdiag` has read and written. The parameters are the bytes that are left to read
--- and those that have been written; None if they are not known.
+-- before and after the run (`left`, `left'`), and those that have been written before and after it
+-- (`held`, `held'`); None if they are not known.
 use Rattle.std.specs.Prelude.{Bool, IfSome, List, Option, Result, ℕ}
 use Rattle.std.specs.Io.KnownBytes.{Appends}
 use Rattle.program_streams.specs.LineRun.{AnswersInput, answer_lines}
@@ -19,9 +20,11 @@ WritesAllAnswers left held held' = IfSome left (λ text.
     → SplitsIntoLines text whole rest
     → Appends held held' (answer_lines answer (all_lines whole rest)))
 
--- `Serves left left' held held' outcome`: what a run with this outcome has read and written
--- (`AnswersInput`). If it succeeded, the outcome is whether each answer is good (`is_good`).
-abbrev pub Serves : Option (List ℕ) → Option (List ℕ) → Option (List ℕ) → Option (List ℕ)
+-- `RunEnds left left' held held' outcome`: what a run with this outcome has read and written
+-- (`AnswersInput`). It has written the answers to all lines if it succeeded, to the complete lines
+-- if a read failed, to the first `k` of these if memory ran out, and a prefix of all answers if a
+-- write failed. If it succeeded, the outcome is whether each answer is good (`is_good`).
+abbrev pub RunEnds : Option (List ℕ) → Option (List ℕ) → Option (List ℕ) → Option (List ℕ)
     → Result Bool RunError → Type 0
-Serves left left' held held' outcome = (answer : List ℕ → List ℕ) → AnswersLines answer
+RunEnds left left' held held' outcome = (answer : List ℕ → List ℕ) → AnswersLines answer
     → AnswersInput answer left left' held held' is_good outcome

@@ -3,7 +3,7 @@
 ghost use Rattle.std.specs.Prelude.{◌≡◌, ◌≢◌, ◌∷◌, ◌++◌, decimal, OnOk, option_map};
 ghost use Rattle.hex.specs.Hex.{encode_lower};
 ghost use Rattle.netlink_core.specs.declared.error.DecodeError.TheVariants.{Memory};
-ghost use Rattle.sock_diag_attributes.specs.NameModel.{socket_name_model};
+ghost use Rattle.sock_diag_attributes.specs.NameModel.{name_view_model};
 ghost use Rattle.sock_diag_attributes.specs.NumbersModel.{numbers_view_model};
 ghost use Rattle.sock_diag_lines.specs.HexField.{hex_field_of};
 ghost use Rattle.sock_diag_lines.specs.private.Text.{ok_text, refused_text};
@@ -105,7 +105,7 @@ pub(crate) fn push_name_field(
 ) -> Result<(), AllocError>
     ensures { OnOk result (text.new.items
         ≡ text.old.items ++ 32 ∷ or_none socket_name_text
-        (option_map (socket_name_model (λ b. b.now)) name.entry)) }
+        (option_map name_view_model name.entry)) }
 {
     match name {
         Some(NameView::Pathname(path)) => {

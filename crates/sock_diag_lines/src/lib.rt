@@ -7,7 +7,7 @@ ghost use Rattle.std.specs.Prelude.{Result, IfErr, MatchResult};
 ghost use Rattle.std.specs.Process.{exit_status};
 ghost use Rattle.std.specs.Io.KnownBytes.{IsAtEnd, Keeps};
 ghost use Rattle.sock_diag_lines.specs.FailureLine.{failure_line};
-ghost use Rattle.sock_diag_lines.specs.Run.{Serves, WritesAllAnswers};
+ghost use Rattle.sock_diag_lines.specs.Run.{RunEnds, WritesAllAnswers};
 ghost use Rattle.program_streams.specs.Streams.{WritesAllOrFails};
 ghost use Rattle.program_streams.specs.declared.lines.RunError.{RunError};
 ghost use Rattle.program_streams.specs.declared.streams.WriteError.{WriteError};
@@ -59,7 +59,7 @@ pub fn run_to_status<R: PromptRead, W: Sink, E: Sink>(
     // If the status is not 1, nothing was written on `errors`, if what had been written there is
     // known.
     ensures silent { exit_status result ≢ 1 → Keeps (E.held errors.old) (E.held errors.new) }
-    // The outcome of the run: whether each answer is good (`is_good`), or the failure. `Serves`
+    // The outcome of the run: whether each answer is good (`is_good`), or the failure. `RunEnds`
     // states what was read and written for each outcome. After a failure `errors` has the line that
     // names it, or a prefix of that line if a write on `errors` failed. `Read` and `Write` have a
     // cause: a call that failed, or 2^64 - 1 reads.
@@ -67,7 +67,7 @@ pub fn run_to_status<R: PromptRead, W: Sink, E: Sink>(
         × MatchResult outcome
         (λ good. exit_status result ≡ (if is_strict && not good then 3 else 0))
         (λ _. exit_status result ≡ 1)
-        × Serves (R.left input.old) (R.left input.new) (W.held output.old) (W.held output.new)
+        × RunEnds (R.left input.old) (R.left input.new) (W.held output.old) (W.held output.new)
         outcome
         × IfErr outcome (λ e. WritesAllOrFails (E.held errors.old) (E.held errors.new)
         ((error : WriteError) × E.failed errors.new error) (failure_line e)

@@ -9,7 +9,7 @@ ghost use Rattle.program_streams.specs.declared.streams.WriteError.{WriteError};
 ghost use Rattle.sock_diag_lines.specs.Answer.{IsAnswerOf, is_good};
 ghost use Rattle.sock_diag_lines.specs.private.LineRequest.{IsParsedAs};
 ghost use Rattle.sock_diag_lines.specs.FailureLine.{failure_line};
-ghost use Rattle.sock_diag_lines.specs.Run.{Serves, WritesAllAnswers};
+ghost use Rattle.sock_diag_lines.specs.Run.{RunEnds, WritesAllAnswers};
 
 use crate::answer_parts::OK;
 use crate::answers::{LineRequest, push_answer_text, read_request};
@@ -78,7 +78,7 @@ pub fn run<R: Read, W: Write>(alloc: Global, input: &mut R, output: &mut W) -> R
     // The bytes that were read and written, for each outcome. The result is the outcome, without
     // the `bool` that says whether each answer is good.
     ensures answered { (outcome : Result Bool RunError)
-        × Serves (R.remaining input.old) (R.remaining input.new) (W.contents output.old)
+        × RunEnds (R.remaining input.old) (R.remaining input.new) (W.contents output.old)
         (W.contents output.new) outcome
         × MatchResult outcome (λ _. result ≡ Ok tt) (λ error. result ≡ Err error) }
 {
@@ -102,7 +102,7 @@ pub(crate) fn answer_all<R: PromptRead, W: Sink>(
         (WritesAllAnswers (R.left input.old) (W.held output.old) (W.held output.new)) }
     ensures flushed { OnOk result (W.flushed output.new) }
     // The bytes that were read and written, for each outcome.
-    ensures answered { Serves (R.left input.old) (R.left input.new) (W.held output.old)
+    ensures answered { RunEnds (R.left input.old) (R.left input.new) (W.held output.old)
         (W.held output.new) result }
     ensures read_cause { IfErr result (λ e. e ≡ RunError.Read
         → R.failed input.new ⊎ R.reads input.new (2 ^ 64 - 1)) }

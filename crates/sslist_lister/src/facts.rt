@@ -5,7 +5,7 @@
 ghost use Rattle.std.specs.Prelude.{◌≡◌, ◌++◌, ◌∷◌, [], ℕ, List, OnOk, decimal, flat_map, map};
 ghost use Rattle.std.specs.Prelude.{option_map, refl};
 ghost use Rattle.json.specs.Token.{Token, begin_object, end_object, key};
-ghost use Rattle.sock_diag_attributes.specs.NameModel.{socket_name_model};
+ghost use Rattle.sock_diag_attributes.specs.NameModel.{name_view_model};
 ghost use Rattle.sock_diag_attributes.specs.NumbersModel.{numbers_view_model};
 ghost use Rattle.sslist_lister.specs.Facts.{Facts, Shows, both, flag_facts, group, list_facts};
 ghost use Rattle.sslist_lister.specs.Facts.{name_facts, named_member, no_facts, number_facts};
@@ -14,7 +14,7 @@ ghost use Rattle.sslist_lister.specs.laws.FactTokens.{group_tokens, no_tokens};
 ghost use Rattle.sslist_lister.specs.Md5Keys.{md5_facts};
 ghost use Rattle.sslist_lister.specs.UlpNames.{name_or_number};
 ghost use Rattle.sslist_lister.specs.laws.MemberTokens.{tokens_append};
-ghost use Rattle.sslist_lister.specs.texts.JsonWriting.{AddsMembers, KeepsText};
+ghost use Rattle.sslist_lister.specs.texts.JsonWriting.{AddsMembers, KeepsTextBefore};
 ghost use Rattle.sslist_lister.specs.texts.JsonWriting.{members_tokens};
 
 use crate::json_names::{write_list, write_name};
@@ -124,7 +124,7 @@ pub(crate) trait FactSink {
     /// Shows the name of a UNIX socket, for which the table has a column.
     fn socket_name(&mut self, alloc: Global, name: NameView<'_>) -> Result<(), AllocError>
         ensures { Shows kept content items result self.old self.new
-            (name_facts (socket_name_model (λ b. b.now) name.entry)) };
+            (name_facts (name_view_model name.entry)) };
 
     /// Shows the MD5 keys in a value.
     fn md5_keys(&mut self, alloc: Global, value: &[u8]) -> Result<(), AllocError>
@@ -538,7 +538,7 @@ fn push_each(text: &mut Vec<u8>, before: &[u8], numbers: &NumbersView<'_>) -> Re
 #[inline(always)]
 #[tactic(auto, unfolding(crate::specs::texts::JsonWriting::members_tokens))]
 fn write_named(writer: &mut Writer, member: Option<&str>, number: u64) -> Result<(), AllocError>
-    ensures before { KeepsText result writer.old writer.new }
+    ensures before { KeepsTextBefore result writer.old writer.new }
     ensures members { AddsMembers result writer.old writer.new
         (named_member (option_map (λ m. m.now) member.entry) number) }
 {

@@ -13,7 +13,7 @@ ghost use Rattle.sslist_lister.specs.JsonAttributes.{socket_json, socket_members
 ghost use Rattle.sslist_lister.specs.JsonAttributes.{valid_members};
 ghost use Rattle.sslist_lister.specs.texts.JsonData.{JsonMember, array_member, json_text};
 ghost use Rattle.sslist_lister.specs.texts.JsonData.{object_of, optional_member};
-ghost use Rattle.sslist_lister.specs.texts.JsonWriting.{AddsMembers, AddsTokens, KeepsText};
+ghost use Rattle.sslist_lister.specs.texts.JsonWriting.{AddsMembers, AddsTokens, KeepsTextBefore};
 ghost use Rattle.sslist_lister.specs.texts.JsonWriting.{members_tokens};
 
 use crate::attributes::{Sockets, show_attribute};
@@ -33,7 +33,7 @@ pub(crate) trait JsonHeader {
 
     /// Writes the members of the header.
     fn write_json(&self, alloc: Global, writer: &mut Writer) -> Result<(), AllocError>
-        ensures before { KeepsText result writer.old writer.new }
+        ensures before { KeepsTextBefore result writer.old writer.new }
         ensures members { AddsMembers result writer.old writer.new (json_members self.now) };
 }
 
@@ -69,7 +69,7 @@ fn write_object<H: JsonHeader>(
     header: &H,
     found: &Attributes<'_>,
 ) -> Result<(), AllocError>
-    ensures before { KeepsText result writer.old writer.new }
+    ensures before { KeepsTextBefore result writer.old writer.new }
     ensures tokens { AddsTokens result writer.old writer.new (json_tokens (object_of
         (socket_members list (H.json_members header.now) (collected found.now)))) }
 {
@@ -94,7 +94,7 @@ fn write_attributes(
     writer: &mut Writer,
     found: &Attributes<'_>,
 ) -> Result<(), AllocError>
-    ensures before { KeepsText result writer.old writer.new }
+    ensures before { KeepsTextBefore result writer.old writer.new }
     ensures members { AddsMembers result writer.old writer.new
         (attributes_members (collected found.now)) }
 {
@@ -109,7 +109,7 @@ fn write_members(
     writer: &mut Writer,
     found: &Attributes<'_>,
 ) -> Result<(), AllocError>
-    ensures before { KeepsText result writer.old writer.new }
+    ensures before { KeepsTextBefore result writer.old writer.new }
     ensures members { AddsMembers result writer.old writer.new
         (flat_map (valid_members found.now.sockets) (map slot_attribute found.now.first.slots)) }
 {
@@ -124,7 +124,7 @@ fn write_valid(
     sockets: Sockets,
     slots: &[Option<NlaBuffer<'_>>],
 ) -> Result<(), AllocError>
-    ensures before { KeepsText result writer.old writer.new }
+    ensures before { KeepsTextBefore result writer.old writer.new }
     ensures tokens { AddsTokens result writer.old writer.new (flat_map (λ slot.
         members_tokens (valid_members sockets (slot_attribute slot))) slots.now) }
 {
@@ -139,7 +139,7 @@ fn write_valid(
 /// Writes the member `other_attributes`: the attributes that are unknown or invalid.
 #[tactic(auto, using(crate::proofs::JsonWriting::json_rules, crate::proofs::Slots::tokens_of_others))]
 fn write_others(writer: &mut Writer, found: &Attributes<'_>) -> Result<(), AllocError>
-    ensures before { KeepsText result writer.old writer.new }
+    ensures before { KeepsTextBefore result writer.old writer.new }
     ensures members { AddsMembers result writer.old writer.new (array_member
         (codes "other_attributes") (map other_item (map other_model found.now.others.items))) }
 {
@@ -151,7 +151,7 @@ fn write_others(writer: &mut Writer, found: &Attributes<'_>) -> Result<(), Alloc
 
 /// Writes an item for each of these attributes.
 fn write_items(writer: &mut Writer, others: &[(NlaBuffer<'_>, Status)]) -> Result<(), AllocError>
-    ensures before { KeepsText result writer.old writer.new }
+    ensures before { KeepsTextBefore result writer.old writer.new }
     ensures tokens { AddsTokens result writer.old writer.new
         (flat_map (λ other. json_tokens (other_item (other_model other))) others.now) }
 {
@@ -163,7 +163,7 @@ fn write_items(writer: &mut Writer, others: &[(NlaBuffer<'_>, Status)]) -> Resul
 
 /// Writes an item for an attribute with this status.
 fn write_item(writer: &mut Writer, nla: &NlaBuffer<'_>, status: &Status) -> Result<(), AllocError>
-    ensures before { KeepsText result writer.old writer.new }
+    ensures before { KeepsTextBefore result writer.old writer.new }
     ensures tokens { AddsTokens result writer.old writer.new
         (json_tokens (other_item (buffered_attribute nla.now, status.now))) }
 {
@@ -180,7 +180,7 @@ fn write_item_members(
     nla: &NlaBuffer<'_>,
     status: &Status,
 ) -> Result<(), AllocError>
-    ensures before { KeepsText result writer.old writer.new }
+    ensures before { KeepsTextBefore result writer.old writer.new }
     ensures members { AddsMembers result writer.old writer.new
         (item_members (buffered_attribute nla.now) status.now) }
 {
@@ -194,7 +194,7 @@ fn write_item_members(
 /// Writes the type of an attribute and the length of its value.
 #[tactic(auto, unfolding(crate::specs::JsonAttributes::attribute_members))]
 fn write_attribute_members(writer: &mut Writer, nla: &NlaBuffer<'_>) -> Result<(), AllocError>
-    ensures before { KeepsText result writer.old writer.new }
+    ensures before { KeepsTextBefore result writer.old writer.new }
     ensures members { AddsMembers result writer.old writer.new
         (attribute_members (buffered_attribute nla.now)) }
 {

@@ -2,7 +2,7 @@
 
 ghost use Rattle.std.specs.Prelude.{◌≡◌};
 ghost use Rattle.hex.specs.Hex.{IsBytes};
-ghost use Rattle.sock_diag_attributes.specs.NameModel.{socket_name_model};
+ghost use Rattle.sock_diag_attributes.specs.NameModel.{name_view_model};
 ghost use Rattle.sslist_lister.specs.texts.JsonData.{json_text, object_of};
 ghost use Rattle.sslist_lister.specs.JsonNames.{name_members};
 ghost use Rattle.sslist_lister.specs.private.JsonNames.{name_bytes};
@@ -11,9 +11,9 @@ use sock_diag_attributes::unix::nlas::NameView;
 
 /// Proof only: the contract states that two different names never have the same JSON text.
 pub fn different_names_have_different_texts(v: NameView<'_>, w: NameView<'_>)
-    ensures { json_text (object_of (name_members (socket_name_model (λ b. b.now) v.entry)))
-        ≡ json_text (object_of (name_members (socket_name_model (λ b. b.now) w.entry)))
-        → socket_name_model (λ b. b.now) v.entry ≡ socket_name_model (λ b. b.now) w.entry }
+    ensures { json_text (object_of (name_members (name_view_model v.entry)))
+        ≡ json_text (object_of (name_members (name_view_model w.entry)))
+        → name_view_model v.entry ≡ name_view_model w.entry }
 {
     prove_in_range(v);
     prove_in_range(w);
@@ -21,7 +21,7 @@ pub fn different_names_have_different_texts(v: NameView<'_>, w: NameView<'_>)
 
 /// Proof only: puts the range of each byte of a name in scope. No run-time effect.
 fn prove_in_range(name: NameView<'_>)
-    ensures { IsBytes (name_bytes (socket_name_model (λ b. b.now) name.entry)) }
+    ensures { IsBytes (name_bytes (name_view_model name.entry)) }
 {
     match name {
         NameView::Pathname(path) => prove_bytes_in_range(path),

@@ -3,11 +3,11 @@
 
 ghost use Rattle.std.specs.Prelude.{◌≡◌, ◌++◌, ◌∷◌, [], OnOk, codes, decimal, flat_map};
 ghost use Rattle.json.specs.Token.{number};
-ghost use Rattle.sock_diag_attributes.specs.NameModel.{socket_name_model};
+ghost use Rattle.sock_diag_attributes.specs.NameModel.{name_view_model};
 ghost use Rattle.sock_diag_attributes.specs.NumbersModel.{numbers_view_model};
 ghost use Rattle.sslist_lister.specs.JsonNames.{name_members};
 ghost use Rattle.sslist_lister.specs.texts.JsonData.{numbers_member, object_member};
-ghost use Rattle.sslist_lister.specs.texts.JsonWriting.{AddsMembers, AddsTokens, KeepsText};
+ghost use Rattle.sslist_lister.specs.texts.JsonWriting.{AddsMembers, AddsTokens, KeepsTextBefore};
 
 use crate::texts::json_writing::{begin_member, write_bytes};
 use json::Writer;
@@ -20,9 +20,9 @@ pub(crate) fn write_name(
     writer: &mut Writer,
     name: NameView<'_>,
 ) -> Result<(), AllocError>
-    ensures before { KeepsText result writer.old writer.new }
+    ensures before { KeepsTextBefore result writer.old writer.new }
     ensures members { AddsMembers result writer.old writer.new (object_member (codes "name")
-        (name_members (socket_name_model (λ b. b.now) name.entry))) }
+        (name_members (name_view_model name.entry))) }
 {
     begin_member(writer, "name")?;
     write_name_members(alloc, writer, name)?;
@@ -35,9 +35,9 @@ fn write_name_members(
     writer: &mut Writer,
     name: NameView<'_>,
 ) -> Result<(), AllocError>
-    ensures before { KeepsText result writer.old writer.new }
+    ensures before { KeepsTextBefore result writer.old writer.new }
     ensures members { AddsMembers result writer.old writer.new
-        (name_members (socket_name_model (λ b. b.now) name.entry)) }
+        (name_members (name_view_model name.entry)) }
 {
     match name {
         NameView::Pathname(path) => write_bytes(alloc, writer, "path", "path_hex", path),
@@ -53,7 +53,7 @@ pub(crate) fn write_list(
     name: &str,
     numbers: &NumbersView<'_>,
 ) -> Result<(), AllocError>
-    ensures before { KeepsText result writer.old writer.new }
+    ensures before { KeepsTextBefore result writer.old writer.new }
     ensures members { AddsMembers result writer.old writer.new
         (numbers_member name.now (numbers_view_model numbers.now)) }
 {
@@ -65,7 +65,7 @@ pub(crate) fn write_list(
 
 /// Writes each number of a list.
 fn write_items(writer: &mut Writer, numbers: &NumbersView<'_>) -> Result<(), AllocError>
-    ensures before { KeepsText result writer.old writer.new }
+    ensures before { KeepsTextBefore result writer.old writer.new }
     ensures tokens { AddsTokens result writer.old writer.new
         (flat_map (λ n. number (decimal n) ∷ []) (numbers_view_model numbers.now)) }
 {

@@ -1,10 +1,11 @@
-//! Headers of replies about netlink, packet, vsock and XDP sockets in lines of JSON.
+//! Headers of replies about netlink, packet, vsock and XDP sockets in lines of JSON. If a function
+//! of this module fails, an allocation failed, and the content of the writer is not specified.
 
 ghost use Rattle.std.specs.Prelude.{map};
 ghost use Rattle.sslist_lister.specs.JsonOthers.{netlink_header_members, other_header_members};
 ghost use Rattle.sslist_lister.specs.JsonOthers.{packet_header_members, vsock_header_members};
 ghost use Rattle.sslist_lister.specs.JsonOthers.{xdp_header_members};
-ghost use Rattle.sslist_lister.specs.texts.JsonWriting.{AddsMembers, KeepsText};
+ghost use Rattle.sslist_lister.specs.texts.JsonWriting.{AddsMembers, KeepsTextBefore};
 
 use crate::command_line::Family;
 use crate::json_attributes::JsonHeader;
@@ -29,7 +30,7 @@ fn write_header(
     rows: &[(&str, u64)],
     cookie: u64,
 ) -> Result<(), AllocError>
-    ensures before { KeepsText result writer.old writer.new }
+    ensures before { KeepsTextBefore result writer.old writer.new }
     ensures members { AddsMembers result writer.old writer.new
         (other_header_members netid.now state (map (λ row. (row.0.now, row.1)) rows.now) cookie) }
 {

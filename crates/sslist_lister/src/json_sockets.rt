@@ -1,8 +1,9 @@
-//! Headers of replies about UNIX, IPv4 and IPv6 sockets in lines of JSON.
+//! Headers of replies about UNIX, IPv4 and IPv6 sockets in lines of JSON. If a function of this
+//! module fails, an allocation failed, and the content of the writer is not specified.
 
 ghost use Rattle.sslist_lister.specs.JsonSockets.{inet_back_members, inet_front_members};
 ghost use Rattle.sslist_lister.specs.JsonSockets.{inet_header_members, unix_header_members};
-ghost use Rattle.sslist_lister.specs.texts.JsonWriting.{AddsMembers, KeepsText};
+ghost use Rattle.sslist_lister.specs.texts.JsonWriting.{AddsMembers, KeepsTextBefore};
 
 use crate::json_attributes::JsonHeader;
 use crate::kinds::{name_of_inet_kind, name_of_unix_kind};
@@ -38,7 +39,7 @@ fn write_unix_header(
     writer: &mut Writer,
     header: &UnixResponseHeader,
 ) -> Result<(), AllocError>
-    ensures before { KeepsText result writer.old writer.new }
+    ensures before { KeepsTextBefore result writer.old writer.new }
     ensures members { AddsMembers result writer.old writer.new (unix_header_members header.now) }
 {
     write_text(writer, "netid", name_of_unix_kind(header.kind))?;
@@ -61,7 +62,7 @@ fn write_inet_header(
     timer: &TimerFields,
     header: &InetResponseHeader,
 ) -> Result<(), AllocError>
-    ensures before { KeepsText result writer.old writer.new }
+    ensures before { KeepsTextBefore result writer.old writer.new }
     ensures members { AddsMembers result writer.old writer.new
         (inet_header_members protocol timer.now header.now) }
 {
@@ -82,7 +83,7 @@ fn write_inet_front(
     timer: &TimerFields,
     header: &InetResponseHeader,
 ) -> Result<(), AllocError>
-    ensures before { KeepsText result writer.old writer.new }
+    ensures before { KeepsTextBefore result writer.old writer.new }
     ensures members { AddsMembers result writer.old writer.new
         (inet_front_members timer.now header.now) }
 {
@@ -103,7 +104,7 @@ fn write_inet_back(
     timer: &TimerFields,
     header: &InetResponseHeader,
 ) -> Result<(), AllocError>
-    ensures before { KeepsText result writer.old writer.new }
+    ensures before { KeepsTextBefore result writer.old writer.new }
     ensures members { AddsMembers result writer.old writer.new
         (inet_back_members timer.now header.now) }
 {

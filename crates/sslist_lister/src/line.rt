@@ -6,7 +6,7 @@ ghost use Rattle.sslist_lister.specs.texts.CellsModel.{cells_model};
 ghost use Rattle.netlink_core.specs.Layout.{parse_record};
 ghost use Rattle.sock_diag_records.specs.InetResponse.{inet_response_header};
 ghost use Rattle.sock_diag_records.specs.UnixResponseHeader.{unix_response_header};
-ghost use Rattle.sock_diag_attributes.specs.NameModel.{socket_name_model};
+ghost use Rattle.sock_diag_attributes.specs.NameModel.{name_view_model};
 ghost use Rattle.sock_diag_records.specs.ResponseKind.{response_kind};
 ghost use Rattle.sslist_lister.specs.Collected.{collected, first_in, summary_of};
 ghost use Rattle.sslist_lister.specs.Details.{timer_in};
@@ -203,7 +203,7 @@ fn unix_cells(header: &UnixResponseHeader, queues: Option<(u32, u32)>, uid: Opti
 
 /// Returns the name of a UNIX socket, if there is one.
 fn name_in<'a>(found: &Attributes<'a>) -> Option<NameView<'a>>
-    ensures { option_map (socket_name_model (λ b. b.now)) result
+    ensures { option_map name_view_model result
         ≡ unix_value UNIX_DIAG_NAME (collected found.now) }
 {
     match NlaView::parse(&found.first_of(UNIX_DIAG_NAME)?) {

@@ -6,7 +6,7 @@ ghost use Rattle.json.specs.Tree.{json_tokens};
 ghost use Rattle.sslist_lister.specs.Md5Keys.{are_md5_keys, key_at, key_byte, md5_facts};
 ghost use Rattle.sslist_lister.specs.Md5Keys.{md5_key_members, md5_key_text, md5_key_value};
 ghost use Rattle.sslist_lister.specs.Md5Keys.{md5_keys, md5_keys_text, peer_member, peer_text};
-ghost use Rattle.sslist_lister.specs.texts.JsonWriting.{AddsMembers, AddsTokens, KeepsText};
+ghost use Rattle.sslist_lister.specs.texts.JsonWriting.{AddsMembers, AddsTokens, KeepsTextBefore};
 
 use crate::texts::cells::{push_digits, push_escaped_byte, push_number};
 use crate::texts::json_writing::{write_address, write_numbers, write_text};
@@ -112,7 +112,7 @@ pub(crate) fn write_md5_keys(
     writer: &mut Writer,
     value: &[u8],
 ) -> Result<(), AllocError>
-    ensures before { KeepsText result writer.old writer.new }
+    ensures before { KeepsTextBefore result writer.old writer.new }
     ensures members { AddsMembers result writer.old writer.new (md5_facts value.now).members }
 {
     writer.key("md5sig")?;
@@ -124,7 +124,7 @@ pub(crate) fn write_md5_keys(
 /// Writes an object for each key.
 #[tactic(auto, using(crate::proofs::Md5Keys::key_rules))]
 fn write_keys(alloc: Global, writer: &mut Writer, value: &[u8]) -> Result<(), AllocError>
-    ensures before { KeepsText result writer.old writer.new }
+    ensures before { KeepsTextBefore result writer.old writer.new }
     ensures tokens { AddsTokens result writer.old writer.new
         (flat_map (λ key. json_tokens (md5_key_value key)) (md5_keys value.now)) }
 {
@@ -138,7 +138,7 @@ fn write_keys(alloc: Global, writer: &mut Writer, value: &[u8]) -> Result<(), Al
 
 /// Writes an object with the members of a key.
 fn write_key(alloc: Global, writer: &mut Writer, key: &Md5Signature) -> Result<(), AllocError>
-    ensures before { KeepsText result writer.old writer.new }
+    ensures before { KeepsTextBefore result writer.old writer.new }
     ensures tokens { AddsTokens result writer.old writer.new
         (json_tokens (md5_key_value key.now)) }
 {
@@ -154,7 +154,7 @@ fn write_key_members(
     writer: &mut Writer,
     key: &Md5Signature,
 ) -> Result<(), AllocError>
-    ensures before { KeepsText result writer.old writer.new }
+    ensures before { KeepsTextBefore result writer.old writer.new }
     ensures members { AddsMembers result writer.old writer.new (md5_key_members key.now) }
 {
     let rows = [
@@ -171,7 +171,7 @@ fn write_key_members(
 /// Writes the address of the peers. Writes nothing for `None`.
 #[tactic(auto, unfolding(crate::specs::Md5Keys::peer_member, crate::specs::texts::JsonWriting::members_tokens))]
 fn write_peer(alloc: Global, writer: &mut Writer, ip: Option<IpAddr>) -> Result<(), AllocError>
-    ensures before { KeepsText result writer.old writer.new }
+    ensures before { KeepsTextBefore result writer.old writer.new }
     ensures members { AddsMembers result writer.old writer.new (peer_member ip) }
 {
     match ip {

@@ -5,7 +5,7 @@ ghost use Rattle.std.specs.Prelude.{option_map, vec_len};
 ghost use Rattle.sslist_lister.specs.texts.Escapes.{unescaped_bytes};
 ghost use Rattle.sock_diag_attributes.specs.declared.unix.name.SocketName.TheVariants.{Abstract};
 ghost use Rattle.sock_diag_attributes.specs.declared.unix.name.SocketName.TheVariants.{Pathname};
-ghost use Rattle.sock_diag_attributes.specs.NameModel.{socket_name_model};
+ghost use Rattle.sock_diag_attributes.specs.NameModel.{name_view_model};
 ghost use Rattle.sslist_lister.specs.texts.Widths.{cell_width, name_column, spaces_after};
 ghost use Rattle.sslist_lister.specs.Table.{needs_escaped_first_byte, name_cell, name_of_cell};
 
@@ -24,7 +24,7 @@ pub(crate) fn push_name_column(
 ) -> Result<(), AllocError>
     ensures { OnOk result (text.new.items ≡ text.old.items
         ++ name_column utf8 width
-        (name_cell utf8 (option_map (socket_name_model (λ b. b.now)) name.entry))) }
+        (name_cell utf8 (option_map name_view_model name.entry))) }
 {
     let start = text.len();
     push_name(text, utf8, name)?;
@@ -34,7 +34,7 @@ pub(crate) fn push_name_column(
 /// Appends the name of a UNIX socket, or `*` for `None`.
 fn push_name(text: &mut Vec<u8>, utf8: bool, name: Option<NameView<'_>>) -> Result<(), AllocError>
     ensures { OnOk result (text.new.items ≡ text.old.items
-        ++ name_cell utf8 (option_map (socket_name_model (λ b. b.now)) name.entry)) }
+        ++ name_cell utf8 (option_map name_view_model name.entry)) }
 {
     match name {
         Some(NameView::Pathname(path)) => push_path(text, utf8, path),

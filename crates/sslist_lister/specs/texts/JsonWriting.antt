@@ -15,8 +15,8 @@ unfoldable pub items_tokens : List Json → List Token
 items_tokens items = flat_map json_tokens items
 
 -- Unless an allocation failed, what the buffer held before the first token is unchanged.
-abbrev pub KeepsText : {E : Type 0} → Result (Unit {0}) E → Written → Written → Type 0
-KeepsText r old new = OnOk r (new.before ≡ old.before)
+abbrev pub KeepsTextBefore : {E : Type 0} → Result (Unit {0}) E → Written → Written → Type 0
+KeepsTextBefore r old new = OnOk r (new.before ≡ old.before)
 
 -- Unless an allocation failed, these tokens were appended.
 abbrev pub AddsTokens : {E : Type 0} → Result (Unit {0}) E → Written → Written → List Token → Type 0

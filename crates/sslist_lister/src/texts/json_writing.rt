@@ -10,7 +10,7 @@ ghost use Rattle.sslist_lister.specs.texts.JsonData.{flag_member, hex_member};
 ghost use Rattle.sslist_lister.specs.texts.JsonData.{number_members};
 ghost use Rattle.sslist_lister.specs.texts.JsonData.{numbers_member, object_member};
 ghost use Rattle.sslist_lister.specs.texts.JsonData.{optional_member, text_member};
-ghost use Rattle.sslist_lister.specs.texts.JsonWriting.{AddsMembers, AddsTokens, KeepsText};
+ghost use Rattle.sslist_lister.specs.texts.JsonWriting.{AddsMembers, AddsTokens, KeepsTextBefore};
 
 use byteorder::{ByteOrder, LittleEndian};
 use json::Writer;
@@ -19,7 +19,7 @@ use std::net::IpAddr;
 
 /// Writes the name of a member whose value is an object, and begins the object.
 pub(crate) fn begin_member(writer: &mut Writer, name: &str) -> Result<(), AllocError>
-    ensures before { KeepsText result writer.old writer.new }
+    ensures before { KeepsTextBefore result writer.old writer.new }
     ensures tokens { AddsTokens result writer.old writer.new (key name.now ∷ begin_object ∷ []) }
 {
     writer.key(name)?;
@@ -29,7 +29,7 @@ pub(crate) fn begin_member(writer: &mut Writer, name: &str) -> Result<(), AllocE
 /// Writes a member whose value is a string.
 #[tactic(auto, unfolding(crate::specs::texts::JsonData::text_member, crate::specs::texts::JsonWriting::members_tokens))]
 pub(crate) fn write_text(writer: &mut Writer, name: &str, text: &str) -> Result<(), AllocError>
-    ensures before { KeepsText result writer.old writer.new }
+    ensures before { KeepsTextBefore result writer.old writer.new }
     ensures members { AddsMembers result writer.old writer.new (text_member name.now text.now) }
 {
     writer.key(name)?;
@@ -38,7 +38,7 @@ pub(crate) fn write_text(writer: &mut Writer, name: &str, text: &str) -> Result<
 
 /// Writes members whose values are numbers: a name and a number for each row.
 pub(crate) fn write_numbers(writer: &mut Writer, rows: &[(&str, u64)]) -> Result<(), AllocError>
-    ensures before { KeepsText result writer.old writer.new }
+    ensures before { KeepsTextBefore result writer.old writer.new }
     ensures members { AddsMembers result writer.old writer.new
         (number_members (map (λ row. (row.0.now, row.1)) rows.now)) }
 {
@@ -47,7 +47,7 @@ pub(crate) fn write_numbers(writer: &mut Writer, rows: &[(&str, u64)]) -> Result
 
 /// Writes the tokens of each row: a name and a number.
 fn write_rows(writer: &mut Writer, rows: &[(&str, u64)]) -> Result<(), AllocError>
-    ensures before { KeepsText result writer.old writer.new }
+    ensures before { KeepsTextBefore result writer.old writer.new }
     ensures tokens { AddsTokens result writer.old writer.new
         (flat_map (λ row. key row.0.now ∷ number (decimal row.1) ∷ []) rows.now) }
 {
@@ -65,7 +65,7 @@ pub(crate) fn write_optional(
     name: &str,
     value: Option<u64>,
 ) -> Result<(), AllocError>
-    ensures before { KeepsText result writer.old writer.new }
+    ensures before { KeepsTextBefore result writer.old writer.new }
     ensures members { AddsMembers result writer.old writer.new (optional_member name.now value) }
 {
     let Some(value) = value else {
@@ -78,7 +78,7 @@ pub(crate) fn write_optional(
 /// Writes a member whose value is `true` or `false`.
 #[tactic(auto, unfolding(crate::specs::texts::JsonData::flag_member, crate::specs::texts::JsonWriting::members_tokens))]
 pub(crate) fn write_flag(writer: &mut Writer, name: &str, flag: bool) -> Result<(), AllocError>
-    ensures before { KeepsText result writer.old writer.new }
+    ensures before { KeepsTextBefore result writer.old writer.new }
     ensures members { AddsMembers result writer.old writer.new (flag_member name.now flag) }
 {
     writer.key(name)?;
@@ -92,7 +92,7 @@ pub(crate) fn write_hex(
     name: &str,
     value: u64,
 ) -> Result<(), AllocError>
-    ensures before { KeepsText result writer.old writer.new }
+    ensures before { KeepsTextBefore result writer.old writer.new }
     ensures members { AddsMembers result writer.old writer.new (hex_member name.now value) }
 {
     let text = format!(in alloc; "{value:x}")?;
@@ -105,7 +105,7 @@ pub(crate) fn write_cookie(
     writer: &mut Writer,
     cookie: &[u8; 8],
 ) -> Result<(), AllocError>
-    ensures before { KeepsText result writer.old writer.new }
+    ensures before { KeepsTextBefore result writer.old writer.new }
     ensures members { AddsMembers result writer.old writer.new (cookie_member cookie.now) }
 {
     write_hex(alloc, writer, "cookie", LittleEndian::read_u64(cookie))
@@ -118,7 +118,7 @@ pub(crate) fn write_address(
     name: &str,
     address: IpAddr,
 ) -> Result<(), AllocError>
-    ensures before { KeepsText result writer.old writer.new }
+    ensures before { KeepsTextBefore result writer.old writer.new }
     ensures members { AddsMembers result writer.old writer.new (address_member name.now address) }
 {
     let text = format!(in alloc; "{address}")?;
@@ -135,7 +135,7 @@ pub(crate) fn write_bytes(
     hex_name: &str,
     bytes: &[u8],
 ) -> Result<(), AllocError>
-    ensures before { KeepsText result writer.old writer.new }
+    ensures before { KeepsTextBefore result writer.old writer.new }
     ensures members { AddsMembers result writer.old writer.new
         (bytes_member name.now hex_name.now bytes.now) }
 {
