@@ -1,8 +1,6 @@
-//! The tests of the libraries of sock_diag(7): the port, its extensions, and the examples.
+//! The tests of the libraries of sock_diag(7): the port and its extensions.
 #![tactic(auto)]
 
-#[cfg(test)]
-mod examples;
 #[cfg(test)]
 mod extensions;
 #[cfg(test)]

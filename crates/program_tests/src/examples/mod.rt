@@ -1,7 +1,6 @@
 //! Tests of `sock_diag_examples`, for functions that allocate or have no contract.
 
 use self::ported::add_paths;
-use crate::port::shows;
 use netlink_core::{DecodeError, DefaultNla, Emitable, Parseable};
 use netlink_packet_sock_diag::unix::UnixResponse;
 use sock_diag_examples::link::{LinkError, attribute_key, parse_link};
@@ -54,6 +53,12 @@ const REQUEST: [u8; 40] = [
     40, 0, 0, 0, 20, 0, 1, 3, 7, 0, 0, 0, 0, 0, 0, 0, 1, 0, 0, 0, 2, 4, 0, 0, 0, 0, 0, 0, 1, 0, 0,
     0, 0, 0, 0, 0, 0, 0, 0, 0,
 ];
+
+/// Asserts that `Debug` prints the value as this text.
+fn shows<T: Debug>(rt: &impl Abort, alloc: Global, value: &T, text: &str) {
+    let shown = format!(in alloc; "{value:?}").expect(rt, "memory");
+    assert!(rt; shown.as_str() == text, "{shown}");
+}
 
 #[test]
 fn replies_are_stored_by_canonical_form(rt: HostRuntime) {
