@@ -1,33 +1,20 @@
 -- Iterating over all bytes and checking each attribute yields the values of the bytes, or ends with
 -- their first error.
-use Rattle.std.proofs.Common.{Option, Result, Ok, Err, Some, ◌≡◌, List, [], ◌∷◌}
+use Rattle.std.proofs.Common.{Err, Some, ◌≡◌, List, [], ◌∷◌}
 use Rattle.std.specs.Prelude.{map}
 use Rattle.std.specs.Iterator.{Drains, YieldsThen}
 use Rattle.netlink_core.specs.declared.error.DecodeError.{DecodeError}
-use Rattle.netlink_core.specs.Attribute.{Attribute, StartsWithAttribute, DecodeTo}
-use Rattle.netlink_core.specs.Attribute.{IsFirstAttributeError, HasAttributeError}
+use Rattle.netlink_core.specs.Attribute.{DecodeTo, HasAttributeError}
 use Rattle.netlink_core.specs.AttributeSet.{AttributeSet, AttributeValue, decode_attribute}
-use Rattle.netlink_core.specs.IteratorStep.{YieldsPart}
+use Rattle.netlink_core.specs.IteratorStep.{items_without_errors}
 use Rattle.netlink_core.specs.Walk.{unread_bytes}
 use Rattle.netlink_core.proofs.Iterating.{error_of_rest, error_of_first_attribute}
+use Rattle.attribute_lists.specs.CheckedModel.{YieldsDecoded}
 use Rattle.attribute_lists.specs.declared.checked.CheckedNlas.{CheckedNlas}
-
--- a step of the iterator yields a value, the first error, or `None`
-abbrev YieldsDecoded : {V : Type 0} → (F : AttributeSet) → (V → AttributeValue F) → CheckedNlas V
-    → Option (Result V DecodeError) → CheckedNlas V → Type 0
-YieldsDecoded F model old given new =
-    YieldsPart (λ left view later. (a : Attribute) × StartsWithAttribute left a later
-    × (decode_attribute F a ≡ Ok (model view))) (IsFirstAttributeError (decode_attribute F))
-    (unread_bytes old.walk) given
-    (unread_bytes new.walk)
-
--- items without errors
-abbrev checked_items_without_errors : {V : Type 0} → List V → List (Result V DecodeError)
-checked_items_without_errors {V} given = map (λ (v : V). Ok v) given
 
 module _ {V : Type 0} (F : AttributeSet) (model : V → AttributeValue F) where
   pub checked_items_are_all : (walk : CheckedNlas V) (given : List V)
-      → Drains (YieldsDecoded F model) walk (checked_items_without_errors given)
+      → Drains (YieldsDecoded F model) walk (items_without_errors given)
       → DecodeTo (decode_attribute F) (unread_bytes walk.walk) (map model given)
   checked_items_are_all walk [] h = ([], rw h.1.1 h.1.2.0, tt)
   checked_items_are_all walk (g ∷ given) h =
@@ -39,7 +26,7 @@ module _ {V : Type 0} (F : AttributeSet) (model : V → AttributeValue F) where
       )
 
   pub checked_items_before_error : (walk last : CheckedNlas V) (given : List V) (e : DecodeError)
-      → YieldsThen (YieldsDecoded F model) walk (checked_items_without_errors given)
+      → YieldsThen (YieldsDecoded F model) walk (items_without_errors given)
       (Some (Err e)) last
       → HasAttributeError (decode_attribute F) (unread_bytes walk.walk) e
       × (unread_bytes last.walk ≡ [])

@@ -3,5 +3,4 @@ pub mod FirstAttribute
 pub mod Checking
 pub mod SecondAttributeSet
 mod EncodedAttributes
-mod Emitting
 mod Measuring

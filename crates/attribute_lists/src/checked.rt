@@ -1,13 +1,9 @@
 //! An iterator that checks the attributes of a reply as it yields them.
 
-ghost use Rattle.std.specs.Prelude.{◌≡◌, ◌+◌, ◌/◌, length, None, IfSome, Ok};
+ghost use Rattle.std.specs.Prelude.{◌≡◌, ◌+◌, ◌/◌, length, None, IfSome};
 ghost use Rattle.std.specs.Iterator.{UpTo, at_most};
 ghost use Rattle.std.specs.Iterator.SizeHint.{IsWithinCount};
-ghost use Rattle.netlink_core.specs.Attribute.{Attribute, IsFirstAttributeError};
-ghost use Rattle.netlink_core.specs.Attribute.{StartsWithAttribute};
-ghost use Rattle.netlink_core.specs.AttributeSet.{decode_attribute};
-ghost use Rattle.netlink_core.specs.IteratorStep.{YieldsPart};
-ghost use Rattle.attribute_lists.specs.CheckedModel.{unchecked_bytes};
+ghost use Rattle.attribute_lists.specs.CheckedModel.{YieldsDecoded, unchecked_bytes};
 
 use netlink_core::{DecodeError, FamilyView, NlasIterator};
 use std::marker::PhantomData;
@@ -40,18 +36,14 @@ impl<'a, V> CheckedNlas<'a, V> {
 impl<'a, V: FamilyView<'a>> Iterator for CheckedNlas<'a, V> {
     type Item = Result<V, DecodeError>;
 
-    // YieldsPart starts faulty left given later: a step yields `given`; `left` are the bytes that
-    // are not read before it, and `later` those after it. Here it yields the value of the attribute
-    // at the start of `left` (`starts`), and the bytes after its padding are left then. Or it
-    // yields the first error of `left` (`faulty`), and no bytes are left. Or it yields `None`, and
-    // no bytes were left.
-    ghost next_gives = { λ old given new. YieldsPart
-        (λ left view later. (a : Attribute) × StartsWithAttribute left a later
-        × (decode_attribute V.attribute_set a ≡ Ok (V.model view)))
-        (IsFirstAttributeError (decode_attribute V.attribute_set)) (unchecked_bytes old) given
-        (unchecked_bytes new) };
+    // YieldsDecoded set model old item new: a call of `next` returns `item`, and leads from `old`
+    // to `new`. The item is what the first attribute of the bytes that are left decodes to by the
+    // set; then the bytes after its padding are left. Or it is the first error of these bytes; then
+    // no bytes are left. Or it is `None`, and no bytes were left.
+    ghost next_gives = { YieldsDecoded V.attribute_set V.model };
 
-    // At most one item for each four bytes, rounded up.
+    // At most one item for each four bytes that are left, rounded up, since an attribute has at
+    // least 4 bytes and an error is the last item.
     ghost remaining = { λ nlas. at_most ((length (unchecked_bytes nlas) + 3) / 4) };
 
     /// Returns the value of the attribute at the start of the bytes that are left, and continues
@@ -64,22 +56,24 @@ impl<'a, V: FamilyView<'a>> Iterator for CheckedNlas<'a, V> {
             Ok(nla) => nla,
             Err(error) => return Some(Err(error)),
         };
-        let read = V::read_view(&nla);
-        if read.is_err() {
+        let view = V::read_view(&nla);
+        if view.is_err() {
+            // An error is the last item: no bytes are left.
             self.walk = NlasIterator::new(&[]);
         }
-        Some(read)
+        Some(view)
     }
 
     /// Returns `(0, None)`: the number of items is known only after iterating.
     fn size_hint(&self) -> (usize, Option<usize>)
-        // IsWithinCount n c: `n` is at most the bound `c`. UpTo c n: the bound `c` is at most `n`.
-        // Both follow from `unknown`.
+        ensures unknown { result ≡ (0, None) }
+        // The clauses of the trait follow from `unknown`: the lower bound is at most the number of
+        // items (`IsWithinCount`), and the upper one, if there is one, at least this number
+        // (`UpTo`). `at_most n`: of this number only the bound `n` is known.
         ensures lower { IsWithinCount result.0
             (at_most ((length (unchecked_bytes self.now) + 3) / 4)) }
         ensures upper { IfSome result.1
             (UpTo (at_most ((length (unchecked_bytes self.now) + 3) / 4))) }
-        ensures unknown { result ≡ (0, None) }
     {
         (0, None)
     }

@@ -9,12 +9,12 @@ ghost use Rattle.attribute_lists.specs.AttributesIn.{HasNoAttributeError, decode
 use netlink_core::FamilyNla;
 
 /// In bytes without an error, the values that are found (`decoded_in`) are exactly the values that
-/// the attributes of the bytes decode to, in order. The attributes that are found undecoded, in the
-/// empty set of types, are exactly the attributes of the bytes.
+/// the attributes of the bytes decode to, in order (`decoded`). By the empty set of types, in which
+/// each attribute decodes to itself, they are exactly the attributes of the bytes (`undecoded`).
 pub fn found_values_are_the_attributes<T: FamilyNla>()
     // decoded_in decode bytes: the values that are found by the length fields. DecodeTo decode
-    // bytes values: the bytes are split into attributes without a rest, and these decode to the
-    // values. HasNoAttributeError decode bytes: neither the framing nor a value has an error.
+    // bytes values: the bytes are split into attributes without any bytes left, and these decode to
+    // the values. HasNoAttributeError decode bytes: neither the framing nor a value has an error.
     ensures decoded { (bytes : List ℕ) (values : List (AttributeValue T.attribute_set))
         → IsBytes bytes → HasNoAttributeError (decode_attribute T.attribute_set) bytes
         → ((decoded_in (decode_attribute T.attribute_set) bytes ≡ values)

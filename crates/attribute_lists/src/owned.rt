@@ -5,7 +5,7 @@ ghost use Rattle.std.specs.Prelude.{◌≡◌, ◌≤◌, ◌++◌, ◌∷◌, [
 ghost use Rattle.std.specs.Prelude.{OnErr, SomeIff};
 ghost use Rattle.std.specs.List.{AllByRecursion, flat_map};
 ghost use Rattle.netlink_core.specs.Bytes.{HoldsAtStart};
-ghost use Rattle.netlink_core.specs.Attribute.{AreWritableWithin, attribute_bytes};
+ghost use Rattle.netlink_core.specs.Attribute.{AreWritable, AreWritableWithin, attribute_bytes};
 ghost use Rattle.netlink_core.specs.AttributeSet.{AttributeValue, decode_attribute};
 ghost use Rattle.netlink_core.specs.AttributeSet.{encode_attribute, NeedsNoMemoryIn, IsInRangeIn};
 ghost use Rattle.netlink_core.specs.Walk.{buffered_attribute};
@@ -21,8 +21,10 @@ use std::default::MadeWith;
 /// allocation fails, and never for up to eight attributes that need no memory.
 #[tactic(auto, using(std::proofs::lemmas::List::map_push))]
 pub fn copy_nlas<T: FamilyNla>(alloc: Global, nlas: &[T]) -> Result<SmallVec<T, 8>, AllocError>
+    // map T.model nlas: what the attributes decode to by the family's set, in order.
     ensures equal { IfOk result (λ copy. map T.model copy.items ≡ map T.model nlas.now) }
-    // T.model: what an attribute decodes to. NeedsNoMemoryIn set value: the value is of a type
+    // If there are at most eight attributes, and each needs no memory, the call does not fail: the
+    // list has space for 8 without an allocation. NeedsNoMemoryIn set value: the value is of a type
     // whose values are stored without an allocation. A raw attribute never is.
     ensures needs_no_memory { length nlas.now ≤ 8
         → AllByRecursion (NeedsNoMemoryIn T.attribute_set) (map T.model nlas.now)
@@ -50,13 +52,17 @@ pub fn own_nlas<T: FamilyNla>(
     count: usize,
     nlas: &mut SmallVec<T, 8>,
 ) -> Result<(), AllocError>
+    // decode_attribute set: the decoder of one attribute, by the family's set of attribute types.
     // HasNoAttributeError decode bytes: neither the framing nor a value has an error. decoded_in
     // decode bytes: what the attributes in the bytes decode to, in order.
     requires clean { HasNoAttributeError (decode_attribute T.attribute_set) bytes.now }
     requires count { count ≡ length (decoded_in (decode_attribute T.attribute_set) bytes.now) }
     requires empty { nlas.old.items ≡ [] }
+    // map T.model nlas: what the attributes in the list decode to.
     ensures equal { OnOk result (map T.model nlas.new.items
         ≡ decoded_in (decode_attribute T.attribute_set) bytes.now) }
+    // If the list has capacity for all attributes, and each needs no memory, the call does not
+    // fail. NeedsNoMemoryIn set value: the value is stored without an allocation.
     ensures needs_no_memory { count ≤ nlas.old.capacity
         → AllByRecursion (NeedsNoMemoryIn T.attribute_set)
         (decoded_in (decode_attribute T.attribute_set) bytes.now)
@@ -67,6 +73,7 @@ pub fn own_nlas<T: FamilyNla>(
     }
     for item in NlasIterator::new(bytes) {
         let Ok(nla) = item else {
+            // The bytes have no error (`clean`).
             unreachable!();
         };
         push_accepted(alloc, &nla, nlas)?;
@@ -74,20 +81,28 @@ pub fn own_nlas<T: FamilyNla>(
     Ok(())
 }
 
-// Appends an attribute that is known to be accepted to a list that has capacity for it. The large
-// kind has its own branch, so that the other kinds reserve no stack for its value.
+// Appends an attribute to a list. The set of the family must accept the attribute, and the list
+// must have capacity for one more. Fails only if an allocation fails, and never for a value that
+// needs no memory. If the call fails, the list is unchanged. The large kind has its own branch, so
+// that the other kinds reserve no stack for its value.
 #[inline(always)]
 fn push_accepted<T: FamilyNla>(
     alloc: Global,
     nla: &NlaBuffer<'_>,
     nlas: &mut SmallVec<T, 8>,
 ) -> Result<(), AllocError>
+    // decode_attribute set attribute: `Ok` of the decoded value, or `Err` of the value's error.
+    // buffered_attribute: the type field and the value of `nla`.
     requires accepted { IsOk (decode_attribute T.attribute_set (buffered_attribute nla.now)) }
+    // HasRoomFor list n: the list has capacity for `n` more elements.
     requires room { HasRoomFor nlas.old 1 }
+    // One element was appended (`own`), and it is what the attribute decodes to.
     ensures pushed { OnOk result ((own : T) × (nlas.new.items ≡ nlas.old.items ++ own ∷ [])
         × (decode_attribute T.attribute_set (buffered_attribute nla.now) ≡ Ok (T.model own))) }
     ensures capacity { nlas.new.capacity ≡ nlas.old.capacity }
     ensures kept { OnErr result (nlas.new ≡ nlas.old) }
+    // If the attribute decodes to a value that needs no memory (NeedsNoMemoryIn set value), the
+    // call does not fail.
     ensures needs_no_memory { (value : AttributeValue T.attribute_set)
         → decode_attribute T.attribute_set (buffered_attribute nla.now) ≡ Ok value
         → NeedsNoMemoryIn T.attribute_set value → IsOk result }
@@ -99,7 +114,8 @@ fn push_accepted<T: FamilyNla>(
     Ok(())
 }
 
-// Reserves capacity in an empty list. Out of line, to keep moving the list off the hot path.
+// Reserves capacity for `count` elements in an empty list, which stays empty. Fails only if an
+// allocation fails. Out of line, to keep moving the list off the hot path.
 #[cold]
 #[inline(never)]
 fn make_room<T: MadeWith<Global> + Drop>(
@@ -117,10 +133,11 @@ fn make_room<T: MadeWith<Global> + Drop>(
 /// `None` if a value does not fit its length field, that is, has more than 65,531 bytes, or if the
 /// attributes have more than `limit` bytes.
 pub fn values_len_within<T: FamilyNla>(nlas: &[T], limit: usize) -> Option<usize>
-    // `attributes`: what the attributes serialize as (`encode_attribute`). SomeIff o p v: `o` is
-    // `Some v` if `p` holds, else `None`. AreWritableWithin attributes limit: each value fits its
-    // length field, and all attributes with headers and paddings have at most `limit` bytes.
-    // flat_map attribute_bytes: the bytes of all attributes, concatenated.
+    // T.model: what an attribute decodes to. `attributes`: what these decoded values serialize as
+    // (`encode_attribute`). SomeIff option condition value: the option is `Some value` if the
+    // condition holds, else `None`. AreWritableWithin attributes limit: each value fits its length
+    // field, and all attributes with headers and paddings have at most `limit` bytes. flat_map
+    // attribute_bytes: the bytes of all attributes, concatenated.
     ensures { let attributes = map (encode_attribute T.attribute_set) (map T.model nlas.now) in
         SomeIff result (AreWritableWithin attributes limit)
         (length (flat_map attribute_bytes attributes)) }
@@ -130,10 +147,11 @@ pub fn values_len_within<T: FamilyNla>(nlas: &[T], limit: usize) -> Option<usize
 
 /// Returns the number of bytes that the attributes serialize to, with headers and paddings. Each
 /// value must fit its length field, and all attributes must have at most 4,294,967,295 bytes
-/// (`AreWritableWithin`).
+/// (`AreWritable`).
 pub fn values_len<T: FamilyNla>(nlas: &[T]) -> usize
-    requires { AreWritableWithin (map (encode_attribute T.attribute_set) (map T.model nlas.now))
-        4294967295 }
+    // map (encode_attribute set) (map T.model nlas): what the attributes serialize as.
+    requires { AreWritable (map (encode_attribute T.attribute_set) (map T.model nlas.now)) }
+    // flat_map attribute_bytes: the bytes of all attributes, concatenated.
     ensures { result ≡ length
         (flat_map attribute_bytes (map (encode_attribute T.attribute_set) (map T.model nlas.now))) }
 {
@@ -142,19 +160,20 @@ pub fn values_len<T: FamilyNla>(nlas: &[T]) -> usize
 
 /// Serializes the attributes, in order and each with zeros as its padding, to the start of the
 /// buffer. The bytes after them are unchanged. Each value must fit its length field, all attributes
-/// must have at most 4,294,967,295 bytes (`AreWritableWithin`), and the buffer must be at least as
+/// must have at most 4,294,967,295 bytes (`AreWritable`), and the buffer must be at least as
 /// long as they are.
 pub fn emit_values<T: FamilyNla>(nlas: &[T], buffer: &mut [u8])
-    requires fits { AreWritableWithin
-        (map (encode_attribute T.attribute_set) (map T.model nlas.now)) 4294967295 }
+    // map (encode_attribute set) (map T.model nlas): what the attributes serialize as.
+    requires fits { AreWritable (map (encode_attribute T.attribute_set) (map T.model nlas.now)) }
+    // flat_map attribute_bytes: the bytes of all attributes, concatenated.
     requires room { length (flat_map attribute_bytes
         (map (encode_attribute T.attribute_set) (map T.model nlas.now)))
         ≤ length buffer.old }
-    // HoldsAtStart bytes old new: `new` is `bytes`, and then `old` from this offset on.
+    // HoldsAtStart bytes old new: `new` is `bytes`, and then what `old` has after as many bytes.
     ensures written { HoldsAtStart (flat_map attribute_bytes (map (encode_attribute T.attribute_set)
         (map T.model nlas.now))) buffer.old buffer.new }
     // IsInRangeIn set value: each number of the decoded value fits its field. This is so for all
-    // Rust values.
+    // Rust values; it is stated for the laws.
     ensures in_range { AllByRecursion (IsInRangeIn T.attribute_set) (map T.model nlas.now) }
 {
     emit_nlas(nlas, buffer);

@@ -1,20 +1,22 @@
 //! The borrowed attributes of a reply.
 
-ghost use Rattle.std.specs.Prelude.{◌≡◌, ◌≤◌, ◌↔◌, ◌+◌, ◌-◌, length, map, Err, OnOk, IfOk, IfErr};
+ghost use Rattle.std.specs.Prelude.{◌≡◌, ◌≤◌, ◌↔◌, ◌+◌, ◌-◌, length, Err, OnOk, IfOk, IfErr};
 ghost use Rattle.std.specs.Prelude.{IsSome, IfSome, None, Some, SomeIff, MatchOption};
 ghost use Rattle.std.specs.List.{AllByRecursion, flat_map};
 ghost use Rattle.std.specs.Iterator.{YieldsFirstBy};
 ghost use Rattle.netlink_core.specs.Bytes.{HoldsAtStart};
-ghost use Rattle.netlink_core.specs.Attribute.{AreWritableWithin, HasAttributeError};
+ghost use Rattle.netlink_core.specs.Attribute.{AreWritable, HasAttributeError};
 ghost use Rattle.netlink_core.specs.Attribute.{FitsLengthField, attribute_bytes};
-ghost use Rattle.netlink_core.specs.AttributeSet.{decode_attribute, encode_attribute};
+ghost use Rattle.netlink_core.specs.AttributeSet.{decode_attribute};
 ghost use Rattle.netlink_core.specs.Walk.{unread_bytes};
 ghost use Rattle.attribute_lists.specs.AttributesIn.{HasNoAttributeError, decoded_in};
+ghost use Rattle.attribute_lists.specs.AttributesIn.{IsLengthWithin, encoded_attributes_in};
+ghost use Rattle.attribute_lists.specs.AttributesIn.{unread_values};
 
 use netlink_core::{DecodeError, FamilyView, Nla, NlasIterator, emit_nla, nla_len};
 
-/// Checks the framing and the value of each attribute and returns how many attributes there are, or
-/// returns the first error. Does not allocate.
+/// Checks the framing and the value of each attribute. Returns how many attributes there are, or
+/// the first error. Does not allocate.
 #[inline(always)]
 pub fn check_nlas<'a, V: FamilyView<'a> + Drop>(bytes: &'a [u8]) -> Result<usize, DecodeError>
     // decode_attribute set: the decoder of one attribute, by the family's set of attribute types.
@@ -35,11 +37,11 @@ pub fn check_nlas<'a, V: FamilyView<'a> + Drop>(bytes: &'a [u8]) -> Result<usize
     }
 }
 
-/// Checks the framing and the value of each attribute and returns how many attributes there are, or
-/// returns the first error. If a limit is given, it also returns the number of bytes that the
-/// attributes serialize to, with headers and paddings, or `None` if a value does not fit its length
-/// field (it serializes to more than 65,531 bytes) or if this number is above the limit. If no
-/// limit is given, the second part is `None`. Does not allocate.
+/// Checks the framing and the value of each attribute. Returns the first error, or a pair. Its
+/// first part is the number of attributes. Its second part is the number of bytes that the
+/// attributes serialize to, with headers and paddings. The second part is `None` if a value
+/// serializes to more than 65,531 bytes and so does not fit its length field, if the number is
+/// above the limit, or if no limit is given. Does not allocate.
 // A caller passes a constant `None` to count only: inlined, it then measures nothing.
 #[tactic(auto, using(crate::proofs::Finding::attributes_without_error_rules))]
 #[inline(always)]
@@ -47,27 +49,28 @@ pub fn check_nlas_len<'a, V: FamilyView<'a> + Drop>(
     bytes: &'a [u8],
     limit: Option<usize>,
 ) -> Result<(usize, Option<usize>), DecodeError>
-    // `found.0` is the number of attributes, and `found.1` the number of bytes.
-    // HasNoAttributeError, decoded_in and HasAttributeError are explained at `check_nlas`.
+    // decode_attribute set: the decoder of one attribute, by the family's set of attribute types.
+    // HasNoAttributeError decode bytes: neither the framing nor a value has an error.
     ensures clean { OnOk result (HasNoAttributeError
         (decode_attribute V.attribute_set) bytes.entry.now) }
+    // `found` is the returned pair: the number of attributes (`found.0`), and the number of bytes
+    // (`found.1`). decoded_in decode bytes: what the attributes in the bytes decode to, in order.
     ensures count { IfOk result
         (λ found. found.0
         ≡ length (decoded_in (decode_attribute V.attribute_set) bytes.entry.now)) }
-    // `attributes`: what the attributes serialize as (`encode_attribute`). MatchOption o p Q: `p`
-    // if `o` is `None`, and `Q v` if `o` is `Some v`. SomeIff o p v: `o` is `Some v` if `p` holds,
-    // else `None`. AreWritableWithin attributes limit: each value fits its length field, and all
-    // attributes with headers and paddings have at most `limit` bytes. flat_map attribute_bytes:
-    // the bytes of all attributes, concatenated.
-    ensures len { let attributes = map (encode_attribute V.attribute_set)
-        (decoded_in (decode_attribute V.attribute_set) bytes.entry.now) in
-        IfOk result (λ found. MatchOption limit (found.1 ≡ None) (λ limit.
-        SomeIff found.1 (AreWritableWithin attributes limit)
-        (length (flat_map attribute_bytes attributes)))) }
+    // encoded_attributes_in set bytes: what the attributes in the bytes serialize as, once decoded.
+    // IsLengthWithin limit attributes len: `len` is `Some` of the number of their bytes, or `None`
+    // if a value does not fit its length field, if the number is above the limit, or if there is no
+    // limit.
+    ensures len { let attributes = encoded_attributes_in V.attribute_set bytes.entry.now in
+        IfOk result (λ found. IsLengthWithin limit attributes found.1) }
+    // HasAttributeError decode bytes e: `e` is the first error, which only accepted attributes
+    // precede.
     ensures error { IfErr result (HasAttributeError
         (decode_attribute V.attribute_set) bytes.entry.now) }
 {
     let mut count = 0;
+    // What is left of the limit: `None` if there is no limit, or once an attribute does not fit.
     let mut room = limit;
     for item in NlasIterator::new(bytes) {
         let view = V::read_view(&item?)?;
@@ -77,10 +80,15 @@ pub fn check_nlas_len<'a, V: FamilyView<'a> + Drop>(
     Ok((count, used(limit, room)))
 }
 
-// Returns the room that is left after one more attribute is serialized, or `None` if it does not
-// fit.
+// Returns the number of bytes that are left of `room` after one more attribute. Returns `None` if
+// the attribute has more bytes than that, if its value does not fit its length field, or if `room`
+// is already `None`.
 #[inline(always)]
 fn room_after<V: Nla>(view: &V, room: Option<usize>) -> Option<usize>
+    // MatchOption option p Q: `p` if the option is `None`, and `Q v` if it is `Some v`. So if
+    // `room` is a number, the result is this number minus the length of the attribute, if the value
+    // fits its length field (FitsLengthField) and the attribute is not longer than `room`, else
+    // `None`. attribute_bytes: the header, the value and the padding.
     ensures { MatchOption room (result ≡ None) (λ room.
         SomeIff result (FitsLengthField (V.attribute view.now)
         × (length (attribute_bytes (V.attribute view.now)) ≤ room))
@@ -92,10 +100,14 @@ fn room_after<V: Nla>(view: &V, room: Option<usize>) -> Option<usize>
     }
 }
 
-// Returns how much of the limit is used if this room is left of it.
+// Returns how many bytes of the limit are used if `room` is left of it, or `None` if either is
+// `None`. The room must not be above the limit.
 #[inline(always)]
 fn used(limit: Option<usize>, room: Option<usize>) -> Option<usize>
+    // If both are `Some`, the room is at most the limit.
     requires { IfSome limit (λ limit. IfSome room (λ room. room ≤ limit)) }
+    // MatchOption option p Q: `p` if the option is `None`, and `Q v` if it is `Some v`. So the
+    // result is `None` if one of both is, else the difference.
     ensures { MatchOption limit (result ≡ None) (λ limit.
         MatchOption room (result ≡ None) (λ room. result ≡ Some (limit - room))) }
 {
@@ -111,14 +123,14 @@ fn used(limit: Option<usize>, room: Option<usize>) -> Option<usize>
 #[tactic(auto, using(crate::proofs::Finding::attributes_without_error_rules))]
 #[inline(always)]
 pub fn next_view<'a, V: FamilyView<'a>>(walk: &mut NlasIterator<'a>) -> Option<V>
-    // unread_bytes: the bytes that the iterator has not read yet.
+    // HasNoAttributeError decode bytes: neither the framing nor a value has an error.
+    // decode_attribute set: the decoder by the family's set of attribute types. unread_bytes: the
+    // bytes that the iterator has not read yet.
     requires { HasNoAttributeError (decode_attribute V.attribute_set) (unread_bytes walk.old) }
-    // YieldsFirstBy model rest old result new: `rest old` is the model of the result and then `rest
-    // new`; if the result is `None`, both are empty. `rest` is what the attributes in the bytes
-    // that are left decode to, in order.
-    ensures next { YieldsFirstBy V.model (λ s.
-        decoded_in (decode_attribute V.attribute_set) (unread_bytes s)) walk.old
-        result walk.new }
+    // YieldsFirstBy model rest old result new: `rest old` is the model of the result and then
+    // `rest new`; if the result is `None`, both are empty. Here `rest` is unread_values set: what
+    // the attributes in the bytes that are left decode to, in order.
+    ensures next { YieldsFirstBy V.model (unread_values V.attribute_set) walk.old result walk.new }
     ensures rest { HasNoAttributeError (decode_attribute V.attribute_set) (unread_bytes walk.new) }
 {
     match walk.next_accepted() {
@@ -127,24 +139,25 @@ pub fn next_view<'a, V: FamilyView<'a>>(walk: &mut NlasIterator<'a>) -> Option<V
     }
 }
 
-/// Returns the number of bytes that a header of `header` bytes and the attributes in the bytes
+/// Returns the number of bytes that a header of `header_len` bytes and the attributes in the bytes
 /// serialize to. Returns `None` if a value does not fit its length field or the whole has more than
 /// 4,294,967,295 bytes. The bytes must have no error, neither in the framing nor in a value, and
 /// the header by itself at most 4,294,967,295 bytes.
-pub fn views_len<'a, V: FamilyView<'a> + Drop>(header: usize, bytes: &'a [u8]) -> Option<usize>
+pub fn views_len<'a, V: FamilyView<'a> + Drop>(header_len: usize, bytes: &'a [u8]) -> Option<usize>
+    // HasNoAttributeError decode bytes: neither the framing nor a value has an error.
+    // decode_attribute set: the decoder by the family's set of attribute types.
     requires clean { HasNoAttributeError (decode_attribute V.attribute_set) bytes.now }
-    requires small { header ≤ 4294967295 }
-    // `attributes`: what the attributes in the bytes serialize as (`encode_attribute`).
-    // FitsLengthField: a value has at most 65,531 bytes.
-    ensures fits { let attributes = map (encode_attribute V.attribute_set)
-        (decoded_in (decode_attribute V.attribute_set) bytes.entry.now) in
+    requires small { header_len ≤ 4294967295 }
+    // encoded_attributes_in set bytes: what the attributes in the bytes serialize as, once decoded.
+    // FitsLengthField: a value has at most 65,531 bytes. flat_map attribute_bytes attributes: the
+    // bytes of all attributes, concatenated.
+    ensures fits { let attributes = encoded_attributes_in V.attribute_set bytes.entry.now in
         IsSome result ↔ (AllByRecursion FitsLengthField attributes
-        × (header + length (flat_map attribute_bytes attributes) ≤ 4294967295)) }
-    ensures len { let attributes = map (encode_attribute V.attribute_set)
-        (decoded_in (decode_attribute V.attribute_set) bytes.entry.now) in
-        IfSome result (λ len. len ≡ header + length (flat_map attribute_bytes attributes)) }
+        × (header_len + length (flat_map attribute_bytes attributes) ≤ 4294967295)) }
+    ensures len { let attributes = encoded_attributes_in V.attribute_set bytes.entry.now in
+        IfSome result (λ len. len ≡ header_len + length (flat_map attribute_bytes attributes)) }
 {
-    let mut len = header;
+    let mut len = header_len;
     let mut walk = NlasIterator::new(bytes);
     while let Some(view) = next_view::<V>(&mut walk) {
         if !view.value_fits() {
@@ -161,21 +174,21 @@ pub fn views_len<'a, V: FamilyView<'a> + Drop>(header: usize, bytes: &'a [u8]) -
 /// Serializes the attributes in the bytes, in order and each with zeros as its padding, to the
 /// start of the buffer. The bytes after them are unchanged. The bytes must have no error, neither
 /// in the framing nor in a value. Each value must fit its length field, all attributes must have at
-/// most 4,294,967,295 bytes (`AreWritableWithin`), and the buffer must be at least as long as they
-/// are.
+/// most 4,294,967,295 bytes (`AreWritable`), and the buffer must be at least as long as they are.
 pub fn emit_views<'a, V: FamilyView<'a> + Drop>(bytes: &'a [u8], buffer: &mut [u8])
+    // HasNoAttributeError decode bytes: neither the framing nor a value has an error.
+    // decode_attribute set: the decoder by the family's set of attribute types.
     requires clean { HasNoAttributeError (decode_attribute V.attribute_set) bytes.now }
-    requires fits { AreWritableWithin
-        (map (encode_attribute V.attribute_set)
-        (decoded_in (decode_attribute V.attribute_set) bytes.now)) 4294967295 }
-    requires room { length (flat_map attribute_bytes
-        (map (encode_attribute V.attribute_set)
-        (decoded_in (decode_attribute V.attribute_set) bytes.now)))
+    // encoded_attributes_in set bytes: what the attributes in the bytes serialize as, once decoded.
+    requires fits { AreWritable (encoded_attributes_in V.attribute_set bytes.now) }
+    // flat_map attribute_bytes attributes: the bytes of all attributes, concatenated.
+    requires room { length
+        (flat_map attribute_bytes (encoded_attributes_in V.attribute_set bytes.now))
         ≤ length buffer.old }
-    // HoldsAtStart bytes old new: `new` is `bytes`, and then `old` from this offset on.
-    ensures { HoldsAtStart (flat_map attribute_bytes
-        (map (encode_attribute V.attribute_set) (decoded_in
-        (decode_attribute V.attribute_set) bytes.entry.now))) buffer.old buffer.new }
+    // HoldsAtStart bytes old new: `new` is `bytes`, and then what `old` has after as many bytes.
+    ensures { HoldsAtStart
+        (flat_map attribute_bytes (encoded_attributes_in V.attribute_set bytes.entry.now))
+        buffer.old buffer.new }
 {
     let mut at = 0;
     let mut walk = NlasIterator::new(bytes);

@@ -7,7 +7,7 @@ use Rattle.std.proofs.lemmas.Map.Made.{Contains-tail}
 use Rattle.netlink_core.specs.AttributeSet.{AttributeSet, AttributeValue, ValueOfKind, inject}
 use Rattle.netlink_core.specs.AttributeSet.{project, value_as_decoded, value_of_kind, kind_numbers}
 
--- `A` is the type of the values on the left of a sum.
+-- `A` is the type of the values of the first type of a set.
 module _ (A : Type 0) where
   -- projecting from the side to which a value was injected yields the value
   project_of_injected : {B C : Type 0} (t : Bool) (make : B → C) (find : C

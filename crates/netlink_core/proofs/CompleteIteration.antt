@@ -1,6 +1,6 @@
 -- Iterating over all bytes yields the attributes that they are split into, up to the first framing
 -- error.
-use Rattle.std.proofs.Common.{arith, Result, Ok, Err, Some, ◌≡◌, List, [], ◌∷◌}
+use Rattle.std.proofs.Common.{arith, Err, Some, ◌≡◌, List, [], ◌∷◌}
 use Rattle.std.specs.Prelude.{map}
 use Rattle.std.specs.Iterator.{Drains, YieldsThen}
 use Rattle.netlink_core.specs.declared.error.DecodeError.{DecodeError}
@@ -8,11 +8,8 @@ use Rattle.netlink_core.specs.declared.attribute.NlaBuffer.{NlaBuffer}
 use Rattle.netlink_core.specs.declared.attribute.NlasIterator.{NlasIterator}
 use Rattle.netlink_core.specs.Attribute.{SplitsIntoAttributes, SplitsUntilError, IsFramingError}
 use Rattle.netlink_core.proofs.Iterating.{error_after_attribute}
+use Rattle.netlink_core.specs.IteratorStep.{items_without_errors}
 use Rattle.netlink_core.specs.Walk.{buffered_attribute, unread_bytes, YieldsAttribute}
-
--- items without errors
-abbrev pub items_without_errors : {B : Type 0} → List B → List (Result B DecodeError)
-items_without_errors given = map (λ item. Ok item) given
 
 pub drained_attributes_are_all : (walk : NlasIterator) (given : List NlaBuffer)
     → Drains YieldsAttribute walk (items_without_errors given)

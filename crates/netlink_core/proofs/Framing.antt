@@ -4,7 +4,7 @@ use Rattle.netlink_core.specs.declared.error.DecodeError.{DecodeError}
 use Rattle.netlink_core.specs.declared.error.DecodeError.TheVariants.{Memory}
 use Rattle.netlink_core.specs.declared.header.NetlinkHeader.{NetlinkHeader}
 use Rattle.netlink_core.specs.Bytes.{IsBytes}
-use Rattle.netlink_core.specs.Header.{HasHeader, IsMessageError}
+use Rattle.netlink_core.specs.Header.{HasHeader, IsMessageError, message_payload}
 use Rattle.netlink_core.specs.declared.message.NetlinkPayload.TheVariants.{Done, Error, Noop}
 use Rattle.netlink_core.specs.declared.message.NetlinkPayload.TheVariants.{Overrun, InnerMessage}
 use Rattle.netlink_core.specs.NetlinkMessage.{Payload, NetlinkMessageModel, IsInnerMessageType}
@@ -24,7 +24,7 @@ pub inner_error_is_outer_error : (C : Codec ℕ) (bytes : List ℕ) (h : Netlink
     (e : DecodeError)
     → HasHeader bytes h
     → IsInnerMessageType h.message_type
-    × C.rejects (take (h.length - 16) (drop 16 bytes)) h.message_type e
+    × C.rejects (message_payload bytes h) h.message_type e
     → (netlink_codec C).rejects bytes tt e
 inner_error_is_outer_error C bytes h e head error = inr (h, head, error.0, error.1)
 

@@ -14,7 +14,7 @@ use Rattle.netlink_core.specs.declared.error.DecodeError.TheVariants as errors
 use Rattle.netlink_core.specs.Bytes.{IsBytes}
 use Rattle.netlink_core.specs.Table.{FitFields, values_of}
 use Rattle.netlink_core.specs.Header.{header_fields, header_values, header_bytes}
-use Rattle.netlink_core.specs.Header.{HasHeader, IsMessageError}
+use Rattle.netlink_core.specs.Header.{HasHeader, IsMessageError, message_payload}
 use Rattle.netlink_core.proofs.Numbers.{masked-all}
 use Rattle.netlink_core.proofs.TableLaws.{AreConsecutiveFields, consecutive_from_test}
 use Rattle.netlink_core.proofs.TableLaws.{values-bytes_of, values-fit, values_and_bits}
@@ -113,7 +113,7 @@ message_has_header bytes message h head is =
 
 -- the payload of a message is all of its bytes after the header
 pub payload_after_header : (message : List ℕ) (h : NetlinkHeader) → h.length ≡ length message
-    → take (h.length - 16) (drop 16 message) ≡ take (length message - 16) (drop 16 message)
+    → message_payload message h ≡ take (length message - 16) (drop 16 message)
 payload_after_header message h size = ap (λ (n : ℕ). take (n - 16) (drop 16 message)) size
 
 -- the bytes that a header serializes to have its numbers in their fields, whatever follows
@@ -133,7 +133,7 @@ equal_by_header_bytes h k th tk e =
 pub begins_with_header : (h : NetlinkHeader) (payload rest : List ℕ)
     → FitFields header_fields (header_values h) → h.length ≡ 16 + length payload
     → HasHeader (header_bytes h ++ (payload ++ rest)) h
-    × (take (h.length - 16) (drop 16 (header_bytes h ++ (payload ++ rest))) ≡ payload)
+    × (message_payload (header_bytes h ++ (payload ++ rest)) h ≡ payload)
 begins_with_header h payload rest in_range size =
     grind (
       arith,

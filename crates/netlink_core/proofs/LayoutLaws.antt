@@ -31,7 +31,7 @@ pub record ParsesByFields {Param Tag Value : Type 0} (layout : Layout Param Tag 
     (left : List ℕ) (value : Value) : Type 0 where
   pub long : layout.least ≤ length left
   pub tag : Tag
-  pub tag_found : layout.tag_at param left ≡ Ok tag
+  pub tag_found : layout.tag_for param left ≡ Ok tag
   pub is : value ≡ layout.value tag (values_of (tag_fields layout tag) left)
 
 module _ {Param Tag Value : Type 0} (layout : Layout Param Tag Value) where
@@ -52,7 +52,7 @@ module _ {Param Tag Value : Type 0} (layout : Layout Param Tag Value) where
 
   -- bytes with a tag have the value of their fields
   pub parses_by_fields : (param : Param) (left : List ℕ) (tag : Tag)
-      → layout.tag_at param left ≡ Ok tag
+      → layout.tag_for param left ≡ Ok tag
       → parse_fields layout param left
       ≡ Ok (layout.value tag (values_of (tag_fields layout tag) left))
   parses_by_fields param left tag e = ap (parse_tagged left) e
@@ -66,9 +66,9 @@ module _ {Param Tag Value : Type 0} (layout : Layout Param Tag Value) where
   -- bytes that parse by their fields have a tag, and the value has their numbers
   pub parsed_fields : (param : Param) (left : List ℕ) (value : Value)
       → parse_fields layout param left ≡ Ok value
-      → (tag : Tag) × (layout.tag_at param left ≡ Ok tag)
+      → (tag : Tag) × (layout.tag_for param left ≡ Ok tag)
       × (value ≡ layout.value tag (values_of (tag_fields layout tag) left))
-  parsed_fields param left value e = parsed_has_tag (layout.tag_at param left) left value e
+  parsed_fields param left value e = parsed_has_tag (layout.tag_for param left) left value e
 
   -- bytes that parse are long enough and have a tag, and the value has their numbers
   pub parsed_by_fields : (param : Param) (left : List ℕ) (value : Value)
@@ -95,7 +95,7 @@ module _ {Param Tag Value : Type 0} (layout : Layout Param Tag Value)
     (sound : MeetsLayoutConditions layout) where
   -- the fields for the tag of bytes, or of a value, are consecutive
   parsed_fields_are_consecutive : (param : Param) (tag : Tag) (left : List ℕ)
-      → layout.tag_at param left ≡ Ok tag
+      → layout.tag_for param left ≡ Ok tag
       → AreConsecutiveFields 0 (tag_fields layout tag) (sound.size tag)
   parsed_fields_are_consecutive param tag left tag_found =
       grind (arith, consecutive_from_test 0)
@@ -115,7 +115,7 @@ module _ {Param Tag Value : Type 0} (layout : Layout Param Tag Value)
   -- bytes with a tag contain the value of their fields
   contains_parsed_value : (param : Param) (tag : Tag) (left : List ℕ) → IsBytes left
       → layout.least ≤ length left
-      → layout.tag_at param left ≡ Ok tag
+      → layout.tag_for param left ≡ Ok tag
       → IsContainedIn layout left param (layout.value tag (values_of (tag_fields layout tag) left))
   contains_parsed_value param tag left h long found =
       grind (arith, values-fit, values-defined)
@@ -199,14 +199,14 @@ module _ {Param Tag Value : Type 0} (layout : Layout Param Tag Value)
 
 -- the conditions on the layout of a record with the same rows for all values
 pub plain_sound : {Value : Type 0} {name : RecordName} {size : ℕ} {rows : List (Row Value)}
-    {value : List ℕ → Value} {is_shaped : Value → Type 0}
+    {value : List ℕ → Value} {arrays_fit : Value → Type 0}
     → IsTrue (fields_are_consecutive 0 (fields_of rows) size)
     → ((v : Value) → length (bytes_of (fields_of rows) (numbers_of rows v)) ≡ size)
     → ((left : List ℕ) → numbers_of rows (value (values_of (fields_of rows) left))
     ≡ values_of (fields_of rows) left)
-    → ((left : List ℕ) → is_shaped (value (values_of (fields_of rows) left)))
-    → ((v : Value) → is_shaped v → value (numbers_of rows v) ≡ v)
-    → MeetsLayoutConditions (plain name size rows value is_shaped)
+    → ((left : List ℕ) → arrays_fit (value (values_of (fields_of rows) left)))
+    → ((v : Value) → arrays_fit v → value (numbers_of rows v) ≡ v)
+    → MeetsLayoutConditions (plain name size rows value arrays_fit)
 plain_sound {size = size} rows_are long kept shaped back = record {
   size = λ tag. size;
   tables = λ param tag left e. rows_are;

@@ -14,7 +14,7 @@ module _ {Tag Value : Type 0} (layout : Layout (Unit {0}) Tag Value)
   -- bytes follow
   pub is_prefix_codec : {size : ℕ} → HasFixedSize layout size
       → ((tag : Tag) (left rest : List ℕ) → layout.least ≤ length left
-      → layout.tag_at tt left ≡ Ok tag → layout.tag_at tt (left ++ rest) ≡ Ok tag)
+      → layout.tag_for tt left ≡ Ok tag → layout.tag_for tt (left ++ rest) ≡ Ok tag)
       → IsPrefixCodec (value_codec layout) size
   is_prefix_codec fixed goes_on =
       grind (

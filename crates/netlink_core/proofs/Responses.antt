@@ -5,7 +5,8 @@ use Rattle.std.specs.List.{AllByRecursion, AllZip, flat_map}
 use Rattle.std.proofs.lemmas.List.{drop_at}
 use Rattle.netlink_core.specs.Bytes.{IsBytes}
 use Rattle.netlink_core.specs.Attribute.{Attribute, FitsLengthField}
-use Rattle.netlink_core.specs.laws.Prefix.{FitsHeaderFields, IsAttributeInRange, value_or_error}
+use Rattle.netlink_core.specs.Attribute.{FitsHeaderFields}
+use Rattle.netlink_core.specs.laws.Prefix.{IsAttributeInRange, value_or_error}
 use Rattle.netlink_core.specs.Attribute.{attribute_bytes, SplitsIntoAttributes}
 use Rattle.netlink_core.specs.AttributeSet.{AttributeSet, AttributeValue, decode_attribute}
 use Rattle.netlink_core.specs.AttributeSet.{encode_attribute, IsInRangeIn, IsNormalIn}

@@ -14,20 +14,20 @@ use Rattle.netlink_core.proofs.TableLaws.{consecutive_from_test, significant_mas
 -- A layout whose fields are consecutive for each tag, and have `size` bytes. Bytes that are long
 -- enough and have a tag have at least the size of this tag.
 module _ {Param Tag Value : Type 0} (layout : Layout Param Tag Value) (size : Tag → ℕ)
-    (tables : (param : Param) (tag : Tag) (left : List ℕ) → layout.tag_at param left ≡ Ok tag
+    (tables : (param : Param) (tag : Tag) (left : List ℕ) → layout.tag_for param left ≡ Ok tag
     → IsTrue (fields_are_consecutive 0 (tag_fields layout tag) (size tag)))
     (enough : (param : Param) (tag : Tag) (left : List ℕ) → layout.least ≤ length left
-    → layout.tag_at param left ≡ Ok tag → size tag ≤ length left) where
+    → layout.tag_for param left ≡ Ok tag → size tag ≤ length left) where
   -- both are long enough, have the same tag, and have equal bits under the masks of its fields
   abbrev pub EqualByTag : Param → List ℕ → List ℕ → Type 0
   EqualByTag param b c = (layout.least ≤ length b) × (layout.least ≤ length c) × (tag : Tag)
-      × (layout.tag_at param b ≡ Ok tag) × (layout.tag_at param c ≡ Ok tag)
+      × (layout.tag_for param b ≡ Ok tag) × (layout.tag_for param c ≡ Ok tag)
       × EqualUnder (significant_masks (tag_fields layout tag)) b c
 
   -- with the same tag, values are equal if and only if bits are equal under the masks
   values_and_masks : (param : Param) (tag : Tag) (b c : List ℕ) → IsBytes b → IsBytes c
       → layout.least ≤ length b → layout.least ≤ length c
-      → layout.tag_at param b ≡ Ok tag → layout.tag_at param c ≡ Ok tag
+      → layout.tag_for param b ≡ Ok tag → layout.tag_for param c ≡ Ok tag
       → (values_of (tag_fields layout tag) b ≡ values_of (tag_fields layout tag) c)
       ↔ EqualUnder (significant_masks (tag_fields layout tag)) b c
   values_and_masks param tag b c hb hc lb lc tb tc =
@@ -56,7 +56,7 @@ module _ {Param Tag Value : Type 0} (layout : Layout Param Tag Value) (size : Ta
 
 -- equivalence by a layout with the same rows for all values, whose fields have these masks
 pub equivalent_by_masks : {Value : Type 0} (layout : Layout (Unit {0}) (Unit {0}) Value)
-    (masks : List ℕ) → ((left : List ℕ) → layout.tag_at tt left ≡ Ok tt)
+    (masks : List ℕ) → ((left : List ℕ) → layout.tag_for tt left ≡ Ok tt)
     → IsTrue (fields_are_consecutive 0 (tag_fields layout tt) layout.least)
     → significant_masks (tag_fields layout tt) ≡ masks
     → (b c : List ℕ) → IsBytes b → IsBytes c
@@ -74,15 +74,15 @@ module _ {Param Tag Value : Type 0} (layout : Layout Param Tag Value)
     (sound : MeetsLayoutConditions layout) where
   -- both byte strings have the same tag, and its fields have these masks
   abbrev pub HasMasks : Param → List ℕ → List ℕ → List ℕ → Type 0
-  HasMasks param masks b c = (tag : Tag) × (layout.tag_at param b ≡ Ok tag)
-      × (layout.tag_at param c ≡ Ok tag) × (significant_masks (tag_fields layout tag) ≡ masks)
+  HasMasks param masks b c = (tag : Tag) × (layout.tag_for param b ≡ Ok tag)
+      × (layout.tag_for param c ≡ Ok tag) × (significant_masks (tag_fields layout tag) ≡ masks)
 
   -- Equivalence by a layout with several tags. `Condition` says, without the layout, that both byte
   -- strings have the same tag, and that its fields have these masks.
   pub equivalent_by_condition : (param : Param) (masks : List ℕ) (Condition : Type 0) (b c : List ℕ)
       → IsBytes b → IsBytes c
       → (layout.least ≤ length b → layout.least ≤ length c → (tag : Tag)
-      → layout.tag_at param b ≡ Ok tag → layout.tag_at param c ≡ Ok tag
+      → layout.tag_for param b ≡ Ok tag → layout.tag_for param c ≡ Ok tag
       → Condition × (significant_masks (tag_fields layout tag) ≡ masks))
       → (layout.least ≤ length b → layout.least ≤ length c → Condition → EqualUnder masks b c
       → HasMasks param masks b c)

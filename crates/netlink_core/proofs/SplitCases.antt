@@ -1,8 +1,7 @@
 -- How bytes are split, with the two cases of a padding apart.
 use Rattle.std.proofs.Common.{◌≡◌, ◌<◌, ◌⊎◌, ◌↔◌, ℕ, List, [], ◌∷◌, ◌++◌, length, arith}
 use Rattle.netlink_core.specs.Attribute.{Attribute, SplitsIntoAttributes, padding_length}
-use Rattle.netlink_core.specs.Attribute.{header_and_value}
-use Rattle.netlink_core.specs.laws.Prefix.{FitsHeaderFields}
+use Rattle.netlink_core.specs.Attribute.{header_and_value, FitsHeaderFields}
 use Rattle.netlink_core.proofs.Splitting.{one_split_into_attributes}
 
 -- bytes are split into an attribute and others if and only if its padding is complete and the

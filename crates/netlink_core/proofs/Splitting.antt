@@ -11,7 +11,7 @@ use Rattle.netlink_core.specs.declared.error.DecodeError.{DecodeError}
 use Rattle.netlink_core.specs.Bytes.{IsBytes}
 use Rattle.netlink_core.specs.Attribute.{SplitsUntilError}
 use Rattle.netlink_core.specs.Attribute.{Attribute, padding_length, header_and_value}
-use Rattle.netlink_core.specs.laws.Prefix.{FitsHeaderFields}
+use Rattle.netlink_core.specs.Attribute.{FitsHeaderFields}
 use Rattle.netlink_core.specs.Attribute.{attribute_bytes, StartsWithAttribute, SplitsIntoAttributes}
 use Rattle.netlink_core.specs.Attribute.{IsFirstAttributeError, DecodeTo, HasAttributeError}
 use Rattle.netlink_core.specs.laws.Byte.{IsBytes-nil, IsBytes-right}

@@ -62,3 +62,6 @@ pub invalid_utf8_is_no_text : (bytes : List ℕ) → ¬ (IsUtf8 (without_termina
     → parse_text bytes ≡ Err NotUtf8
 invalid_utf8_is_no_text bytes invalid =
     grind (arith, IsUtf8-from_is_utf8 (without_terminating_nul bytes))
+
+-- what `parse_str` returns
+pub ruleset utf8_text_rules = (valid_utf8_is_text, invalid_utf8_is_no_text)

@@ -26,3 +26,6 @@ pub starts_with_attribute_at : (bytes : List ℕ) (offset end : ℕ) (a : Attrib
 starts_with_attribute_at bytes offset end a head end-is =
     starts_with_attribute (drop offset bytes) (drop (offset + end) bytes) a end
     (rw (take_rest bytes offset) at head) end-is (sym (drop-drop end offset bytes))
+
+-- a step of `next_accepted`
+pub ruleset accepted_step_rules = (length_field_at, starts_with_attribute_at)

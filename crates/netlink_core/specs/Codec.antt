@@ -29,10 +29,11 @@ pub record Codec (Param : Type 0) : Type 1 where
   -- is_writable v: `v` is writable: its lengths fit their length fields
   pub is_writable : Value → Type 0
 
--- KeepsCodecLaws C: the codec laws hold of `C`, for all byte strings, parameters, values and errors
+-- KeepsCodecLaws C: the codec laws hold of `C`, for all byte strings, parameters, values and
+-- errors. Several laws require that the numbers of a byte string are below 256 (`IsBytes`).
 pub record KeepsCodecLaws {Param : Type 0} (C : Codec Param) : Type 0 where
-  -- bytes have a value or an error (`is_total`), not both (`is_exclusive`), and at most one error
-  -- (`error_is_unique`), which is not `Memory` (`error_is_not_memory`)
+  -- In this order: bytes have a value or an error; not both; at most one error; and this error is
+  -- not `Memory`, which is an error of a call, not of bytes.
   pub is_total : (b : List ℕ) (p : Param) → IsBytes b
       → ((v : C.Value) × C.parses b p v) ⊎ ((e : DecodeError) × C.rejects b p e)
   pub is_exclusive : (b : List ℕ) (p : Param) (v : C.Value) (e : DecodeError)
@@ -52,25 +53,26 @@ pub record KeepsCodecLaws {Param : Type 0} (C : Codec Param) : Type 0 where
   pub round_trips : (p : Param) (v : C.Value) → C.is_in_range v → C.is_normal p v → C.is_writable v
       → C.parses (C.serialized v) p v
 
--- The codec of a part of a message by itself, given its `ValueCodec`, whose members it has.
--- `parses` there returns the value or the error; here `parses` says that it is this value, and
--- `rejects` that it is this error. No value needs memory, and each is writable.
+-- as_codec part: the codec of a part of a message by itself, given its `ValueCodec`, whose members
+-- it has. `part.parses` returns the value or the error: here `parses` says that it returns the
+-- value `v`, and `rejects` that it returns the error `e`. No value needs memory (`⊤`), and each
+-- value is writable (`⊤`).
 abbrev pub as_codec : {Param : Type 0} → ValueCodec Param → Codec Param
-as_codec P = record {
-  Value = P.Value;
-  is_in_range = P.is_in_range;
-  parses = λ b p v. P.parses p b ≡ Ok v;
-  rejects = λ b p e. P.parses p b ≡ Err e;
+as_codec part = record {
+  Value = part.Value;
+  is_in_range = part.is_in_range;
+  parses = λ b p v. part.parses p b ≡ Ok v;
+  rejects = λ b p e. part.parses p b ≡ Err e;
   needs_no_memory = λ v. ⊤;
-  equivalent = P.equivalent;
-  is_normal = P.is_normal;
-  serialized = P.bytes;
+  equivalent = part.equivalent;
+  is_normal = part.is_normal;
+  serialized = part.bytes;
   is_writable = λ v. ⊤;
 }
 
--- the codec of a record, given its layout: `parse_record` and `record_bytes` parse and serialize;
--- `AreEquivalent`, `IsInRange` and `IsNormal` are `equivalent`, `is_in_range` and `is_normal`; no
--- value needs memory, and each is writable
+-- record_codec layout: the codec of a record, given its layout: `parse_record` and `record_bytes`
+-- parse and serialize; `AreEquivalent`, `IsInRange` and `IsNormal` are `equivalent`, `is_in_range`
+-- and `is_normal`; no value needs memory, and each is writable
 abbrev pub record_codec : {Param Tag Value : Type 0} → Layout Param Tag Value → Codec Param
 record_codec layout = as_codec (value_codec layout)
 

@@ -6,19 +6,21 @@ use Rattle.byteorder.specs.Endian.{little_number}
 use Rattle.netlink_core.specs.declared.error.DecodeError.{DecodeError}
 use Rattle.netlink_core.specs.declared.error.DecodeError.TheVariants.{WrongLength, NotUtf8}
 
--- number_of_width k width b: the little-endian number of exactly `width` bytes; the error of any
--- other length contains the kind `k`, if there is one
-abbrev pub number_of_width : Option ℕ → ℕ → List ℕ → Result ℕ DecodeError
-number_of_width k width b =
-    if length b == width then Ok (little_number width b) else Err (WrongLength k (length b) width)
+-- number_of_width kind width bytes: `Ok` of the little-endian number, if there are exactly `width`
+-- bytes; else `Err` of a `WrongLength` with `kind` and both lengths. `kind` is the kind of the
+-- attribute, or `None` if the value is parsed by itself.
+abbrev pub number_of_width : (kind : Option ℕ) → (width : ℕ) → List ℕ → Result ℕ DecodeError
+number_of_width kind width bytes = if length bytes == width then Ok (little_number width bytes)
+    else Err (WrongLength kind (length bytes) width)
 
--- the bytes without their last byte if this is NUL; only one is removed; no bytes stay no bytes,
--- since `slice_index` is 0 past the end
+-- without_terminating_nul bytes: the bytes without their last byte, if this is NUL. Only one NUL is
+-- removed. The empty list stays empty: `slice_index` is 0 past the end, and 0 - 1 is 0.
 abbrev pub without_terminating_nul : List ℕ → List ℕ
-without_terminating_nul b = if slice_index b (length b - 1) == 0 then take (length b - 1) b else b
+without_terminating_nul bytes = if slice_index bytes (length bytes - 1) == 0
+    then take (length bytes - 1) bytes else bytes
 
--- the text in the bytes, without one terminating NUL if there is one, or the error that this is not
--- valid UTF-8
+-- parse_text bytes: removes one terminating NUL from the bytes, if there is one; `Ok` of the rest
+-- if it is valid UTF-8, else `Err NotUtf8`
 abbrev pub parse_text : List ℕ → Result (List ℕ) DecodeError
-parse_text b = if is_utf8 (without_terminating_nul b) then Ok (without_terminating_nul b)
-    else Err NotUtf8
+parse_text bytes = if is_utf8 (without_terminating_nul bytes)
+    then Ok (without_terminating_nul bytes) else Err NotUtf8

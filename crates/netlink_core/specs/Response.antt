@@ -19,49 +19,52 @@ pub record ResponseSpec : Type 1 where
   pub attribute_set : AttributeSet
 
 -- a reply: a header, and a list of attributes
-pub record ResponseValue (H V : Type 0) : Type 0 where
-  pub header : H
-  pub nlas : List V
+pub record ResponseValue (Header Nla : Type 0) : Type 0 where
+  pub header : Header
+  pub nlas : List Nla
 
--- the value of a reply: the value of its header, and a decoded value for each attribute
+-- ReplyValue spec: the value of a reply: the value of its header, and a decoded value for each
+-- attribute
 abbrev pub ReplyValue : ResponseSpec → Type 0
-ReplyValue R = ResponseValue R.header.Value (AttributeValue R.attribute_set)
+ReplyValue spec = ResponseValue spec.header.Value (AttributeValue spec.attribute_set)
 
--- response_bytes R v: the bytes that the reply `v` serializes to: its header, and its attributes
+-- response_bytes spec reply: the bytes that the reply serializes to: its header, and its attributes
 -- with their padding
-abbrev pub response_bytes : (R : ResponseSpec) → ReplyValue R → List ℕ
-response_bytes R v = R.header.bytes v.header
-    ++ flat_map attribute_bytes (map (encode_attribute R.attribute_set) v.nlas)
+abbrev pub response_bytes : (spec : ResponseSpec) → ReplyValue spec → List ℕ
+response_bytes spec reply = spec.header.bytes reply.header
+    ++ flat_map attribute_bytes (map (encode_attribute spec.attribute_set) reply.nlas)
 
--- The codec of a reply. `v` is a reply, `b` and `c` are byte strings, and `e` is an error; `p` is
--- `tt`, since there is no parameter. The attributes are in the bytes from offset `size` on
--- (`drop R.size`).
+-- response_codec spec: the codec of these replies. `v` is a reply, `b` and `c` are byte strings,
+-- and `e` is an error; `p` is `tt`, since there is no parameter. The attributes are in the bytes
+-- from offset `size` on (`drop spec.size`).
 abbrev pub response_codec : ResponseSpec → Codec (Unit {0})
-response_codec R = record {
-  Value = ReplyValue R;
+response_codec spec = record {
+  Value = ReplyValue spec;
   -- the header and each attribute are in range
-  is_in_range = λ v. R.header.is_in_range v.header
-      × AllByRecursion (IsInRangeIn R.attribute_set) v.nlas;
+  is_in_range = λ v. spec.header.is_in_range v.header
+      × AllByRecursion (IsInRangeIn spec.attribute_set) v.nlas;
   -- the header's value, and one decoded value for each attribute after it
-  parses = λ b p v. (R.header.parses p b ≡ Ok v.header)
-      × DecodeTo (decode_attribute R.attribute_set) (drop R.size b) v.nlas;
+  parses = λ b p v. (spec.header.parses p b ≡ Ok v.header)
+      × DecodeTo (decode_attribute spec.attribute_set) (drop spec.size b) v.nlas;
   -- the header's error, or after an accepted header the first error of the attributes
-  rejects = λ b p e. (R.header.parses p b ≡ Err e)
-      ⊎ ((h : R.header.Value) × (R.header.parses p b ≡ Ok h)
-      × HasAttributeError (decode_attribute R.attribute_set) (drop R.size b) e);
+  rejects = λ b p e. (spec.header.parses p b ≡ Err e)
+      ⊎ ((h : spec.header.Value) × (spec.header.parses p b ≡ Ok h)
+      × HasAttributeError (decode_attribute spec.attribute_set) (drop spec.size b) e);
   -- at most eight attributes, none of which needs memory
   needs_no_memory = λ v. (length v.nlas ≤ 8)
-      × AllByRecursion (NeedsNoMemoryIn R.attribute_set) v.nlas;
-  -- the headers are equivalent; both have the same number of attributes, and these are equivalent
-  -- in pairs
-  equivalent = λ p b c. R.header.equivalent p b c × (left right : List Attribute)
-      × SplitsIntoAttributes (drop R.size b) left [] × SplitsIntoAttributes (drop R.size c) right []
-      × AllZip (AreEquivalentAttributes R.attribute_set) left right;
+      × AllByRecursion (NeedsNoMemoryIn spec.attribute_set) v.nlas;
+  -- the headers are equivalent; both have the same number of attributes, and the attributes at each
+  -- index are equivalent
+  equivalent = λ p b c. spec.header.equivalent p b c × (left right : List Attribute)
+      × SplitsIntoAttributes (drop spec.size b) left []
+      × SplitsIntoAttributes (drop spec.size c) right []
+      × AllZip (AreEquivalentAttributes spec.attribute_set) left right;
   -- the header and each attribute are in normal form
-  is_normal = λ p v. R.header.is_normal p v.header
-      × AllByRecursion (IsNormalIn R.attribute_set) v.nlas;
-  serialized = response_bytes R;
+  is_normal = λ p v. spec.header.is_normal p v.header
+      × AllByRecursion (IsNormalIn spec.attribute_set) v.nlas;
+  serialized = response_bytes spec;
   -- each attribute's value has at most 65,531 bytes, and the whole has at most 4,294,967,295
-  is_writable = λ v. AllByRecursion FitsLengthField (map (encode_attribute R.attribute_set) v.nlas)
-      × (length (response_bytes R v) ≤ 4294967295);
+  is_writable = λ v.
+      AllByRecursion FitsLengthField (map (encode_attribute spec.attribute_set) v.nlas)
+      × (length (response_bytes spec v) ≤ 4294967295);
 }

@@ -10,14 +10,14 @@ significant count = replicate count 255
 abbrev pub ignored : ℕ → List ℕ
 ignored count = replicate count 0
 
--- masked masks bytes: the bytes without the bits that are 0 in their masks, as far as both lists
--- have elements
+-- masked masks bytes: the bytes without the bits that are 0 in their masks. The result ends with
+-- the shorter of both lists.
 abbrev pub masked : List ℕ → List ℕ → List ℕ
-masked (mask ∷ masks) (one ∷ bytes) = bit_and one mask ∷ masked masks bytes
+masked (mask ∷ masks) (byte ∷ bytes) = bit_and byte mask ∷ masked masks bytes
 masked _ _ = []
 
--- EqualUnder masks b c: both byte strings have the same bits under the masks. Bytes after those
--- that have a mask are not considered. A string with fewer bytes than there are masks is equal only
--- to strings of its length.
+-- EqualUnder masks b c: the byte strings `b` and `c` have the same significant bits, by the masks.
+-- Bytes after those that have a mask are not considered. A string with fewer bytes than there are
+-- masks is equal only to strings of its length.
 abbrev pub EqualUnder : List ℕ → List ℕ → List ℕ → Type 0
 EqualUnder masks b c = masked masks b ≡ masked masks c

@@ -23,7 +23,8 @@ pub record ValueCodec (Param : Type 0) : Type 1 where
   -- is_normal p v: `v` is in normal form, the form of every parsed value
   pub is_normal : Param → Value → Type 0
 
--- the codec of a record, given its layout; module `Layout` defines each member
+-- value_codec layout: the codec of a record, given its layout; the module `Layout` defines each
+-- member
 abbrev pub value_codec : {Param Tag Value : Type 0} → Layout Param Tag Value → ValueCodec Param
 value_codec {Param} {Tag} {Value} layout = record {
   Value = Value;

@@ -18,22 +18,24 @@ use byteorder::{ByteOrder, LittleEndian};
 pub const NLA_HEADER_SIZE: usize = 4;
 
 /// The maximal length of a value in bytes, as the 16-bit length field includes the header.
-pub(crate) const MAX_VALUE: usize = 65531;
+pub(crate) const MAX_VALUE_LEN: usize = 65531;
 
-/// The bit of the type field for a value with nested attributes, `NLA_F_NESTED`.
-const NESTED: u16 = 0x8000;
+/// The bit of the type field for a value with nested attributes.
+const NLA_F_NESTED: u16 = 0x8000;
 
-/// The bit of the type field for a value in network byte order, `NLA_F_NET_BYTEORDER`.
-const NETWORK_BYTE_ORDER: u16 = 0x4000;
+/// The bit of the type field for a value in network byte order.
+const NLA_F_NET_BYTEORDER: u16 = 0x4000;
 
-/// The bits of the type field that are the attribute's kind, `NLA_TYPE_MASK`.
-const KIND: u16 = 0x3fff;
+/// The bits of the type field that are the attribute's kind.
+const NLA_TYPE_MASK: u16 = 0x3fff;
 
 /// One attribute, borrowed.
 #[derive(Clone, Copy, Debug, PartialEq, Eq)]
 pub struct NlaBuffer<'a> {
     type_word: u16,
     value: &'a [u8],
+    // The type field has 16 bits, and the value at most 65,531 bytes, so that its length fits the
+    // length field.
     ghost word_fits: { type_word < 2 ^ 16 },
     ghost value_fits: { length value.now ≤ 65531 },
 }
@@ -48,9 +50,9 @@ impl<'a> NlaBuffer<'a> {
     /// `AttributeLengthUnder4` if the length field is below 4, then with `AttributeLengthPast` if
     /// it is above the number of bytes.
     pub fn new_checked(bytes: &'a [u8]) -> Result<NlaBuffer<'a>, DecodeError>
-        // HasAttributePrefix bytes a: the bytes begin with the attribute `a`. IsFramingError bytes
-        // e: they do not begin with an attribute, and `e` is their error. buffered_attribute: the
-        // type field and the value of the buffer.
+        // HasAttributePrefix bytes attribute: the bytes begin with the attribute, and other bytes
+        // may follow. IsFramingError bytes error: the bytes do not begin with an attribute, for
+        // this reason. buffered_attribute: the type field and the value of the buffer.
         ensures { MatchResult result
             (λ buffer. HasAttributePrefix bytes.entry.now (buffered_attribute buffer))
             (IsFramingError bytes.entry.now) }
@@ -73,14 +75,15 @@ impl<'a> NlaBuffer<'a> {
         })
     }
 
-    /// Returns the attribute that [`NlaBuffer::new_checked`] returns. Requires that it accepts the
-    /// bytes, whose length field is not tested again.
+    /// Returns the attribute at the start of the bytes, as [`NlaBuffer::new_checked`] does, without
+    /// a test of the length field. This field must be at least 4 and at most the number of bytes.
     #[inline(always)]
     pub fn new(bytes: &'a [u8]) -> NlaBuffer<'a>
-        // little_number 2 bytes: the length field.
+        // little_number 2 bytes: the length field, which is the first two bytes.
         requires at_least { 4 ≤ little_number 2 bytes.now }
         requires at_most { little_number 2 bytes.now ≤ length bytes.now }
-        // HasAttributePrefix bytes a: the bytes begin with the attribute `a`.
+        // HasAttributePrefix bytes attribute: the bytes begin with the attribute.
+        // buffered_attribute: the type field and the value of the buffer.
         ensures { HasAttributePrefix bytes.entry.now (buffered_attribute result) }
     {
         let length = LittleEndian::read_u16(bytes);
@@ -108,16 +111,17 @@ impl<'a> NlaBuffer<'a> {
 
     /// Returns the kind: the lower 14 bits of the type field, without its two flag bits.
     pub fn kind(&self) -> u16
+        // attribute_kind: the bits of the type field that are in `NLA_TYPE_MASK`.
         ensures { result ≡ attribute_kind (buffered_attribute self.now) }
     {
-        self.type_word & KIND
+        self.type_word & NLA_TYPE_MASK
     }
 
     /// Returns whether the type field has the flag for nested attributes (`NLA_F_NESTED`, bit 15).
     pub fn nested_flag(&self) -> bool
         ensures { IsTrue result ↔ IsBitSet (buffered_attribute self.now).type_word 15 }
     {
-        self.type_word & NESTED != 0
+        self.type_word & NLA_F_NESTED != 0
     }
 
     /// Returns whether the type field has the flag for network byte order (`NLA_F_NET_BYTEORDER`,
@@ -125,7 +129,7 @@ impl<'a> NlaBuffer<'a> {
     pub fn network_byte_order_flag(&self) -> bool
         ensures { IsTrue result ↔ IsBitSet (buffered_attribute self.now).type_word 14 }
     {
-        self.type_word & NETWORK_BYTE_ORDER != 0
+        self.type_word & NLA_F_NET_BYTEORDER != 0
     }
 
     /// Returns the bytes between the header and the padding.
@@ -171,14 +175,17 @@ impl<'a> NlasIterator<'a> {
     /// padding. Returns `None` if and only if no bytes were left. Requires that
     /// [`NlaBuffer::new_checked`] accepts these bytes, whose length field is not tested again.
     #[inline(always)]
-    #[tactic(auto, using(crate::proofs::Walking::length_field_at, crate::proofs::Walking::starts_with_attribute_at))]
+    #[tactic(auto, using(crate::proofs::Walking::accepted_step_rules))]
     pub fn next_accepted(&mut self) -> Option<NlaBuffer<'a>>
-        // little_number 2 bytes: the length field.
+        // If no bytes are left, nothing is required. little_number 2 bytes: the length field, which
+        // is the first two bytes.
         requires at_least { 0 < length (unread_bytes self.old)
             → 4 ≤ little_number 2 (unread_bytes self.old) }
         requires at_most { 0 < length (unread_bytes self.old)
             → little_number 2 (unread_bytes self.old) ≤ length (unread_bytes self.old) }
-        // StartsWithAttribute left a later: `left` is the attribute `a`, its padding, and `later`.
+        // If the result is `None`, no bytes were left, and none are. If it is `Some nla`, the bytes
+        // that were left start with this attribute. StartsWithAttribute bytes attribute rest: the
+        // bytes are the attribute, its padding, and `rest`.
         ensures { MatchOption result ((unread_bytes self.old ≡ []) × (unread_bytes self.new ≡ []))
             (λ nla. StartsWithAttribute (unread_bytes self.old) (buffered_attribute nla)
             (unread_bytes self.new)) }
@@ -200,9 +207,11 @@ impl<'a> Iterator for NlasIterator<'a> {
 
     type Item = Result<NlaBuffer<'a>, DecodeError>;
 
+    // YieldsAttribute old item new: a call of `next` returns `item`, and leads from `old` to `new`.
     ghost next_gives = { YieldsAttribute };
 
-    // At most one item for each four bytes, rounded up.
+    // At most one item for each four bytes that are left, rounded up, since an attribute has at
+    // least 4 bytes and an error is the last item.
     ghost remaining = { λ walk. at_most ((length (unread_bytes walk) + 3) / 4) };
 
     /// Returns the attribute at the start of the bytes that are left, and continues after its
@@ -226,19 +235,21 @@ impl<'a> Iterator for NlasIterator<'a> {
 
     /// Returns `(0, None)`: the number of items is known only after iterating.
     fn size_hint(&self) -> (usize, Option<usize>)
-        // IsWithinCount n c: `n` is at most the bound `c`. UpTo c n: the bound `c` is at most `n`.
-        // Both follow from `unknown`.
+        ensures unknown { result ≡ (0, None) }
+        // The clauses of the trait follow from `unknown`: the lower bound is at most the number of
+        // items (`IsWithinCount`), and the upper one, if there is one, at least this number
+        // (`UpTo`). `at_most n`: of this number only the bound `n` is known.
         ensures lower { IsWithinCount result.0
             (at_most ((length (unread_bytes self.now) + 3) / 4)) }
         ensures upper { IfSome result.1
             (UpTo (at_most ((length (unread_bytes self.now) + 3) / 4))) }
-        ensures unknown { result ≡ (0, None) }
     {
         (0, None)
     }
 }
 
-/// Returns the length rounded up to a multiple of 4 (`NLA_ALIGN`). The bound excludes overflow.
+/// Returns the length rounded up to a multiple of 4 (`NLA_ALIGN`). The length must be below 2^32,
+/// so that the sum does not overflow.
 pub fn padded(length: usize) -> usize
     requires { length < 2 ^ 32 }
     // padding_length n: the number of bytes, 0 to 3, from `n` to the next multiple of 4.

@@ -21,19 +21,21 @@ pub enum CanonError {
 }
 
 impl From<DecodeError> for CanonError {
-    // A failed allocation has its own variant.
-    ghost from_gives = { λ error e. (error ≡ errors.Memory → e ≡ canon_errors.Memory)
-        × (error ≢ errors.Memory → e ≡ canon_errors.Refused error) };
+    // `Memory` becomes `Memory`, and any other error becomes `Refused` with this error.
+    ghost from_gives = { λ error converted.
+        (error ≡ errors.Memory → converted ≡ canon_errors.Memory)
+        × (error ≢ errors.Memory → converted ≡ canon_errors.Refused error) };
 
     fn from(error: DecodeError) -> CanonError {
         match error {
             DecodeError::Memory => CanonError::Memory,
-            named => CanonError::Refused(named),
+            rejection => CanonError::Refused(rejection),
         }
     }
 }
 
 impl From<AllocError> for CanonError {
+    // The result is `Memory`.
     ghost from_gives = { λ _ e. e ≡ canon_errors.Memory };
 
     fn from(_e: AllocError) -> CanonError {
@@ -51,18 +53,19 @@ pub fn canonical<T: Wire + Drop>(
     bytes: &[u8],
     param: T::Param,
 ) -> Result<Vec<u8>, CanonError>
-    // IsBytes bytes: each number of the list is below 256. CanonicalFormFails codec param bytes
-    // error: no canonical form of the bytes is returned, for this reason.
     // HasCanonicalForm codec param bytes form: the bytes parse as a writable value, which
     // serializes to `form`.
     ensures written { IfOk result (λ form. HasCanonicalForm T.codec param bytes.now form.items) }
-    // Other bytes have the same canonical form if and only if they are equivalent to these bytes.
+    // Other bytes with a canonical form have the same one if and only if they are equivalent to
+    // these bytes. IsBytes bytes: each number of the list is below 256.
     ensures same { IfOk result (λ form. (others other_form : List ℕ) → IsBytes others
         → HasCanonicalForm T.codec param others other_form
         → ((other_form ≡ form.items) ↔ T.codec.equivalent param bytes.now others)) }
     // The canonical form is its own canonical form.
     ensures again { IfOk result (λ form.
         IsBytes form.items × HasCanonicalForm T.codec param form.items form.items) }
+    // CanonicalFormFails codec param bytes error: no canonical form of the bytes is returned, for
+    // this reason.
     ensures err { IfErr result (CanonicalFormFails T.codec param bytes.now) }
 {
     T::rewrite(alloc, bytes, param)

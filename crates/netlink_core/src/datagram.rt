@@ -42,9 +42,12 @@ impl<'a> Iterator for FramedMessages<'a> {
 
     type Item = Result<(NetlinkHeader, &'a [u8]), DecodeError>;
 
+    // YieldsFramedMessage old item new: a call of `next` returns `item`, and leads from `old` to
+    // `new`.
     ghost next_gives = { YieldsFramedMessage };
 
-    // At most one item for each sixteen bytes, rounded up.
+    // At most one item for each sixteen bytes that are left, rounded up, since a message has at
+    // least 16 bytes and an error is the last item.
     ghost remaining = { λ messages. at_most ((length (unread_messages messages) + 15) / 16) };
 
     /// Returns the header and the bytes of the message at the start of the bytes that are left, and
@@ -72,13 +75,14 @@ impl<'a> Iterator for FramedMessages<'a> {
 
     /// Returns `(0, None)`: the number of items is known only after iterating.
     fn size_hint(&self) -> (usize, Option<usize>)
-        // IsWithinCount n c: `n` is at most the bound `c`. UpTo c n: the bound `c` is at most `n`.
-        // Both follow from `unknown`.
+        ensures unknown { result ≡ (0, None) }
+        // The clauses of the trait follow from `unknown`: the lower bound is at most the number of
+        // items (`IsWithinCount`), and the upper one, if there is one, at least this number
+        // (`UpTo`). `at_most n`: of this number only the bound `n` is known.
         ensures lower { IsWithinCount result.0
             (at_most ((length (unread_messages self.now) + 15) / 16)) }
         ensures upper { IfSome result.1
             (UpTo (at_most ((length (unread_messages self.now) + 15) / 16))) }
-        ensures unknown { result ≡ (0, None) }
     {
         (0, None)
     }
@@ -116,9 +120,11 @@ impl<'a> Iterator for MessageStrings<'a> {
 
     type Item = Result<&'a [u8], DecodeError>;
 
+    // YieldsMessage old item new: a call of `next` returns `item`, and leads from `old` to `new`.
     ghost next_gives = { YieldsMessage };
 
-    // At most one item for each sixteen bytes, rounded up.
+    // At most one item for each sixteen bytes that are left, rounded up, since a message has at
+    // least 16 bytes and an error is the last item.
     ghost remaining = { λ messages. at_most ((length (unread_datagram messages) + 15) / 16) };
 
     /// Returns the bytes of the message at the start of the bytes that are left, and continues
@@ -135,13 +141,14 @@ impl<'a> Iterator for MessageStrings<'a> {
 
     /// Returns `(0, None)`: the number of items is known only after iterating.
     fn size_hint(&self) -> (usize, Option<usize>)
-        // IsWithinCount n c: `n` is at most the bound `c`. UpTo c n: the bound `c` is at most `n`.
-        // Both follow from `unknown`.
+        ensures unknown { result ≡ (0, None) }
+        // The clauses of the trait follow from `unknown`: the lower bound is at most the number of
+        // items (`IsWithinCount`), and the upper one, if there is one, at least this number
+        // (`UpTo`). `at_most n`: of this number only the bound `n` is known.
         ensures lower { IsWithinCount result.0
             (at_most ((length (unread_datagram self.now) + 15) / 16)) }
         ensures upper { IfSome result.1
             (UpTo (at_most ((length (unread_datagram self.now) + 15) / 16))) }
-        ensures unknown { result ≡ (0, None) }
     {
         (0, None)
     }

@@ -13,32 +13,34 @@ use std::default::MadeWith;
 
 /// A borrowed attribute in a reply of one family.
 pub trait FamilyView<'a>: Nla + PartialEq + Sized {
-    // The set of attribute types of the family, and the decoded value as an element of this set.
+    // The set of attribute types of the family.
     ghost attribute_set: { AttributeSet };
 
+    // What the attribute decodes to by the set: a value of one of its types, or a raw attribute.
     ghost model: { Self → AttributeValue attribute_set };
 
     /// Returns what the attribute decodes to by the family's set: a value of the first type of its
-    /// kind, or the raw attribute if no type has its kind. Fails with the error of the value.
+    /// kind, or the raw attribute if no type has its kind. Fails with the error of the value if
+    /// this type rejects it.
     fn read_view(nla: &NlaBuffer<'a>) -> Result<Self, DecodeError>
         // decode_attribute set attribute: `Ok` of the decoded value, or `Err` of the value's error.
-        // buffered_attribute: the type field and the value that `nla` holds.
-        ensures value { IfOk result (λ view. decode_attribute attribute_set
-            (buffered_attribute nla.now)
-            ≡ Ok (model view)) }
-        ensures error { IfErr result (λ e. decode_attribute attribute_set
-            (buffered_attribute nla.now) ≡ Err e) };
+        // buffered_attribute: the type field and the value of `nla`.
+        ensures value { IfOk result (λ view.
+            decode_attribute attribute_set (buffered_attribute nla.now) ≡ Ok (model view)) }
+        ensures error { IfErr result (λ e.
+            decode_attribute attribute_set (buffered_attribute nla.now) ≡ Err e) };
 
     /// Returns what the attribute decodes to by the family's set. The set must accept it:
     /// `read_view` does not fail.
     fn read_accepted(nla: &NlaBuffer<'a>) -> Self
+        // decode_attribute set attribute: `Ok` of the decoded value, or `Err` of the value's error.
+        // buffered_attribute: the type field and the value of `nla`.
         requires { IsOk (decode_attribute attribute_set (buffered_attribute nla.now)) }
         ensures { decode_attribute attribute_set (buffered_attribute nla.now) ≡ Ok (model result) };
 
     // An attribute serializes as what it decodes to.
     ghost attribute_by_model: { (view : Self)
-        → Self.Nla.attribute view ≡ encode_attribute attribute_set
-        (model view) };
+        → Self.Nla.attribute view ≡ encode_attribute attribute_set (model view) };
 }
 
 /// An owned attribute in a reply of one family.
@@ -47,19 +49,23 @@ pub trait FamilyNla: Nla + PartialEq + MadeWith<Global> + Drop + Sized {
     /// a separate branch for this kind; the result does not depend on it.
     const LARGE_KIND: Option<u16> = None;
 
-    // The set of attribute types of the family, and the decoded value as an element of this set.
+    // The set of attribute types of the family.
     ghost attribute_set: { AttributeSet };
 
+    // What the attribute decodes to by the set: a value of one of its types, or a raw attribute.
     ghost model: { Self → AttributeValue attribute_set };
 
     /// Returns, owned, what the attribute decodes to by the family's set. The set must accept it.
     /// Fails only if an allocation fails, and never for a value that needs no memory.
     fn own_accepted(alloc: Global, nla: &NlaBuffer<'_>) -> Result<Self, AllocError>
+        // decode_attribute set attribute: `Ok` of the decoded value, or `Err` of the value's error.
+        // buffered_attribute: the type field and the value of `nla`.
         requires { IsOk (decode_attribute attribute_set (buffered_attribute nla.now)) }
         ensures equal { IfOk result (λ own.
             decode_attribute attribute_set (buffered_attribute nla.now) ≡ Ok (model own)) }
-        // NeedsNoMemoryIn: the value is of a type whose values are stored without an allocation. A
-        // raw attribute never is.
+        // If the attribute decodes to a value that needs no memory, the call does not fail.
+        // NeedsNoMemoryIn set value: the value is of a type whose values are stored without an
+        // allocation. A raw attribute never is.
         ensures needs_no_memory { (value : AttributeValue attribute_set)
             → decode_attribute attribute_set (buffered_attribute nla.now) ≡ Ok value
             → NeedsNoMemoryIn attribute_set value → IsOk result };
@@ -68,6 +74,7 @@ pub trait FamilyNla: Nla + PartialEq + MadeWith<Global> + Drop + Sized {
     /// never for a value that needs no memory.
     fn copy_nla(&self, alloc: Global) -> Result<Self, AllocError>
         ensures equal { IfOk result (λ copy. model copy ≡ model self.now) }
+        // NeedsNoMemoryIn set value: the value is stored without an allocation.
         ensures needs_no_memory { NeedsNoMemoryIn attribute_set (model self.now) → IsOk result };
 
     // An attribute serializes as what it decodes to.

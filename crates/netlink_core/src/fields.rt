@@ -1,10 +1,11 @@
 //! Reads the fields of a record from its bytes, and writes them.
 
 ghost use Rattle.std.specs.Prelude.{◌≡◌, ◌≤◌, ◌<◌, ◌+◌, ◌*◌, ◌^◌, ℕ, length, slice_index};
-ghost use Rattle.std.specs.List.{AllByRecursion, flat_map};
+ghost use Rattle.std.specs.List.{flat_map};
 ghost use Rattle.byteorder.specs.Endian.{little_bytes, big_bytes};
-ghost use Rattle.netlink_core.specs.Bytes.{IsBytes};
-ghost use Rattle.netlink_core.specs.Table.{bytes_at, network, number, array, values_of};
+ghost use Rattle.netlink_core.specs.Bytes.{AreAllBelow, IsBytes};
+ghost use Rattle.netlink_core.specs.Table.{bytes_at, values_of};
+ghost use Rattle.netlink_core.specs.Table.{u16_be_fields, u32_fields, u64_fields};
 
 use byteorder::{BigEndian, ByteOrder, LittleEndian};
 
@@ -24,39 +25,39 @@ pub fn array_at<const N: usize>(bytes: &[u8], offset: usize) -> [u8; N]
 /// `offset + 4 * N` bytes.
 pub fn u32s_at<const N: usize>(bytes: &[u8], offset: usize) -> [u32; N]
     requires { offset + 4 * N ≤ length bytes.now }
-    // array FIELD offset width count: `count` consecutive fields of `width` bytes, the first at the
-    // offset. FIELD is `number`: little-endian.
-    ensures { result ≡ values_of (array number offset 4 N) bytes.now }
+    // u32_fields offset count: `count` consecutive little-endian fields of 4 bytes, the first at
+    // the offset. values_of fields bytes: the numbers in these fields.
+    ensures { result ≡ values_of (u32_fields offset N) bytes.now }
 {
-    let mut array = [0; N];
-    LittleEndian::read_u32_into(&bytes[offset..offset + 4 * N], &mut array);
-    array
+    let mut numbers = [0; N];
+    LittleEndian::read_u32_into(&bytes[offset..offset + 4 * N], &mut numbers);
+    numbers
 }
 
 /// Returns the `N` consecutive little-endian 64-bit numbers at the offset. There must be at least
 /// `offset + 8 * N` bytes.
 pub fn u64s_at<const N: usize>(bytes: &[u8], offset: usize) -> [u64; N]
     requires { offset + 8 * N ≤ length bytes.now }
-    // array FIELD offset width count: `count` consecutive fields of `width` bytes, the first at the
-    // offset. FIELD is `number`: little-endian.
-    ensures { result ≡ values_of (array number offset 8 N) bytes.now }
+    // u64_fields offset count: `count` consecutive little-endian fields of 8 bytes, the first at
+    // the offset. values_of fields bytes: the numbers in these fields.
+    ensures { result ≡ values_of (u64_fields offset N) bytes.now }
 {
-    let mut array = [0; N];
-    LittleEndian::read_u64_into(&bytes[offset..offset + 8 * N], &mut array);
-    array
+    let mut numbers = [0; N];
+    LittleEndian::read_u64_into(&bytes[offset..offset + 8 * N], &mut numbers);
+    numbers
 }
 
 /// Returns the `N` consecutive 16-bit numbers in network byte order at the offset. There must be at
 /// least `offset + 2 * N` bytes.
 pub fn u16s_be_at<const N: usize>(bytes: &[u8], offset: usize) -> [u16; N]
     requires { offset + 2 * N ≤ length bytes.now }
-    // array FIELD offset width count: `count` consecutive fields of `width` bytes, the first at the
-    // offset. FIELD is `network`: in network byte order.
-    ensures { result ≡ values_of (array network offset 2 N) bytes.now }
+    // u16_be_fields offset count: `count` consecutive fields of 2 bytes in network byte order, the
+    // first at the offset. values_of fields bytes: the numbers in these fields.
+    ensures { result ≡ values_of (u16_be_fields offset N) bytes.now }
 {
-    let mut array = [0; N];
-    BigEndian::read_u16_into(&bytes[offset..offset + 2 * N], &mut array);
-    array
+    let mut numbers = [0; N];
+    BigEndian::read_u16_into(&bytes[offset..offset + 2 * N], &mut numbers);
+    numbers
 }
 
 /// Replaces the content of the buffer by the bytes. The buffer must have exactly their length.
@@ -65,10 +66,9 @@ pub fn u16s_be_at<const N: usize>(bytes: &[u8], offset: usize) -> [u16; N]
 pub fn write_bytes(bytes: &[u8], buffer: &mut [u8])
     requires { length buffer.old ≡ length bytes.now }
     ensures written { buffer.new ≡ bytes.now }
-    // AllByRecursion P xs: `P` holds of each element of `xs`. This is so for all Rust values; it is
-    // stated for the laws.
-    ensures in_range { AllByRecursion (λ b. b < 2 ^ 8) bytes.now }
-    // IsBytes bytes: the byte at each index is below 256.
+    // Each byte is below 256. This is so for all Rust values. It is stated for the laws, in two
+    // forms: of all elements of the list, and of each index.
+    ensures in_range { AreAllBelow (2 ^ 8) bytes.now }
     ensures by_index { IsBytes bytes.now }
 {
     buffer.copy_from_slice(bytes);
@@ -80,8 +80,10 @@ pub fn write_bytes(bytes: &[u8], buffer: &mut [u8])
 #[inline(always)]
 pub fn write_u16s(numbers: &[u16], buffer: &mut [u8])
     requires { length buffer.old ≡ 2 * length numbers.now }
+    // flat_map (little_bytes 2) numbers: each number in 2 bytes, little-endian, concatenated.
     ensures written { buffer.new ≡ flat_map (little_bytes 2) numbers.now }
-    ensures in_range { AllByRecursion (λ n. n < 2 ^ 16) numbers.now }
+    // Each number fits 2 bytes. This is so for all Rust values; it is stated for the laws.
+    ensures in_range { AreAllBelow (2 ^ 16) numbers.now }
 {
     LittleEndian::write_u16_into(numbers, buffer);
 }
@@ -92,8 +94,10 @@ pub fn write_u16s(numbers: &[u16], buffer: &mut [u8])
 #[inline(always)]
 pub fn write_u32s(numbers: &[u32], buffer: &mut [u8])
     requires { length buffer.old ≡ 4 * length numbers.now }
+    // flat_map (little_bytes 4) numbers: each number in 4 bytes, little-endian, concatenated.
     ensures written { buffer.new ≡ flat_map (little_bytes 4) numbers.now }
-    ensures in_range { AllByRecursion (λ n. n < 2 ^ 32) numbers.now }
+    // Each number fits 4 bytes. This is so for all Rust values; it is stated for the laws.
+    ensures in_range { AreAllBelow (2 ^ 32) numbers.now }
 {
     LittleEndian::write_u32_into(numbers, buffer);
 }
@@ -104,8 +108,10 @@ pub fn write_u32s(numbers: &[u32], buffer: &mut [u8])
 #[inline(always)]
 pub fn write_u64s(numbers: &[u64], buffer: &mut [u8])
     requires { length buffer.old ≡ 8 * length numbers.now }
+    // flat_map (little_bytes 8) numbers: each number in 8 bytes, little-endian, concatenated.
     ensures written { buffer.new ≡ flat_map (little_bytes 8) numbers.now }
-    ensures in_range { AllByRecursion (λ n. n < 2 ^ 64) numbers.now }
+    // Each number fits 8 bytes. This is so for all Rust values; it is stated for the laws.
+    ensures in_range { AreAllBelow (2 ^ 64) numbers.now }
 {
     LittleEndian::write_u64_into(numbers, buffer);
 }
@@ -116,9 +122,13 @@ pub fn write_u64s(numbers: &[u64], buffer: &mut [u8])
 #[inline(always)]
 pub fn write_u16s_be(numbers: &[u16], buffer: &mut [u8])
     requires { length buffer.old ≡ 2 * length numbers.now }
+    // flat_map (big_bytes 2) numbers: each number in 2 bytes, big-endian, concatenated.
     ensures written { buffer.new ≡ flat_map (big_bytes 2) numbers.now }
-    ensures in_range { AllByRecursion (λ n. n < 2 ^ 16) numbers.now }
-    ensures by_index { (i : ℕ) → slice_index numbers.now i < 2 ^ 16 }
+    // Each number fits 2 bytes. This is so for all Rust values; it is stated for the laws.
+    ensures in_range { AreAllBelow (2 ^ 16) numbers.now }
+    // The same by index, for proofs about single ports; `slice_index` is 0 for an index past the
+    // end.
+    ensures by_index { (index : ℕ) → slice_index numbers.now index < 2 ^ 16 }
 {
     BigEndian::write_u16_into(numbers, buffer);
 }

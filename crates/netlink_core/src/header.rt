@@ -41,6 +41,8 @@ impl NetlinkHeader {
     /// bytes.
     #[inline(always)]
     pub fn from_prefix(bytes: &[u8]) -> Result<Self, DecodeError>
+        // HasHeader bytes header: the bytes begin with the header of a complete message.
+        // IsMessageError bytes error: they do not, for this reason.
         ensures { MatchResult result (HasHeader bytes.now) (IsMessageError bytes.now) }
     {
         let got = bytes.len();
@@ -63,17 +65,19 @@ impl NetlinkHeader {
         })
     }
 
-    // Writes the five fields over any sixteen bytes.
+    // Replaces the content of the buffer by the five fields. The buffer must have exactly 16 bytes.
     pub(crate) fn write_fields(&self, buffer: &mut [u8])
-        requires { length buffer.old ≡ 16 }
+        requires { length buffer.old ≡ NETLINK_HEADER_LEN }
+        // header_bytes header: the 16 bytes of the five fields.
         ensures written { buffer.new ≡ header_bytes self.now }
-        // FitFields fields numbers: each number fits the width of its field.
+        // FitFields fields numbers: each number fits the width of its field. This is so for all
+        // Rust values; it is stated for the laws.
         ensures in_range { FitFields header_fields (header_values self.now) }
     {
-        let (length, rest) = buffer.split_at_mut(4);
-        let (kind, numbers) = rest.split_at_mut(4);
+        let (length, after_length) = buffer.split_at_mut(4);
+        let (type_and_flags, sequence_and_port) = after_length.split_at_mut(4);
         write_u32s(&[self.length], length);
-        write_u16s(&[self.message_type, self.flags], kind);
-        write_u32s(&[self.sequence_number, self.port_number], numbers);
+        write_u16s(&[self.message_type, self.flags], type_and_flags);
+        write_u32s(&[self.sequence_number, self.port_number], sequence_and_port);
     }
 }

@@ -1,23 +1,26 @@
 //! Properties of attributes, records and messages. Proof only: the contracts state the properties.
 
-ghost use Rattle.std.specs.Prelude.{◌≡◌, ◌≢◌, ◌↔◌, ◌⊎◌, ◌%◌, ◌^◌, ◌<◌, ◌++◌, Contains, ℕ, List, []};
+ghost use Rattle.std.specs.Prelude.{◌≡◌, ◌≢◌, ◌↔◌, ◌⊎◌, ◌%◌, ◌<◌, ◌++◌, Contains, ℕ, List, []};
 ghost use Rattle.std.specs.Prelude.{◌∷◌, length, map, Option, Some, None, Result, Ok, Err, IsTrue};
-ghost use Rattle.std.specs.Prelude.{IfOk, IsOk, true, false, vec_items};
+ghost use Rattle.std.specs.Prelude.{IfOk, IsOk, true, false};
 ghost use Rattle.std.specs.Borrow.{Bor};
 ghost use Rattle.std.specs.Iterator.{Drains, YieldsThen};
 ghost use Rattle.std.specs.List.{AllByRecursion, flat_map};
-ghost use Rattle.netlink_core.specs.Attribute.{Attribute, FitsLengthField, SplitsIntoAttributes};
+ghost use Rattle.netlink_core.specs.Attribute.{Attribute, FitsHeaderFields, SplitsIntoAttributes};
 ghost use Rattle.netlink_core.specs.Attribute.{SplitsUntilError, IsFramingError, padding_length};
 ghost use Rattle.netlink_core.specs.Attribute.{header_and_value, attribute_bytes};
 ghost use Rattle.netlink_core.specs.AttributeSet.{AttributeValue, ValueOfKind, value_of_kind};
 ghost use Rattle.netlink_core.specs.AttributeSet.{kind_numbers, value_as_decoded};
 ghost use Rattle.netlink_core.specs.Layout.{parse_record, IsContainedIn};
 ghost use Rattle.netlink_core.specs.Bytes.{IsBytes};
+ghost use Rattle.netlink_core.specs.IteratorStep.{items_without_errors};
 ghost use Rattle.netlink_core.specs.Walk.{buffered_attribute, unread_bytes, YieldsAttribute};
 ghost use Rattle.netlink_core.specs.Datagram.{SplitsIntoMessages};
 ghost use Rattle.netlink_core.specs.DatagramWalk.{unread_messages, unread_datagram, YieldsMessage};
-ghost use Rattle.netlink_core.specs.Items.{IsItemOf, AreItemsOf};
-ghost use Rattle.netlink_core.specs.NetlinkMessageModel.{netlink_message_model, payload_model};
+ghost use Rattle.netlink_core.specs.DatagramWalk.{borrowed_messages};
+ghost use Rattle.netlink_core.specs.Items.{Item, IsItemOf, AreItemsOf};
+ghost use Rattle.netlink_core.specs.NetlinkMessageModel.{netlink_message_model};
+ghost use Rattle.netlink_core.specs.NetlinkMessageModel.{owned_payload_model};
 ghost use Rattle.netlink_core.specs.declared.attribute.NlaBuffer.{NlaBuffer};
 ghost use Rattle.netlink_core.specs.declared.attribute.NlasIterator.{NlasIterator};
 ghost use Rattle.netlink_core.specs.declared.datagram.FramedMessages.{FramedMessages};
@@ -25,7 +28,7 @@ ghost use Rattle.netlink_core.specs.declared.datagram.MessageStrings.{MessageStr
 ghost use Rattle.netlink_core.specs.declared.error.DecodeError.{DecodeError};
 ghost use Rattle.netlink_core.specs.declared.error.DecodeError.TheVariants.{Memory};
 ghost use Rattle.netlink_core.specs.Canonical.{HasCanonicalForm};
-ghost use Rattle.netlink_core.specs.NetlinkMessage.{Payload, NetlinkMessageModel, finalized_header};
+ghost use Rattle.netlink_core.specs.NetlinkMessage.{NetlinkMessageModel, finalized_header};
 ghost use Rattle.netlink_core.specs.NetlinkMessage.{netlink_codec};
 
 use crate::attribute::{NlaBuffer, NlasIterator};
@@ -53,37 +56,41 @@ pub fn split_is_as_stated()
     // SplitsIntoAttributes bytes attributes rest: the bytes are these attributes, each with its
     // padding, and then `rest`; here `rest` is empty.
     ensures none { (bytes : List ℕ) → SplitsIntoAttributes bytes [] [] ↔ (bytes ≡ []) }
-    // header_and_value a: the bytes of the attribute without its padding. padding_length n: the
-    // number of bytes, 0 to 3, from `n` to the next multiple of 4.
+    // header_and_value a: the bytes of the attribute without its padding. FitsHeaderFields a: its
+    // type field has 16 bits, and its value at most 65,531 bytes. padding_length n: the number of
+    // bytes, 0 to 3, from `n` to the next multiple of 4.
     ensures some { (bytes : List ℕ) (a : Attribute) (later : List Attribute)
         → SplitsIntoAttributes bytes (a ∷ later) [] ↔ ((padding rest : List ℕ)
         × (bytes ≡ header_and_value a ++ (padding ++ rest))
-        × ((a.type_word < 2 ^ 16) × FitsLengthField a)
+        × FitsHeaderFields a
         × (((length padding ≡ padding_length (length a.value)) × SplitsIntoAttributes rest later [])
         ⊎ ((length padding < padding_length (length a.value)) × (rest ≡ []) × (later ≡ [])))) }
 {}
 
 /// Bytes are split into at most one list of attributes.
 pub fn one_list_of_attributes()
-    ensures { (bytes : List ℕ) (xs ys : List Attribute) → SplitsIntoAttributes bytes xs []
-        → SplitsIntoAttributes bytes ys []
-        → xs ≡ ys }
+    // SplitsIntoAttributes bytes attributes rest: the bytes are these attributes, each with its
+    // padding, and then `rest`; here `rest` is empty.
+    ensures { (bytes : List ℕ) (attributes others : List Attribute)
+        → SplitsIntoAttributes bytes attributes [] → SplitsIntoAttributes bytes others []
+        → attributes ≡ others }
 {}
 
-/// The bytes that attributes serialize to are split into these attributes, whatever follows, if
-/// each type field has 16 bits and each value fits its length field (`FitsLengthField`: it has at
-/// most 65,531 bytes).
+/// The bytes that attributes serialize to are split into these attributes, whatever bytes follow.
+/// This requires that each type field has 16 bits, and that each value fits its length field
+/// (`FitsHeaderFields`).
 pub fn serialized_attributes_are_split()
-    // AllByRecursion P xs: `P` holds of each element of `xs`. flat_map attribute_bytes xs: the
-    // bytes of all attributes, each with zeros as its padding. `rest` is what follows.
-    ensures { (xs : List Attribute) → AllByRecursion
-        (λ (a : Attribute). (a.type_word < 2 ^ 16) × FitsLengthField a) xs
-        → (rest : List ℕ) → SplitsIntoAttributes (flat_map attribute_bytes xs ++ rest) xs rest }
+    // AllByRecursion P list: `P` holds of each element. flat_map attribute_bytes attributes: the
+    // bytes of all attributes, each with zeros as its padding. SplitsIntoAttributes bytes
+    // attributes rest: the bytes are these attributes, each with its padding, and then `rest`.
+    ensures { (attributes : List Attribute) → AllByRecursion FitsHeaderFields attributes
+        → (rest : List ℕ)
+        → SplitsIntoAttributes (flat_map attribute_bytes attributes ++ rest) attributes rest }
 {}
 
-/// Bytes parse as a value if and only if they contain it (`IsContainedIn`): they are long enough,
-/// they have the tag and the numbers of the value, and the value is in range and in normal form. A
-/// record is parsed as no other value.
+/// Bytes parse as a value of a record type if and only if they contain it (`IsContainedIn`): they
+/// are long enough, they have the tag and the numbers of the value, and the value is in range and
+/// in normal form.
 pub fn parsed_iff_contained<T: Record>()
     // parse_record layout param bytes: `Ok` of the value, or `Err` of the error. IsBytes: each
     // number of the list is below 256.
@@ -92,24 +99,24 @@ pub fn parsed_iff_contained<T: Record>()
         ↔ IsContainedIn T.layout bytes param value }
 {}
 
-/// Returns `TAKES_MEMORY` of a record: whether parsing it can fail with `Memory`. It cannot.
+/// Returns `TAKES_MEMORY` of a record type: whether parsing can fail with `Memory`. It is `false`.
 pub fn records_take_no_memory<T: Record>() -> bool
     ensures { result ≡ false }
 {
     T::TAKES_MEMORY
 }
 
-/// Returns `TAKES_MEMORY` of a raw attribute ([`DefaultNla`]): whether parsing it can fail with
-/// `Memory`. It can, since its value is copied.
+/// Returns `TAKES_MEMORY` of a raw attribute ([`DefaultNla`]): whether parsing can fail with
+/// `Memory`. It is `true`, since the value is copied.
 pub fn attributes_take_memory() -> bool
     ensures { result ≡ true }
 {
     DefaultNla::TAKES_MEMORY
 }
 
-/// For any set of attribute types, a value of a kind in the set is found under this kind. No value,
-/// and no raw attribute, is found under another kind than its own. Nothing is found under a kind
-/// that is not in the set.
+/// For any set of attribute types, `value_of_kind` finds a value of a kind in the set under this
+/// kind (`own`). It finds no value, and no raw attribute, under another kind than its own
+/// (`other`). It finds nothing under a kind that is not in the set (`none`).
 pub fn value_is_found_under_its_kind<T: FamilyNla>()
     // T.attribute_set: the set of attribute types. kind_numbers set: the kinds in the set.
     // ValueOfKind set k: the type of the values of the kind `k`; raw attributes if `k` is not in
@@ -129,19 +136,21 @@ pub fn value_is_found_under_its_kind<T: FamilyNla>()
 /// into. If it yields an error, it has yielded the attributes before this error, and no bytes are
 /// left.
 pub fn complete_iteration_is_the_split()
-    // Drains step walk items: calling `next` on `walk` until it returns `None` yields `items`, here
-    // the attributes `given`, each as an `Ok`. unread_bytes walk: the bytes that the iterator has
-    // not read yet. buffered_attribute: the type field and the value of a yielded attribute.
-    ensures ended { (walk : NlasIterator) (given : List NlaBuffer)
-        → Drains YieldsAttribute walk (map (λ (b : NlaBuffer). Ok b) given)
-        → SplitsIntoAttributes (unread_bytes walk) (map buffered_attribute given) [] }
+    // Drains step walk items: calling `next` on `walk` until it returns `None` yields `items`. Here
+    // each item is an `Ok` (`items_without_errors`). unread_bytes walk: the bytes that the iterator
+    // has not read yet. buffered_attribute: the type field and the value of a yielded attribute.
+    // SplitsIntoAttributes bytes attributes rest: the bytes are these attributes, each with its
+    // padding, and then `rest`, here nothing.
+    ensures ended { (walk : NlasIterator) (yielded : List NlaBuffer)
+        → Drains YieldsAttribute walk (items_without_errors yielded)
+        → SplitsIntoAttributes (unread_bytes walk) (map buffered_attribute yielded) [] }
     // YieldsThen step walk items item last: `next` yields `items` and then `item`, here the error
-    // `e`, after which the iterator is `last`. SplitsUntilError faulty bytes attributes e: the
+    // `e`, after which the iterator is `last`. SplitsUntilError has_error bytes attributes e: the
     // bytes are these attributes, and then at least one byte more, whose error is `e`, here an
     // error of the framing (`IsFramingError`): values are not checked.
-    ensures error { (walk last : NlasIterator) (given : List NlaBuffer) (e : DecodeError)
-        → YieldsThen YieldsAttribute walk (map (λ (b : NlaBuffer). Ok b) given) (Some (Err e)) last
-        → SplitsUntilError IsFramingError (unread_bytes walk) (map buffered_attribute given) e
+    ensures error { (walk last : NlasIterator) (yielded : List NlaBuffer) (e : DecodeError)
+        → YieldsThen YieldsAttribute walk (items_without_errors yielded) (Some (Err e)) last
+        → SplitsUntilError IsFramingError (unread_bytes walk) (map buffered_attribute yielded) e
         × (unread_bytes last ≡ []) }
 {}
 
@@ -173,10 +182,10 @@ pub fn equal_messages<I: HasCodec>(v: &NetlinkMessage<I>, w: &NetlinkMessage<I>)
 
 /// Returns `v == w`, which is true if and only if the models of the payloads are equal.
 pub fn equal_payloads<I: HasCodec>(v: &NetlinkPayload<I>, w: &NetlinkPayload<I>) -> bool
-    // payload_model bytes model payload: the payload with its bytes as a list, which `bytes`
-    // returns (here of a `Vec`), or with the model of its inner message, which `model` returns.
+    // owned_payload_model model payload: the payload with its raw bytes as a list, or with the
+    // model of its inner message, which `model` returns.
     ensures { IsTrue result
-        ↔ (payload_model vec_items I.model v.now ≡ payload_model vec_items I.model w.now) }
+        ↔ (owned_payload_model I.model v.now ≡ owned_payload_model I.model w.now) }
 {
     v == w
 }
@@ -211,21 +220,21 @@ pub fn copied_walk<'a>(walk: &NlasIterator<'a>) -> Result<NlasIterator<'a>, Allo
 /// Returns a clone. Cloning an iterator over messages and their headers succeeds, and the clone has
 /// the same bytes left to read (`unread_messages`).
 pub fn copied_framed_messages<'a>(
-    walk: &FramedMessages<'a>,
+    messages: &FramedMessages<'a>,
 ) -> Result<FramedMessages<'a>, AllocError>
     ensures ok { IsOk result }
-    ensures same { IfOk result (λ copy. unread_messages copy ≡ unread_messages walk.now) }
+    ensures same { IfOk result (λ copy. unread_messages copy ≡ unread_messages messages.now) }
 {
-    walk.clone()
+    messages.clone()
 }
 
 /// Returns a clone. Cloning an iterator over messages succeeds, and the clone has the same bytes
 /// left to read (`unread_datagram`).
-pub fn copied_messages<'a>(walk: &MessageStrings<'a>) -> Result<MessageStrings<'a>, AllocError>
+pub fn copied_messages<'a>(messages: &MessageStrings<'a>) -> Result<MessageStrings<'a>, AllocError>
     ensures ok { IsOk result }
-    ensures same { IfOk result (λ copy. unread_datagram copy ≡ unread_datagram walk.now) }
+    ensures same { IfOk result (λ copy. unread_datagram copy ≡ unread_datagram messages.now) }
 {
-    walk.clone()
+    messages.clone()
 }
 
 /// Returns the default header, whose fields are all 0.
@@ -241,9 +250,9 @@ pub fn default_header() -> NetlinkHeader
     NetlinkHeader::default()
 }
 
-/// Bytes start with one message or have one error, not both. The error is never `Memory`. In order:
-/// bytes have a message or an error; at most one message; not a message and an error; at most one
-/// error; and the error is not `Memory`.
+/// Bytes start with one message or have one error, not both. The error is never `Memory`. The
+/// clauses are, in order: bytes have a message or an error; at most one message; not both a message
+/// and an error; at most one error; and the error is not `Memory`.
 pub fn one_message_or_error<I: HasCodec<Param = u16>>()
     // netlink_codec I.codec: the codec of netlink messages with inner messages of the type `I`. It
     // has no parameter, so that its parser's parameter is `tt`. NetlinkMessageModel: a header and a
@@ -261,54 +270,61 @@ pub fn one_message_or_error<I: HasCodec<Param = u16>>()
     ensures error_is_not_memory { (b : List ℕ) → (netlink_codec I.codec).rejects b tt Memory → ⊥ }
 {}
 
-/// Two accepted byte strings have equal messages if and only if they are equivalent: their
-/// netlink headers are equal, and their payloads are equivalent under the message type, up to the
-/// length in the header. What follows this length is ignored.
+/// Two accepted byte strings have equal messages if and only if they are equivalent. They are
+/// equivalent if their netlink headers are equal, and their payloads are equivalent under the
+/// message type. A payload ends at the length in the header; what follows is ignored.
 pub fn equal_messages_iff_equivalent<I: HasCodec<Param = u16>>()
+    // netlink_codec I.codec: the codec of netlink messages with inner messages of the type `I`. `v`
+    // is the message in `b`, and `w` is the one in `c`.
     ensures { (b c : List ℕ) (v w : NetlinkMessageModel I.codec.Value) → IsBytes b → IsBytes c
         → (netlink_codec I.codec).parses b tt v → (netlink_codec I.codec).parses c tt w
         → ((v ≡ w) ↔ (netlink_codec I.codec).equivalent tt b c) }
 {}
 
-/// Two byte strings with canonical forms have the same one if and only if they are equivalent
-/// (`equivalent`).
+/// Two byte strings that have canonical forms have the same one if and only if they are equivalent
+/// (member `equivalent` of the codec of netlink messages).
 pub fn same_message_bytes_iff_equivalent<I: HasCodec<Param = u16>>()
     // HasCanonicalForm codec param bytes form: the bytes parse as a writable value, which
     // serializes to `form`.
-    ensures { (b c form other : List ℕ) → IsBytes b → IsBytes c
+    ensures { (b c form other_form : List ℕ) → IsBytes b → IsBytes c
         → HasCanonicalForm (netlink_codec I.codec) tt b form
-        → HasCanonicalForm (netlink_codec I.codec) tt c other
-        → ((form ≡ other) ↔ (netlink_codec I.codec).equivalent tt b c) }
+        → HasCanonicalForm (netlink_codec I.codec) tt c other_form
+        → ((form ≡ other_form) ↔ (netlink_codec I.codec).equivalent tt b c) }
 {}
 
-/// A message that is writable and in range, and whose header has the length and the type that
-/// `finalize` sets, round-trips if and only if it is in normal form. This holds for any function
-/// `type_of` that maps inner messages to types.
+/// A message whose header has the length and the type that `finalize` sets round-trips if and only
+/// if it is in normal form. This requires that the message is writable and in range. It holds for
+/// any function `type_of` that maps inner messages to types.
 pub fn finalized_message_round_trips<I: HasCodec<Param = u16>>()
-    // finalized_header bytes type_of message: the header of `message` with the length of the
-    // message and the type of its payload. `bytes` and `type_of` are those of an inner message.
-    ensures { (type_of : I.codec.Value → ℕ) (v : NetlinkMessageModel I.codec.Value)
-        → (netlink_codec I.codec).is_in_range v → (netlink_codec I.codec).is_writable v
-        → (v.header ≡ finalized_header I.codec.serialized type_of v)
-        → ((netlink_codec I.codec).parses ((netlink_codec I.codec).serialized v) tt v
-        ↔ (netlink_codec I.codec).is_normal tt v) }
+    // finalized_header bytes type_of m: the header of the message `m`, with the length and the type
+    // that the message has. `bytes` and `type_of` return the bytes and the message type of an inner
+    // message. netlink_codec I.codec: the codec of netlink messages with inner messages of the type
+    // `I`.
+    ensures { (type_of : I.codec.Value → ℕ) (m : NetlinkMessageModel I.codec.Value)
+        → (netlink_codec I.codec).is_in_range m → (netlink_codec I.codec).is_writable m
+        → (m.header ≡ finalized_header I.codec.serialized type_of m)
+        → ((netlink_codec I.codec).parses ((netlink_codec I.codec).serialized m) tt m
+        ↔ (netlink_codec I.codec).is_normal tt m) }
 {}
 
-/// If the iterator ends without an error, it has yielded the messages that the datagram is split
-/// into. If it yields an error, it has yielded the messages before this error, and no bytes are
-/// left.
+/// If a [`MessageStrings`](crate::MessageStrings) ends without an error, it has yielded the
+/// messages that its bytes are split into. If it yields an error, it has yielded the messages
+/// before this error, and no bytes are left.
 pub fn complete_iteration_is_the_datagram()
+    // Drains step walk items: calling `next` on `walk` until it returns `None` yields `items`, each
+    // an `Ok` (`items_without_errors`). YieldsMessage: what one call of `next` does.
     // SplitsIntoMessages bytes messages end: the bytes are these messages, each with its padding.
     // `end` is `None` if no bytes are left then, else the error of the bytes that are left.
-    // unread_datagram walk: the bytes that the iterator has not read yet. `given` are the messages
-    // that it yields, as borrowed bytes: `m.now` are the bytes.
-    ensures ended { (walk : MessageStrings) (given : List (Bor (List ℕ)))
-        → Drains YieldsMessage walk (map (λ (m : Bor (List ℕ)). Ok m) given)
-        → SplitsIntoMessages (unread_datagram walk) (map (λ (m : Bor (List ℕ)). m.now) given) None }
-    ensures error { (walk last : MessageStrings) (given : List (Bor (List ℕ))) (e : DecodeError)
-        → YieldsThen YieldsMessage walk (map (λ (m : Bor (List ℕ)). Ok m) given) (Some (Err e)) last
-        → SplitsIntoMessages (unread_datagram walk) (map (λ (m : Bor (List ℕ)). m.now) given)
-        (Some e)
+    // unread_datagram walk: the bytes that `walk` has not read yet. borrowed_messages: the bytes of
+    // each message that it yields.
+    ensures ended { (walk : MessageStrings) (yielded : List (Bor (List ℕ)))
+        → Drains YieldsMessage walk (items_without_errors yielded)
+        → SplitsIntoMessages (unread_datagram walk) (borrowed_messages yielded) None }
+    // YieldsThen step walk items item last: `next` yields `items` and then `item`, here the error
+    // `e`, after which the iterator is `last`.
+    ensures error { (walk last : MessageStrings) (yielded : List (Bor (List ℕ))) (e : DecodeError)
+        → YieldsThen YieldsMessage walk (items_without_errors yielded) (Some (Err e)) last
+        → SplitsIntoMessages (unread_datagram walk) (borrowed_messages yielded) (Some e)
         × (unread_datagram last ≡ []) }
 {}
 
@@ -317,40 +333,47 @@ pub fn complete_iteration_is_the_datagram()
 pub fn one_list_of_messages()
     // SplitsIntoMessages bytes messages end: `end` is `None` if no bytes are left after the
     // messages, else the error of the bytes that are left.
-    ensures { (bytes : List ℕ) (xs ys : List (List ℕ)) (e f : Option DecodeError)
-        → SplitsIntoMessages bytes xs e → SplitsIntoMessages bytes ys f → (xs ≡ ys) × (e ≡ f) }
+    ensures { (bytes : List ℕ) (messages others : List (List ℕ))
+        (end other_end : Option DecodeError)
+        → SplitsIntoMessages bytes messages end → SplitsIntoMessages bytes others other_end
+        → (messages ≡ others) × (end ≡ other_end) }
 {}
 
 /// Each datagram has a list of items: the payload or the error of each of its messages.
 pub fn datagram_has_items<I: HasCodec<Param = u16>>()
-    // AreItemsOf is bytes items: the items of the datagram. `is` relates a message to its item.
-    // IsItemOf codec message item: the bytes of the message parse as this payload, or are rejected
-    // with this error; `codec` is the codec of inner messages.
-    ensures { (bytes : List ℕ) → IsBytes bytes
-        → (items : List (Result (Payload I.codec.Value) DecodeError))
+    // AreItemsOf is_item bytes items: the items of the datagram. `is_item` relates a message to its
+    // item. IsItemOf codec message item: the bytes of the message parse as this payload, or are
+    // rejected with this error; `codec` is the codec of inner messages.
+    ensures { (bytes : List ℕ) → IsBytes bytes → (items : List (Item I.codec.Value))
         × AreItemsOf (IsItemOf I.codec) bytes items }
 {}
 
 /// Each datagram has at most one list of items.
 pub fn one_list_of_items<I: HasCodec<Param = u16>>()
+    // AreItemsOf (IsItemOf I.codec) bytes items: the items of the datagram are the payload or the
+    // error of each of its messages, and the error of the bytes that are left then, if any.
     ensures { (bytes : List ℕ) → IsBytes bytes
-        → (xs ys : List (Result (Payload I.codec.Value) DecodeError))
-        → AreItemsOf (IsItemOf I.codec) bytes xs → AreItemsOf (IsItemOf I.codec) bytes ys
-        → xs ≡ ys }
+        → (items others : List (Item I.codec.Value))
+        → AreItemsOf (IsItemOf I.codec) bytes items → AreItemsOf (IsItemOf I.codec) bytes others
+        → items ≡ others }
 {
+    // The proof uses the contract of the function that is called here.
     one_message_or_error::<I>();
 }
 
-/// Complete messages with all their padding, followed by more bytes, have the items of these
-/// messages and then the items of the other bytes.
+/// If a datagram consists of complete messages with all their padding (`front`) and of other bytes
+/// (`back`), its items are those of these messages and then those of the other bytes.
 pub fn items_of_concatenation<I: HasCodec<Param = u16>>()
-    // SplitsIntoMessages front messages None: `front` is these messages, and no bytes are left. Its
-    // length is a multiple of 4, so that the last message has all its padding too.
+    // SplitsIntoMessages front messages None: `front` is these messages, and no bytes are left
+    // (`None`). Its length is a multiple of 4, so that the last message has all its padding too.
+    // AreItemsOf (IsItemOf I.codec) bytes items: the items of the datagram are the payload or the
+    // error of each of its messages, and the error of the bytes that are left then, if any.
     ensures { (front back : List ℕ) (messages : List (List ℕ))
-        (xs ys : List (Result (Payload I.codec.Value) DecodeError))
+        (front_items back_items : List (Item I.codec.Value))
         → SplitsIntoMessages front messages None × (length front % 4 ≡ 0)
-        → AreItemsOf (IsItemOf I.codec) front xs → AreItemsOf (IsItemOf I.codec) back ys
-        → AreItemsOf (IsItemOf I.codec) (front ++ back) (xs ++ ys) }
+        → AreItemsOf (IsItemOf I.codec) front front_items
+        → AreItemsOf (IsItemOf I.codec) back back_items
+        → AreItemsOf (IsItemOf I.codec) (front ++ back) (front_items ++ back_items) }
 {}
 
 /// The constants have the numbers of linux/netlink.h.

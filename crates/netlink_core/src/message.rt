@@ -1,11 +1,9 @@
 //! Netlink messages: a header and a payload.
 
-ghost use Rattle.std.specs.Prelude.{◌≡◌, ◌≢◌, ◌≤◌, ◌<◌, ◌↔◌, ◌-◌, length, drop, take, IfOk, IfErr};
-ghost use Rattle.std.specs.Prelude.{IsTrue, List, ℕ, vec_items, ⊤};
-ghost use Rattle.std.specs.Borrow.{Bor};
+ghost use Rattle.std.specs.Prelude.{◌≡◌, ◌≢◌, ◌≤◌, ◌<◌, ◌↔◌, length, IfOk, IfErr, IsTrue, ⊤};
 ghost use Rattle.netlink_core.specs.Bytes.{HoldsAtStart};
 ghost use Rattle.netlink_core.specs.declared.error.DecodeError.TheVariants.{Memory};
-ghost use Rattle.netlink_core.specs.Header.{HasHeader, message_type_in};
+ghost use Rattle.netlink_core.specs.Header.{HasHeader, message_payload, message_type_in};
 ghost use Rattle.netlink_core.specs.NetlinkMessage.{Payload, NetlinkMessageModel};
 ghost use Rattle.netlink_core.specs.NetlinkMessage.{leading_error_number};
 ghost use Rattle.netlink_core.specs.NetlinkMessage.{error_number_of, ParsesAsPayload};
@@ -13,7 +11,9 @@ ghost use Rattle.netlink_core.specs.NetlinkMessage.{IsInnerMessageType};
 ghost use Rattle.netlink_core.specs.NetlinkMessage.{payload_bytes, payload_type};
 ghost use Rattle.netlink_core.specs.NetlinkMessage.{HoldsOfInnerMessage};
 ghost use Rattle.netlink_core.specs.NetlinkMessage.{finalized_header, netlink_codec};
-ghost use Rattle.netlink_core.specs.NetlinkMessageModel.{payload_model, netlink_message_model};
+ghost use Rattle.netlink_core.specs.NetlinkMessageModel.{owned_payload_model};
+ghost use Rattle.netlink_core.specs.NetlinkMessageModel.{borrowed_payload_model};
+ghost use Rattle.netlink_core.specs.NetlinkMessageModel.{netlink_message_model};
 
 use crate::error::DecodeError;
 use crate::header::{NETLINK_HEADER_LEN, NetlinkHeader};
@@ -70,11 +70,11 @@ pub const NLM_F_CAPPED: u16 = 0x100;
 pub const NLM_F_ACK_TLVS: u16 = 0x200;
 
 /// The maximal length of a message in bytes, as its length field (`nlmsg_len`) has 32 bits.
-const LONGEST: usize = 4_294_967_295;
+const MAX_MESSAGE_LEN: usize = 4_294_967_295;
 
 /// A message of a protocol that is serialized after a netlink header.
 pub trait NetlinkSerializable: HasCodec<Param = u16> {
-    /// Returns whether the message is writable.
+    /// Returns whether the message is writable: whether its lengths fit their length fields.
     fn is_writable(&self) -> bool
         ensures { IsTrue result ↔ Self.codec.is_writable (Self.model self.now) };
 
@@ -93,7 +93,8 @@ pub trait NetlinkSerializable: HasCodec<Param = u16> {
     fn serialize(&self, buffer: &mut [u8])
         requires writable { Self.codec.is_writable (Self.model self.now) }
         requires room { length (Self.codec.serialized (Self.model self.now)) ≤ length buffer.old }
-        // HoldsAtStart bytes old new: `new` is `bytes`, and then `old` from this offset on.
+        // HoldsAtStart bytes old new: `new` is `bytes`, and then what `old` has after as many
+        // bytes.
         ensures written { HoldsAtStart
             (Self.codec.serialized (Self.model self.now)) buffer.old buffer.new }
         // Each number of the message fits its field. This is so for all Rust values; it is stated
@@ -112,8 +113,10 @@ pub trait NetlinkDeserializable: HasCodec<Param = u16> {
         header: &NetlinkHeader,
         payload: &[u8],
     ) -> Result<Self, DecodeError>
+        // The parameter of the codec is the header's type.
         ensures value { IfOk result
             (λ m. Self.codec.parses payload.now header.now.message_type (Self.model m)) }
+        // An error is the first error of the payload, unless it is `Memory`.
         ensures error { IfErr result (λ e. e ≢ Memory
             → Self.codec.rejects payload.now header.now.message_type e) }
         // `Memory` only if the payload has a message, and this message needs to allocate
@@ -142,8 +145,10 @@ pub enum NetlinkPayload<I, B = Vec<u8>> {
 
 // By hand: a derived impl would give an owned payload a `clone` without an allocator.
 impl<I: Copy, B: Copy> Clone for NetlinkPayload<I, B> {
+    // A clone is equal to the payload.
     ghost is_clone = { λ payload copy. copy ≡ payload };
 
+    // Cloning never fails.
     ghost is_infallible = { λ _. ⊤ };
 
     fn clone(&self) -> Result<Self, AllocError> {
@@ -171,9 +176,9 @@ impl<I: HasCodec> NetlinkPayload<I> {
     /// bytes, and for any other payload.
     pub fn error_number(&self) -> Option<i32>
         // error_number_of payload: the number of an error or an end, and `None` for any other
-        // payload. payload_model bytes model payload: the model of the payload, with raw bytes as
-        // a list (here those of a `Vec`), and an inner message as its model.
-        ensures { result ≡ error_number_of (payload_model vec_items I.model self.now) }
+        // payload. owned_payload_model model payload: the payload with raw bytes as a list, and an
+        // inner message as its model.
+        ensures { result ≡ error_number_of (owned_payload_model I.model self.now) }
     {
         match self {
             NetlinkPayload::Done(bytes) | NetlinkPayload::Error(bytes) => error_number(bytes),
@@ -187,10 +192,10 @@ impl<I> NetlinkPayload<I, &[u8]> {
     /// little-endian, 0 or `-errno` (errno(3)). Returns `None` if this payload has fewer than 4
     /// bytes, and for any other payload.
     pub fn error_number(&self) -> Option<i32>
-        // payload_model bytes model payload: the model of the payload, with raw bytes as a list
-        // (here those of a `&[u8]`), and an inner message unchanged.
-        ensures { result ≡ error_number_of (payload_model (λ (b : Bor (List ℕ)). b.now) (λ m. m)
-            self.now) }
+        // error_number_of payload: the number of an error or an end, and `None` for any other
+        // payload. borrowed_payload_model payload: the payload with raw bytes as a list, and an
+        // inner message unchanged.
+        ensures { result ≡ error_number_of (borrowed_payload_model self.now) }
     {
         match self {
             NetlinkPayload::Done(bytes) | NetlinkPayload::Error(bytes) => error_number(bytes),
@@ -204,10 +209,11 @@ impl<I: NetlinkSerializable> NetlinkPayload<I> {
     /// `NLMSG_OVERRUN`, or the type of the inner message.
     pub fn message_type(&self) -> u16
         // payload_type type_of payload: the constant NLMSG_.. of a control message, or `type_of` of
-        // the inner message. `I.serialized_type` is what `message_type` of the inner message
-        // returns.
+        // the inner message. Here this is `serialized_type`, which `message_type` of the inner
+        // message returns. owned_payload_model model payload: the payload with raw bytes as a list,
+        // and an inner message as its model.
         ensures { result ≡ payload_type I.serialized_type
-            (payload_model vec_items I.model self.now) }
+            (owned_payload_model I.model self.now) }
     {
         match self {
             NetlinkPayload::Done(_) => NLMSG_DONE,
@@ -218,10 +224,13 @@ impl<I: NetlinkSerializable> NetlinkPayload<I> {
         }
     }
 
-    // Returns whether the inner message, if any, is writable.
+    // Returns whether the inner message is writable, or `true` if there is none.
     fn is_writable(&self) -> bool
+        // HoldsOfInnerMessage predicate payload: the predicate holds of the inner message, if there
+        // is one. owned_payload_model model payload: the payload with raw bytes as a list, and an
+        // inner message as its model.
         ensures { IsTrue result ↔ HoldsOfInnerMessage I.codec.is_writable
-            (payload_model vec_items I.model self.now) }
+            (owned_payload_model I.model self.now) }
     {
         match self {
             NetlinkPayload::InnerMessage(message) => message.is_writable(),
@@ -229,12 +238,17 @@ impl<I: NetlinkSerializable> NetlinkPayload<I> {
         }
     }
 
-    // Returns the number of bytes that `serialize` writes.
+    // Returns the number of bytes that `serialize` writes. The inner message, if there is one, must
+    // be writable.
     fn buffer_len(&self) -> usize
+        // HoldsOfInnerMessage predicate payload: the predicate holds of the inner message, if there
+        // is one. owned_payload_model model payload: the payload with raw bytes as a list, and an
+        // inner message as its model.
         requires { HoldsOfInnerMessage I.codec.is_writable
-            (payload_model vec_items I.model self.now) }
+            (owned_payload_model I.model self.now) }
+        // payload_bytes serialized payload: the raw bytes, or `serialized` of the inner message.
         ensures { result
-            ≡ length (payload_bytes I.codec.serialized (payload_model vec_items I.model self.now)) }
+            ≡ length (payload_bytes I.codec.serialized (owned_payload_model I.model self.now)) }
     {
         match self {
             NetlinkPayload::Done(bytes)
@@ -245,17 +259,27 @@ impl<I: NetlinkSerializable> NetlinkPayload<I> {
         }
     }
 
-    // Serializes the payload to the start of the buffer. The bytes after it are unchanged.
+    // Serializes the payload to the start of the buffer. The bytes after it are unchanged. The
+    // inner message, if there is one, must be writable, and the buffer at least as long as the
+    // payload's bytes.
     fn serialize(&self, buffer: &mut [u8])
+        // HoldsOfInnerMessage predicate payload: the predicate holds of the inner message, if there
+        // is one. owned_payload_model model payload: the payload with raw bytes as a list, and an
+        // inner message as its model.
         requires writable { HoldsOfInnerMessage I.codec.is_writable
-            (payload_model vec_items I.model self.now) }
+            (owned_payload_model I.model self.now) }
+        // payload_bytes serialized payload: the raw bytes, or `serialized` of the inner message.
         requires room { length
-            (payload_bytes I.codec.serialized (payload_model vec_items I.model self.now))
+            (payload_bytes I.codec.serialized (owned_payload_model I.model self.now))
             ≤ length buffer.old }
+        // HoldsAtStart bytes old new: `new` is `bytes`, and then what `old` has after as many
+        // bytes.
         ensures written { HoldsAtStart (payload_bytes I.codec.serialized
-            (payload_model vec_items I.model self.now)) buffer.old buffer.new }
+            (owned_payload_model I.model self.now)) buffer.old buffer.new }
+        // Each number of the inner message fits its field. This is so for all Rust values; it is
+        // stated for the laws.
         ensures in_range { HoldsOfInnerMessage I.codec.is_in_range
-            (payload_model vec_items I.model self.now) }
+            (owned_payload_model I.model self.now) }
     {
         match self {
             NetlinkPayload::Done(bytes)
@@ -268,17 +292,24 @@ impl<I: NetlinkSerializable> NetlinkPayload<I> {
 }
 
 impl<I: NetlinkDeserializable> NetlinkPayload<I> {
-    // Parses the payload under the header's type. An `NLMSG_NOOP` never allocates.
+    // Parses the payload under the header's type. Fails with the error of the inner message, or
+    // with `Memory` if an allocation fails. An `NLMSG_NOOP` never fails.
     fn read(alloc: Global, header: &NetlinkHeader, bytes: &[u8]) -> Result<Self, DecodeError>
-        ensures value { IfOk result (λ p. ParsesAsPayload I.codec.parses bytes.now
-            header.now.message_type
-            (payload_model vec_items I.model p)) }
+        // ParsesAsPayload parses bytes type payload: the bytes parse as the payload under this
+        // message type; `parses` says how an inner message parses. owned_payload_model model
+        // payload: the payload with raw bytes as a list, and an inner message as its model.
+        ensures value { IfOk result (λ payload. ParsesAsPayload I.codec.parses bytes.now
+            header.now.message_type (owned_payload_model I.model payload)) }
+        // Only an inner message is rejected. IsInnerMessageType type: a message of this type has an
+        // inner message.
         ensures error { IfErr result (λ e. e ≢ Memory
             → IsInnerMessageType header.now.message_type
             × I.codec.rejects bytes.now header.now.message_type e) }
-        ensures memory { IfErr result (λ e. header.now.message_type ≢ 1) }
-        ensures memory_needed { IfErr result (λ e. e ≡ Memory → (p : Payload I.codec.Value)
-            × ParsesAsPayload I.codec.parses bytes.now header.now.message_type p) }
+        // Whatever the error is, the message is not an `NLMSG_NOOP`.
+        ensures memory { IfErr result (λ e. header.now.message_type ≢ NLMSG_NOOP) }
+        // `Memory` only if the bytes have a payload.
+        ensures memory_needed { IfErr result (λ e. e ≡ Memory → (payload : Payload I.codec.Value)
+            × ParsesAsPayload I.codec.parses bytes.now header.now.message_type payload) }
     {
         Ok(match header.message_type {
             NLMSG_NOOP => NetlinkPayload::Noop,
@@ -330,13 +361,16 @@ impl<I: NetlinkDeserializable> NetlinkMessage<I> {
     pub fn deserialize(alloc: Global, bytes: &[u8]) -> Result<Self, DecodeError>
         // The bytes start with this header, and the payload up to the header's length parses by the
         // header's type. netlink_codec codec: the codec of netlink messages, given that of their
-        // inner messages. netlink_message_model model message: the header and the payload, with the
-        // raw bytes as a list, or with the model of the inner message.
+        // inner messages; it has no parameter (`tt`). netlink_message_model model message: the
+        // header and the payload, with the raw bytes as a list, or with the model of the inner
+        // message.
         ensures value { IfOk result
             (λ m. (netlink_codec I.codec).parses bytes.now tt (netlink_message_model I.model m)) }
+        // An error is the first error of the bytes, unless it is `Memory`.
         ensures error { IfErr result (λ e. e ≢ Memory
             → (netlink_codec I.codec).rejects bytes.now tt e) }
-        // message_type_in: `nlmsg_type`, at offset 4.
+        // `Memory` only if the message is not an `NLMSG_NOOP`. message_type_in bytes: `nlmsg_type`,
+        // at offset 4.
         ensures memory { IfErr result (λ e. e ≡ Memory → message_type_in bytes.now ≢ NLMSG_NOOP) }
         // `Memory` only if the bytes have a message.
         ensures memory_needed { IfErr result (λ e. e ≡ Memory
@@ -353,8 +387,10 @@ impl<I: NetlinkDeserializable> NetlinkMessage<I> {
 // after the header, up to the header's length.
 #[inline(always)]
 fn payload_of<'a>(header: &NetlinkHeader, bytes: &'a [u8]) -> &'a [u8]
+    // HasHeader bytes header: the bytes begin with the header of a complete message.
     requires { HasHeader bytes.now header.now }
-    ensures { result.now ≡ take (header.now.length - 16) (drop 16 bytes.entry.now) }
+    // message_payload bytes header: the bytes from offset 16 to the header's length.
+    ensures { result.now ≡ message_payload bytes.entry.now header.now }
 {
     &bytes[NETLINK_HEADER_LEN..header.length as usize]
 }
@@ -364,13 +400,18 @@ impl<I: NetlinkSerializable> NetlinkMessage<I> {
     /// header, and its type to the payload's type. The other fields of the header and the payload
     /// are unchanged. The message must be writable.
     pub fn finalize(&mut self)
+        // netlink_codec codec: the codec of netlink messages, given that of their inner messages.
+        // netlink_message_model model message: the header and the payload, with raw bytes as a
+        // list, or with the model of the inner message.
         requires { (netlink_codec I.codec).is_writable (netlink_message_model I.model self.old) }
-        // finalized_header bytes type_of message: the header of `message` with the length and the
-        // type of its payload. `bytes` and `type_of` are those of an inner message.
+        // finalized_header bytes type_of m: the header of the message `m`, with the length and the
+        // type that the message has. `bytes` and `type_of` return the bytes and the message type of
+        // an inner message.
         ensures header { self.new.header ≡ finalized_header I.codec.serialized I.serialized_type
             (netlink_message_model I.model self.old) }
         ensures payload { self.new.payload ≡ self.old.payload }
     {
+        // A writable message is shorter than 2^32 bytes.
         self.header.length = self.buffer_len() as u32;
         self.header.message_type = self.payload.message_type();
     }
@@ -378,15 +419,22 @@ impl<I: NetlinkSerializable> NetlinkMessage<I> {
     /// Returns whether the message is writable: its inner message is, and the whole has at most
     /// 4,294,967,295 bytes, including the 16 bytes of the header.
     pub fn is_writable(&self) -> bool
+        // netlink_codec codec: the codec of netlink messages, given that of their inner messages.
+        // netlink_message_model model message: the header and the payload, with raw bytes as a
+        // list, or with the model of the inner message.
         ensures { IsTrue result ↔ (netlink_codec I.codec).is_writable
             (netlink_message_model I.model self.now) }
     {
-        self.payload.is_writable() && self.payload.buffer_len() <= LONGEST - NETLINK_HEADER_LEN
+        self.payload.is_writable()
+            && self.payload.buffer_len() <= MAX_MESSAGE_LEN - NETLINK_HEADER_LEN
     }
 
     /// Returns the number of bytes that `serialize` writes, including the 16 of the header. The
     /// message must be writable.
     pub fn buffer_len(&self) -> usize
+        // netlink_codec codec: the codec of netlink messages, given that of their inner messages.
+        // netlink_message_model model message: the header and the payload, with raw bytes as a
+        // list, or with the model of the inner message.
         requires { (netlink_codec I.codec).is_writable (netlink_message_model I.model self.now) }
         ensures { result ≡ length ((netlink_codec I.codec).serialized
             (netlink_message_model I.model self.now)) }
@@ -398,11 +446,16 @@ impl<I: NetlinkSerializable> NetlinkMessage<I> {
     /// after them are unchanged. The message must be writable, and the buffer at least as long as
     /// its bytes.
     pub fn serialize(&self, buffer: &mut [u8])
+        // netlink_codec codec: the codec of netlink messages, given that of their inner messages.
+        // netlink_message_model model message: the header and the payload, with raw bytes as a
+        // list, or with the model of the inner message.
         requires writable { (netlink_codec I.codec).is_writable
             (netlink_message_model I.model self.now) }
         requires room { length ((netlink_codec I.codec).serialized
             (netlink_message_model I.model self.now))
             ≤ length buffer.old }
+        // HoldsAtStart bytes old new: `new` is `bytes`, and then what `old` has after as many
+        // bytes.
         ensures written { HoldsAtStart ((netlink_codec I.codec).serialized
             (netlink_message_model I.model self.now)) buffer.old buffer.new }
         // Each number of the message fits its field. This is so for all Rust values; it is stated
@@ -410,8 +463,8 @@ impl<I: NetlinkSerializable> NetlinkMessage<I> {
         ensures in_range { (netlink_codec I.codec).is_in_range
             (netlink_message_model I.model self.now) }
     {
-        let (header, rest) = buffer.split_at_mut(NETLINK_HEADER_LEN);
+        let (header, payload) = buffer.split_at_mut(NETLINK_HEADER_LEN);
         self.header.write_fields(header);
-        self.payload.serialize(rest);
+        self.payload.serialize(payload);
     }
 }

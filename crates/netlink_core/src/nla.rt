@@ -5,13 +5,14 @@ ghost use Rattle.std.specs.Prelude.{IsTrue, IsOk, IfOk, SomeIff, ⊤, ◌^◌};
 ghost use Rattle.std.specs.List.{AllByRecursion, flat_map};
 ghost use Rattle.std.proofs.Common.{rules};
 ghost use Rattle.netlink_core.specs.Bytes.{HoldsAtStart, IsBytes};
-ghost use Rattle.netlink_core.specs.Attribute.{Attribute, FitsLengthField, AreWritableWithin};
+ghost use Rattle.netlink_core.specs.Attribute.{Attribute, FitsLengthField, AreWritable};
+ghost use Rattle.netlink_core.specs.Attribute.{AreWritableWithin};
 ghost use Rattle.netlink_core.specs.Attribute.{attribute_bytes};
 ghost use Rattle.netlink_core.specs.AttributeSet.{IsInRangeIn};
 ghost use Rattle.netlink_core.specs.FirstAttribute.{first_attribute_codec};
 ghost use Rattle.netlink_core.specs.laws.FirstAttribute.{first_attribute_codec_laws};
 
-use crate::attribute::{MAX_VALUE, NLA_HEADER_SIZE, NlaBuffer, padded};
+use crate::attribute::{MAX_VALUE_LEN, NLA_HEADER_SIZE, NlaBuffer, padded};
 use crate::canonical_form::CanonError;
 use crate::codec::{Emitable, Parseable, Readable};
 use crate::error::DecodeError;
@@ -25,8 +26,8 @@ pub trait Nla {
     // The attribute that the value serializes as.
     ghost attribute: { Self → Attribute };
 
-    // Each number of the value fits its field. A type with a codec defines it, for the codec's laws
-    // (`in_range_by_codec` of `Wire`). By default it holds of every value.
+    // Each number of the value fits its field. A type with a codec defines this member, for the
+    // codec's laws (`in_range_by_codec` of `Wire`). By default it holds of every value.
     ghost in_range: { Self → Type 0 } = { λ _. ⊤ };
 
     /// Returns the number of the value's bytes, without header and padding.
@@ -41,10 +42,14 @@ pub trait Nla {
     /// after it are unchanged. The value must have at most 65,531 bytes, and the buffer at least as
     /// many as the value.
     fn emit_value(&self, buffer: &mut [u8])
+        // FitsLengthField: the value has at most 65,531 bytes.
         requires fits { FitsLengthField (attribute self.now) }
         requires room { length (attribute self.now).value ≤ length buffer.old }
-        ensures written { HoldsAtStart ((attribute self.now).value) buffer.old buffer.new }
-        // This is so for all Rust values; it is stated for the laws.
+        // HoldsAtStart bytes old new: `new` is `bytes`, and then what `old` has after as many
+        // bytes.
+        ensures written { HoldsAtStart (attribute self.now).value buffer.old buffer.new }
+        // Each number of the value fits its field. This is so for all Rust values; it is stated for
+        // the laws.
         ensures in_range { in_range self.now };
 
     /// Returns whether the value has at most 65,531 bytes, so that its length fits the length
@@ -52,7 +57,7 @@ pub trait Nla {
     fn value_fits(&self) -> bool
         ensures { IsTrue result ↔ FitsLengthField (attribute self.now) }
     {
-        self.value_len() <= MAX_VALUE
+        self.value_len() <= MAX_VALUE_LEN
     }
 }
 
@@ -62,6 +67,7 @@ pub trait WireNla: Nla + Wire {
     // The value serializes to its attribute: header, value and padding of zeros.
     ghost bytes_by_attribute: { (v : Self) → Self.bytes v ≡ attribute_bytes (Self.attribute v) };
 
+    // It is writable if and only if its value has at most 65,531 bytes (`FitsLengthField`).
     ghost writable_by_attribute: { (v : Self) → (Self.writable v
         ↔ FitsLengthField (Self.attribute v)) };
 }
@@ -69,7 +75,9 @@ pub trait WireNla: Nla + Wire {
 /// Returns the number of the attribute's bytes, with header and padding. Its value must fit its
 /// length field: it has at most 65,531 bytes.
 pub fn nla_len<T: Nla>(nla: &T) -> usize
+    // FitsLengthField: the value has at most 65,531 bytes.
     requires { FitsLengthField (T.attribute nla.now) }
+    // attribute_bytes: the header, the value and the padding of the attribute.
     ensures { result ≡ length (attribute_bytes (T.attribute nla.now)) }
 {
     padded(NLA_HEADER_SIZE + nla.value_len())
@@ -79,31 +87,32 @@ pub fn nla_len<T: Nla>(nla: &T) -> usize
 /// it are unchanged. Its value must have at most 65,531 bytes, and the buffer at least as many as
 /// the attribute with its padding.
 pub fn emit_nla<T: Nla>(nla: &T, buffer: &mut [u8])
-    // FitsLengthField: the value has at most 65,531 bytes. attribute_bytes: the header, the value
-    // and the padding of the attribute. HoldsAtStart bytes old new: `new` is `bytes`, and then
-    // `old` from this offset on.
+    // FitsLengthField: the value has at most 65,531 bytes.
     requires fits { FitsLengthField (T.attribute nla.now) }
+    // attribute_bytes: the header, the value and the padding of the attribute.
     requires room { length (attribute_bytes (T.attribute nla.now)) ≤ length buffer.old }
+    // HoldsAtStart bytes old new: `new` is `bytes`, and then what `old` has after as many bytes.
     ensures written { HoldsAtStart (attribute_bytes (T.attribute nla.now)) buffer.old buffer.new }
     // The type field has 16 bits, and each number of the value fits its field. This is so for all
-    // Rust values.
+    // Rust values; it is stated for the laws.
     ensures kind { (T.attribute nla.now).type_word < 2 ^ 16 }
     ensures in_range { T.in_range nla.now }
 {
-    // Both are computed before a byte is written, so that one branch on the kind is enough.
+    // Both calls branch on the kind. They come before the first write, so that the compiler can
+    // merge the branches.
     let len = nla.value_len();
     let kind = nla.kind();
     let end = NLA_HEADER_SIZE + len;
-    let (header, rest) = buffer.split_at_mut(NLA_HEADER_SIZE);
-    let (value, rest) = rest.split_at_mut(len);
-    let (padding, _) = rest.split_at_mut(padded(end) - end);
+    let (header, after_header) = buffer.split_at_mut(NLA_HEADER_SIZE);
+    let (value, after_value) = after_header.split_at_mut(len);
+    let (padding, _) = after_value.split_at_mut(padded(end) - end);
     nla.emit_value(value);
     LittleEndian::write_u16(header, end as u16);
     LittleEndian::write_u16(&mut header[2..], kind);
     zero_padding(padding);
 }
 
-// Sets the padding to zeros, byte by byte: a call would take longer.
+// Sets the padding, at most 3 bytes, to zeros, byte by byte: a call would take longer.
 #[inline(always)]
 fn zero_padding(padding: &mut [u8])
     requires { length padding.old < 4 }
@@ -124,12 +133,14 @@ fn zero_padding(padding: &mut [u8])
 /// Returns the number of the attributes' bytes, with headers and paddings, or `None` if a value
 /// does not fit its length field or the attributes have more than `limit` bytes.
 pub fn nlas_len_within<T: Nla>(nlas: &[T], limit: usize) -> Option<usize>
-    // SomeIff o p v: `o` is `Some v` if `p` holds, else `None`. AreWritableWithin attributes limit:
-    // each value has at most 65,531 bytes, and all attributes with headers and paddings have at
-    // most `limit` bytes. flat_map attribute_bytes: the bytes of all attributes, concatenated.
+    // SomeIff option condition value: `option` is `Some value` if the condition holds, else `None`.
+    // AreWritableWithin attributes limit: each value has at most 65,531 bytes, and all attributes
+    // with headers and paddings have at most `limit` bytes. flat_map attribute_bytes: the bytes of
+    // all attributes, concatenated.
     ensures { SomeIff result (AreWritableWithin (map T.attribute nlas.now) limit)
         (length (flat_map attribute_bytes (map T.attribute nlas.now))) }
 {
+    // What is left of the limit.
     let mut room = limit;
     for nla in nlas {
         if !nla.value_fits() {
@@ -147,7 +158,8 @@ pub fn nlas_len_within<T: Nla>(nlas: &[T], limit: usize) -> Option<usize>
 /// Returns whether each value fits its length field (at most 65,531 bytes), and all attributes,
 /// with headers and paddings, have at most 4,294,967,295 bytes.
 pub fn nlas_writable<T: Nla>(nlas: &[T]) -> bool
-    ensures { IsTrue result ↔ AreWritableWithin (map T.attribute nlas.now) 4294967295 }
+    // AreWritable: each value has at most 65,531 bytes, and all attributes have at most 2^32 - 1.
+    ensures { IsTrue result ↔ AreWritable (map T.attribute nlas.now) }
 {
     nlas_len_within(nlas, u32::MAX as usize).is_some()
 }
@@ -155,7 +167,9 @@ pub fn nlas_writable<T: Nla>(nlas: &[T]) -> bool
 /// Returns the number of the attributes' bytes, with headers and paddings. The attributes must be
 /// writable: [`nlas_writable`] returns `true`.
 pub fn nlas_len<T: Nla>(nlas: &[T]) -> usize
-    requires { AreWritableWithin (map T.attribute nlas.now) 4294967295 }
+    // AreWritable: each value has at most 65,531 bytes, and all attributes have at most 2^32 - 1.
+    requires { AreWritable (map T.attribute nlas.now) }
+    // flat_map attribute_bytes: the bytes of all attributes, concatenated.
     ensures { result ≡ length (flat_map attribute_bytes (map T.attribute nlas.now)) }
 {
     let mut len = 0;
@@ -169,12 +183,16 @@ pub fn nlas_len<T: Nla>(nlas: &[T]) -> usize
 /// buffer. The bytes after them are unchanged. They must be writable ([`nlas_writable`] returns
 /// `true`), and the buffer must be at least as long as their bytes.
 pub fn emit_nlas<T: Nla>(nlas: &[T], buffer: &mut [u8])
-    requires fits { AreWritableWithin (map T.attribute nlas.now) 4294967295 }
+    // AreWritable: each value has at most 65,531 bytes, and all attributes have at most 2^32 - 1.
+    requires fits { AreWritable (map T.attribute nlas.now) }
+    // flat_map attribute_bytes: the bytes of all attributes, concatenated.
     requires room { length (flat_map attribute_bytes (map T.attribute nlas.now))
         ≤ length buffer.old }
+    // HoldsAtStart bytes old new: `new` is `bytes`, and then what `old` has after as many bytes.
     ensures written { HoldsAtStart (flat_map attribute_bytes (map T.attribute nlas.now)) buffer.old
         buffer.new }
-    // Each number of each value fits its field. This is so for all Rust values.
+    // Each number of each value fits its field. This is so for all Rust values; it is stated for
+    // the laws.
     ensures in_range { AllByRecursion T.in_range nlas.now }
 {
     let mut at = 0;
@@ -204,9 +222,11 @@ impl DefaultNla {
         DefaultNla { kind, value }
     }
 
-    // Copies the attribute. Does not allocate if its value is empty.
-    fn keep(alloc: Global, nla: &NlaBuffer<'_>) -> Result<DefaultNla, AllocError>
-        ensures equal { IfOk result (λ kept. raw_attribute kept ≡ buffered_attribute nla.now) }
+    // Copies the attribute. Fails only if an allocation fails, and never if the value is empty.
+    fn from_buffer(alloc: Global, nla: &NlaBuffer<'_>) -> Result<DefaultNla, AllocError>
+        // raw_attribute and buffered_attribute: the type field and the value, of the copy and of
+        // the buffer.
+        ensures equal { IfOk result (λ copy. raw_attribute copy ≡ buffered_attribute nla.now) }
         ensures needs_no_memory { (buffered_attribute nla.now).value ≡ [] → IsOk result }
     {
         Ok(DefaultNla {
@@ -229,8 +249,8 @@ impl DefaultNla {
         self.value.as_slice()
     }
 
-    /// Returns an equal attribute. Fails only if an allocation fails; does not allocate if the
-    /// value is empty.
+    /// Returns an equal attribute. Fails only if an allocation fails, and never if the value is
+    /// empty, since then nothing is allocated.
     pub fn clone(&self, alloc: Global) -> Result<Self, AllocError>
         ensures equal { IfOk result (λ copy. raw_attribute copy ≡ raw_attribute self.now) }
         ensures needs_no_memory { (raw_attribute self.now).value ≡ [] → IsOk result }
@@ -244,7 +264,8 @@ impl DefaultNla {
 
 /// Copies the items to a new vector.
 ///
-/// Fails only if an allocation fails; does not allocate if there are no items.
+/// Fails only if an allocation fails, and never if there are no items, since then nothing is
+/// allocated.
 pub fn copy_list<T: Copy>(alloc: Global, items: &[T]) -> Result<Vec<T>, AllocError>
     ensures equal { IfOk result (λ copy. copy.items ≡ items.now) }
     ensures needs_no_memory { items.now ≡ [] → IsOk result }
@@ -264,7 +285,7 @@ impl Readable for DefaultNla {
 impl<'a> Parseable<NlaBuffer<'a>> for DefaultNla {
     #[tactic(auto, using(crate::specs::laws::FirstAttribute::raw_copy_is_parsed))]
     fn parse(alloc: Global, buf: NlaBuffer<'a>) -> Result<Self, DecodeError> {
-        Ok(DefaultNla::keep(alloc, &buf)?)
+        Ok(DefaultNla::from_buffer(alloc, &buf)?)
     }
 }
 
@@ -273,6 +294,7 @@ impl Nla for DefaultNla {
 
     ghost attribute = { raw_attribute };
 
+    // Each byte of the value is below 256.
     ghost in_range = { λ v. IsBytes (raw_attribute v).value };
 
     fn value_len(&self) -> usize {
@@ -295,6 +317,8 @@ impl Emitable for DefaultNla {
 
     ghost writable = { λ v. FitsLengthField (raw_attribute v) };
 
+    // `[]` is the set without types, in which each attribute is raw: its type field has 16 bits,
+    // and each byte of its value is below 256.
     ghost in_range = { λ v. IsInRangeIn [] (raw_attribute v) };
 
     fn is_writable(&self) -> bool {
@@ -320,16 +344,18 @@ impl HasCodec for DefaultNla {
 
     ghost model = { raw_attribute };
 
+    // An attribute is not a message.
     ghost serialized_type = { λ _. 0 };
 
     ghost eq_is_model = { Prim.search rules };
 
+    // The codec laws hold for each set; `[]` requires no proof about its types (`tt`).
     ghost laws = { first_attribute_codec_laws [] tt };
 }
 
 impl Wire for DefaultNla {
     fn read(alloc: Global, bytes: &[u8], _param: ()) -> Result<Self, DecodeError> {
-        Ok(DefaultNla::keep(alloc, &NlaBuffer::new_checked(bytes)?)?)
+        Ok(DefaultNla::from_buffer(alloc, &NlaBuffer::new_checked(bytes)?)?)
     }
 
     // The value of a parsed attribute is always writable. So `Memory` may be returned if the copy
@@ -337,10 +363,11 @@ impl Wire for DefaultNla {
     fn rewrite(alloc: Global, bytes: &[u8], _param: ()) -> Result<Vec<u8>, CanonError> {
         write_new(
             alloc,
-            &DefaultNla::keep(alloc, &NlaBuffer::new_checked(bytes)?)?,
+            &DefaultNla::from_buffer(alloc, &NlaBuffer::new_checked(bytes)?)?,
         )
     }
 
+    // In these three, both sides are the same by definition.
     ghost bytes_by_codec = { λ v. refl };
 
     ghost writable_by_codec = { λ v. (λ h. h, λ h. h) };
@@ -349,6 +376,7 @@ impl Wire for DefaultNla {
 }
 
 impl WireNla for DefaultNla {
+    // In both, the two sides are the same by definition.
     ghost bytes_by_attribute = { λ _. refl };
 
     ghost writable_by_attribute = { λ _. (λ h. h, λ h. h) };

@@ -14,7 +14,8 @@ use std::str;
 /// Parses a number of exactly one byte. Any other length is `WrongLength` without a kind, with the
 /// number of bytes and the 1 that is needed.
 pub fn parse_u8(payload: &[u8]) -> Result<u8, DecodeError>
-    // number_of_width kind width bytes: the little-endian number, or the error.
+    // number_of_width kind width bytes: `Ok` of the little-endian number of exactly `width` bytes,
+    // or the error. `None`: the error has no kind.
     ensures { result ≡ number_of_width None 1 payload.now }
 {
     match payload {
@@ -26,6 +27,8 @@ pub fn parse_u8(payload: &[u8]) -> Result<u8, DecodeError>
 /// Parses a little-endian number of exactly four bytes. Any other length is `WrongLength` without a
 /// kind, with the number of bytes and the 4 that are needed.
 pub fn parse_u32(payload: &[u8]) -> Result<u32, DecodeError>
+    // number_of_width kind width bytes: `Ok` of the little-endian number of exactly `width` bytes,
+    // or the error. `None`: the error has no kind.
     ensures { result ≡ number_of_width None 4 payload.now }
 {
     if payload.len() != 4 {
@@ -34,7 +37,8 @@ pub fn parse_u32(payload: &[u8]) -> Result<u32, DecodeError>
     Ok(LittleEndian::read_u32(payload))
 }
 
-// Returns the error for a value that does not have `need` bytes.
+// Returns the error for a value that does not have the `need` bytes that it needs: `WrongLength`
+// without a kind (`None`), with the length of the value and with `need`.
 fn wrong_length(payload: &[u8], need: usize) -> DecodeError
     ensures { result ≡ DecodeError.WrongLength None (length payload.now) need }
 {
@@ -52,7 +56,9 @@ pub fn parse_string(alloc: Global, payload: &[u8]) -> Result<String, DecodeError
     // parse_text: `Ok` of the text's bytes, or `Err NotUtf8`. string_bytes: the bytes of a
     // `String`.
     ensures value { IfOk result (λ text. parse_text payload.now ≡ Ok (string_bytes text)) }
+    // An error is `NotUtf8`, unless it is `Memory`.
     ensures error { IfErr result (λ e. e ≢ Memory → parse_text payload.now ≡ Err e) }
+    // `Memory` only if the bytes are a text.
     ensures memory { IfErr result (λ e. e ≡ Memory → IsOk (parse_text payload.now)) }
 {
     Ok(String::from_str(alloc, parse_str(payload)?)?)
@@ -60,7 +66,7 @@ pub fn parse_string(alloc: Global, payload: &[u8]) -> Result<String, DecodeError
 
 /// Returns the text in the bytes, borrowed, without one terminating NUL if there is one. Fails with
 /// `NotUtf8` if this is not valid UTF-8.
-#[tactic(auto, using(crate::proofs::Texts::valid_utf8_is_text, crate::proofs::Texts::invalid_utf8_is_no_text))]
+#[tactic(auto, using(crate::proofs::Texts::utf8_text_rules))]
 #[inline(always)]
 pub fn parse_str(payload: &[u8]) -> Result<&str, DecodeError>
     // parse_text: `Ok` of the text's bytes, or `Err NotUtf8`.
@@ -75,6 +81,7 @@ pub fn parse_str(payload: &[u8]) -> Result<&str, DecodeError>
 
 /// Returns the bytes without one terminating NUL, if there is one.
 pub fn text_bytes(payload: &[u8]) -> &[u8]
+    // without_terminating_nul bytes: the bytes without their last byte, if this is NUL.
     ensures { result.now ≡ without_terminating_nul payload.entry.now }
 {
     match payload.split_last() {
@@ -83,11 +90,11 @@ pub fn text_bytes(payload: &[u8]) -> &[u8]
     }
 }
 
-/// Writes the number, little-endian, to the first four bytes. There must be four. The bytes after
-/// them are unchanged.
+/// Writes the number, little-endian, to the first four bytes of the buffer. The bytes after them
+/// are unchanged. The buffer must have at least four bytes.
 pub fn emit_u32(buffer: &mut [u8], value: u32)
-    // little_bytes n x: the number `x` in `n` bytes, little-endian.
     requires { 4 ≤ length buffer.old }
+    // little_bytes width number: the number in `width` bytes, little-endian.
     ensures { buffer.new ≡ little_bytes 4 value ++ drop 4 buffer.old }
 {
     LittleEndian::write_u32(buffer, value);

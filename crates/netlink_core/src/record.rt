@@ -41,20 +41,23 @@ pub trait Record: Exact + Sized {
     /// unsupported family. There must be at least as many bytes as the layout needs (`least`).
     fn from_fields(bytes: &[u8], param: Self::Param) -> Result<Self, DecodeError>
         requires { layout.least ≤ length bytes.now }
-        // parse_fields: the numbers in the layout's fields as a value, without a check of the
-        // length.
+        // parse_fields layout param bytes: `Ok` of the value with the numbers in the layout's
+        // fields, or `Err` of the error that the layout has for these bytes. The length is not
+        // checked.
         ensures { result ≡ parse_fields layout param bytes.now };
 
     /// Replaces the content of the buffer by the bytes that the value serializes to. The buffer
     /// must have exactly their length.
     fn write_fields(&self, buffer: &mut [u8])
+        // record_bytes layout value: the bytes that the value serializes to.
         requires { length buffer.old ≡ length (record_bytes layout self.now) }
         ensures written { buffer.new ≡ record_bytes layout self.now }
         // IsInRange layout value: arrays have their lengths, and each number fits its field. This
         // is so for all Rust values; it is stated for the laws.
         ensures in_range { IsInRange layout self.now };
 
-    // Bytes parse as a value if and only if they contain it, and the codec laws hold.
+    // RecordLaws layout: the codec laws hold, and bytes parse as a value if and only if they
+    // contain it.
     ghost laws: { RecordLaws layout };
 }
 
@@ -97,6 +100,7 @@ impl<'a, T: Record<Param = u8>> ParseableParametrized<&'a [u8], u8> for T {
 impl<T: Record> Emitable for T {
     ghost bytes = { record_bytes T.layout };
 
+    // Every value is writable: a record has no length fields.
     ghost writable = { λ _. ⊤ };
 
     ghost in_range = { IsInRange T.layout };
@@ -119,16 +123,21 @@ impl<T: Record> HasCodec for T {
 
     ghost codec = { record_codec T.layout };
 
+    // The model of a value is the value itself.
     ghost model = { λ value. value };
 
+    // A record is not a message.
     ghost serialized_type = { λ _. 0 };
 
+    // The part of `Exact` that is about `==`.
     ghost eq_is_model = { T.exact.0 };
 
+    // The part of `RecordLaws` with the codec laws.
     ghost laws = { T.Record.laws.codec };
 }
 
 impl<T: Record> Wire for T {
+    // In these three, both sides are the same by definition.
     ghost bytes_by_codec = { λ _. refl };
 
     ghost writable_by_codec = { λ _. (λ h. h, λ h. h) };
@@ -143,6 +152,7 @@ impl<T: Record> Wire for T {
         // Borrowed, as moving a large value takes longer than serializing it.
         match &read_record::<T>(bytes, param) {
             Ok(value) => write_new(alloc, value),
+            // `read_record` never fails with `Memory`.
             Err(error) => Err(CanonError::Refused(*error)),
         }
     }
@@ -159,12 +169,15 @@ pub trait Fills<const N: usize>: Record {
 #[derive(Debug, Drop, PartialEq, Eq)]
 pub struct RecordBuffer<T, const N: usize> {
     bytes: [u8; N],
+    // The type of the record.
     of: PhantomData<T>,
 }
 
 impl<T, const N: usize> Clone for RecordBuffer<T, N> {
+    // A clone has the same bytes.
     ghost is_clone = { λ buffer copy. copy ≡ buffer };
 
+    // Cloning never fails.
     ghost is_infallible = { λ _. ⊤ };
 
     fn clone(&self) -> Result<Self, AllocError> {
@@ -181,13 +194,15 @@ impl<T, const N: usize> Model for RecordBuffer<T, N> {
 
     ghost view = { λ buffer. buffer.bytes };
 
+    // The buffer with these bytes; `record {}` is the `PhantomData`.
     ghost inverse = { λ bytes. record { bytes = bytes; of = record {} } };
 }
 
 impl<T, const N: usize> RecordBuffer<T, N> {
     /// Returns the first `N` bytes, or `None` if there are fewer.
     pub fn read_prefix(payload: &[u8]) -> Option<Self>
-        // SomeIff o p v: `o` is `Some v` if `p` holds, else `None`.
+        // SomeIff option condition value: the option is `Some value` if the condition holds, else
+        // `None`. The value is the list of the buffer's bytes.
         ensures { SomeIff result (N ≤ length payload.now) (take N payload.now) }
     {
         let bytes = *payload.first_chunk()?;
@@ -206,7 +221,8 @@ impl<T, const N: usize> RecordBuffer<T, N> {
 }
 
 impl<T: Fills<N>, const N: usize> From<&T> for RecordBuffer<T, N> {
-    // The buffer contains the bytes that the record serializes to, and the record is in range.
+    // The buffer contains the bytes that the record serializes to. Each number of the record fits
+    // its field (`IsInRange`): this is so for all Rust values, and is stated for the laws.
     ghost from_gives = { λ value buffer. (buffer ≡ record_bytes T.layout value.now)
         × IsInRange T.layout value.now };
 

@@ -3,8 +3,8 @@
 ghost use Rattle.std.specs.Prelude.{◌≡◌, ◌≢◌, ◌↔◌, ℕ, List, IfOk, IfErr, OnOk, IsTrue, refl};
 ghost use Rattle.std.proofs.Common.{sym, ap, ◌∙◌, subst};
 ghost use Rattle.netlink_core.specs.Bytes.{IsBytes};
-ghost use Rattle.netlink_core.specs.Canonical.{CanonicalFails, HasCanonicalForm};
-ghost use Rattle.netlink_core.specs.Canonical.{CanonicalFormFails};
+ghost use Rattle.netlink_core.specs.Canonical.{HasCanonicalForm, CanonicalFormFails};
+ghost use Rattle.netlink_core.specs.Canonical.{SerializingFails};
 ghost use Rattle.netlink_core.specs.Codec.{Codec, KeepsCodecLaws};
 ghost use Rattle.netlink_core.specs.declared.error.DecodeError.TheVariants.{Memory};
 
@@ -17,16 +17,18 @@ pub trait HasCodec: PartialEq + Sized {
     /// The parameter of the parser.
     type Param: ReadParam;
 
-    // The codec, and the model of a value: each field, and lists by their elements.
+    // How values are parsed, serialized and compared.
     ghost codec: { Codec Self.Param };
 
+    // The model of a value, to which the codec refers: its fields, and lists by their elements.
     ghost model: { Self → codec.Value };
 
-    // The type field of the netlink header (`nlmsg_type`) of a message; 0 if the values are not
-    // messages.
+    // The type field (`nlmsg_type`) that the netlink header of a message has; 0 if the values are
+    // not messages.
     ghost serialized_type: { codec.Value → ℕ };
 
-    /// Returns whether both values have the same model. This is what `==` returns.
+    /// Returns whether both values have the same model. This is what `==` returns, with the
+    /// contract that `==` of a type parameter does not have.
     fn equal(&self, other: &Self) -> bool
         ensures { IsTrue result ↔ (model self.now ≡ model other.now) }
     {
@@ -36,65 +38,77 @@ pub trait HasCodec: PartialEq + Sized {
     // `==` compares the models.
     ghost eq_is_model: { (v w : Self) → IsTrue (Self.eq v w) ↔ (model v ≡ model w) };
 
-    // The codec laws. For example, bytes have one value or one error, equivalent bytes
-    // have equal values, and writable values in normal form round-trip.
+    // The codec laws. For example, bytes have one value or one error, equivalent bytes have equal
+    // values, and writable values in normal form round-trip.
     ghost laws: { KeepsCodecLaws codec };
 
-    // The rest follows from these laws, for every type.
+    // The members below follow from these laws, for every type: each has its statement, and after
+    // `=` its proof. Most use the law `equal_iff_equivalent`: accepted bytes have equal values if
+    // and only if they are equivalent. Its `.0` leads from equal values to equivalent bytes, `.1`
+    // back.
+    //
     // On accepted bytes, equivalence is reflexive, symmetric and transitive.
     ghost equivalent_reflexive: { (b : List ℕ) (p : Self.Param) (v : codec.Value) → IsBytes b
         → codec.parses b p v
-        → codec.equivalent p b b } = { λ b p v tb r.
-            (laws.equal_iff_equivalent b b p v v tb tb r r).0 refl };
+        → codec.equivalent p b b } = { λ b p v is_bytes parsed.
+            (laws.equal_iff_equivalent b b p v v is_bytes is_bytes parsed parsed).0 refl };
 
     ghost equivalent_symmetric: { (b c : List ℕ) (p : Self.Param) (v w : codec.Value) → IsBytes b
         → IsBytes c
         → codec.parses b p v → codec.parses c p w → codec.equivalent p b c
-        → codec.equivalent p c b } = { λ b c p v w tb tc r s h.
-            (laws.equal_iff_equivalent c b p w v tc tb s r).0
-            (sym ((laws.equal_iff_equivalent b c p v w tb tc r s).1 h)) };
+        → codec.equivalent p c b } = { λ b c p v w b_bytes c_bytes b_parsed c_parsed b_like_c.
+            let b_to_c = laws.equal_iff_equivalent b c p v w b_bytes c_bytes b_parsed c_parsed in
+            let c_to_b = laws.equal_iff_equivalent c b p w v c_bytes b_bytes c_parsed b_parsed in
+            c_to_b.0 (sym (b_to_c.1 b_like_c)) };
 
     ghost equivalent_transitive: { (b c d : List ℕ) (p : Self.Param) (v w x : codec.Value)
         → IsBytes b
         → IsBytes c → IsBytes d
         → codec.parses b p v → codec.parses c p w → codec.parses d p x → codec.equivalent p b c
-        → codec.equivalent p c d → codec.equivalent p b d } = { λ b c d p v w x tb tc td r s t h k.
-            (laws.equal_iff_equivalent b d p v x tb td r t).0
-            ((laws.equal_iff_equivalent b c p v w tb tc r s).1 h
-            ∙ (laws.equal_iff_equivalent c d p w x tc td s t).1 k) };
+        → codec.equivalent p c d
+        → codec.equivalent p b d } = { λ b c d p v w x b_bytes c_bytes d_bytes b_parsed c_parsed
+            d_parsed b_like_c c_like_d.
+            let b_to_c = laws.equal_iff_equivalent b c p v w b_bytes c_bytes b_parsed c_parsed in
+            let c_to_d = laws.equal_iff_equivalent c d p w x c_bytes d_bytes c_parsed d_parsed in
+            let b_to_d = laws.equal_iff_equivalent b d p v x b_bytes d_bytes b_parsed d_parsed in
+            b_to_d.0 (b_to_c.1 b_like_c ∙ c_to_d.1 c_like_d) };
 
-    // Bytes have at most one value.
+    // Bytes have at most one value: if they parse as `v` and as `w`, these are equal.
     ghost one_value: { (b : List ℕ) (p : Self.Param) (v w : codec.Value) → IsBytes b
-        → codec.parses b p v → codec.parses b p w → v ≡ w } = { λ b p v w tb r s.
-            (laws.equal_iff_equivalent b b p v w tb tb r s).1
-            ((laws.equal_iff_equivalent b b p v v tb tb r r).0 refl) };
+        → codec.parses b p v → codec.parses b p w
+        → v ≡ w } = { λ b p v w is_bytes parsed_v parsed_w.
+            (laws.equal_iff_equivalent b b p v w is_bytes is_bytes parsed_v parsed_w).1
+            (equivalent_reflexive b p v is_bytes parsed_v) };
 
     // Writable values that are in range and in normal form are equal if they serialize to the same
     // bytes.
     ghost equal_by_bytes: { (p : Self.Param) (v w : codec.Value) → codec.is_in_range v
         → codec.is_in_range w → codec.is_normal p v → codec.is_normal p w
         → codec.is_writable v → codec.is_writable w → codec.serialized v ≡ codec.serialized w
-        → v ≡ w } = { λ p v w tv tw nv nw fv fw e.
-            one_value (codec.serialized w) p v w (laws.serialized_in_range w tw)
-            (subst (λ (b : List ℕ). codec.parses b p v) e (laws.round_trips p v tv nv fv))
-            (laws.round_trips p w tw nw fw) };
+        → v ≡ w } = { λ p v w v_in_range w_in_range v_normal w_normal v_writable w_writable same.
+            one_value (codec.serialized w) p v w (laws.serialized_in_range w w_in_range)
+            (subst (λ (b : List ℕ). codec.parses b p v) same
+            (laws.round_trips p v v_in_range v_normal v_writable))
+            (laws.round_trips p w w_in_range w_normal w_writable) };
 
     // The bytes that a writable parsed value serializes to are equivalent to the bytes that it was
     // parsed from.
     ghost equivalent_to_serialized: { (b : List ℕ) (p : Self.Param) (v : codec.Value) → IsBytes b
         → codec.parses b p v → codec.is_writable v
-        → codec.equivalent p b (codec.serialized v) } = { λ b p v tb r f.
-            let n = laws.parsed_is_normal b p v tb r in
-            (laws.equal_iff_equivalent b (codec.serialized v) p v v tb (laws.serialized_in_range v
-            n.0) r
-            (laws.round_trips p v n.0 n.1 f)).0 refl };
+        → codec.equivalent p b (codec.serialized v) } = { λ b p v is_bytes parsed writable.
+            let (in_range, normal) = laws.parsed_is_normal b p v is_bytes parsed in
+            (laws.equal_iff_equivalent b (codec.serialized v) p v v is_bytes
+            (laws.serialized_in_range v in_range) parsed
+            (laws.round_trips p v in_range normal writable)).0 refl };
 
     // A writable value in range round-trips if and only if it is in normal form.
     ghost round_trips_iff_normal: { (p : Self.Param) (v : codec.Value) → codec.is_in_range v
         → codec.is_writable v
-        → (codec.parses (codec.serialized v) p v ↔ codec.is_normal p v) } = { λ p v tv f. (
-          λ r. (laws.parsed_is_normal (codec.serialized v) p v (laws.serialized_in_range v tv) r).1,
-          λ n. laws.round_trips p v tv n f,
+        → (codec.parses (codec.serialized v) p v
+        ↔ codec.is_normal p v) } = { λ p v in_range writable. (
+          λ parsed. (laws.parsed_is_normal (codec.serialized v) p v
+              (laws.serialized_in_range v in_range) parsed).1,
+          λ normal. laws.round_trips p v in_range normal writable,
         ) };
 
     // Accepted bytes with writable values serialize to the same bytes if and only if they are
@@ -104,12 +118,14 @@ pub trait HasCodec: PartialEq + Sized {
         → IsBytes c
         → codec.parses b p v → codec.parses c p w → codec.is_writable v → codec.is_writable w
         → ((codec.serialized v ≡ codec.serialized w)
-        ↔ codec.equivalent p b c) } = { λ b c p v w tb tc r s fv fw.
-            let same = laws.equal_iff_equivalent b c p v w tb tc r s in
-            let n = laws.parsed_is_normal b p v tb r in
-            let m = laws.parsed_is_normal c p w tc s in (
-              λ e. same.0 (equal_by_bytes p v w n.0 m.0 n.1 m.1 fv fw e),
-              λ i. ap codec.serialized (same.1 i),
+        ↔ codec.equivalent p b c) } = { λ b c p v w b_bytes c_bytes b_parsed c_parsed v_writable
+            w_writable.
+            let equal_iff = laws.equal_iff_equivalent b c p v w b_bytes c_bytes b_parsed c_parsed in
+            let (v_in_range, v_normal) = laws.parsed_is_normal b p v b_bytes b_parsed in
+            let (w_in_range, w_normal) = laws.parsed_is_normal c p w c_bytes c_parsed in (
+              λ same. equal_iff.0 (equal_by_bytes p v w v_in_range w_in_range v_normal w_normal
+                  v_writable w_writable same),
+              λ b_like_c. ap codec.serialized (equal_iff.1 b_like_c),
             ) };
 }
 
@@ -118,13 +134,16 @@ pub trait Wire: HasCodec + Readable + Emitable {
     /// Parses a value, or returns the first decode error. Fails with `Memory` only if a parser of
     /// the type can (`TAKES_MEMORY`), and if the bytes have a value that needs to allocate.
     fn read(alloc: Global, bytes: &[u8], param: Self::Param) -> Result<Self, DecodeError>
-        // The bytes are below 256. This is so for all Rust values; it is stated for the proofs of
-        // callers.
+        // Each byte is below 256. This is so for all Rust values. It is about an input, and is
+        // stated for the proofs of callers.
         ensures in_range { IsBytes bytes.now }
+        // The bytes parse as the model of the value, by the codec and with this parameter.
         ensures value { IfOk result (λ v. Self.codec.parses bytes.now param (Self.model v)) }
+        // An error is the first error of the bytes, unless it is `Memory`.
         ensures error { IfErr result (λ e. e ≢ Memory → Self.codec.rejects bytes.now param e) }
         ensures memory { IfErr result (λ e. e ≡ Memory → IsTrue Self.TAKES_MEMORY) }
-        // `Memory` only if the bytes have a value, and this value needs to allocate.
+        // `Memory` only if the bytes have a value, and this value needs to allocate
+        // (`needs_no_memory` does not hold of it).
         ensures memory_needed { IfErr result (λ e. e ≡ Memory
             → (v : Self.codec.Value) × Self.codec.parses bytes.now param v
             × ¬ Self.codec.needs_no_memory v) };
@@ -137,14 +156,15 @@ pub trait Wire: HasCodec + Readable + Emitable {
     fn rewrite(alloc: Global, bytes: &[u8], param: Self::Param) -> Result<Vec<u8>, CanonError>
     where
         Self: Drop,
-        // The bytes are below 256. This is so for all Rust values; it is stated for the proofs of
-        // callers.
+        // Each byte is below 256. This is so for all Rust values. It is about an input, and is
+        // stated for the proofs of callers.
         ensures in_range { IsBytes bytes.now }
         // HasCanonicalForm codec param bytes form: the bytes parse as a writable value, which
-        // serializes to `form`. CanonicalFormFails codec param bytes error: no canonical form of
-        // the bytes is returned, for this reason.
+        // serializes to `form`.
         ensures written { IfOk result (λ form.
             HasCanonicalForm Self.codec param bytes.now form.items) }
+        // CanonicalFormFails codec param bytes error: no canonical form of the bytes is returned,
+        // for this reason.
         ensures err { IfErr result (CanonicalFormFails Self.codec param bytes.now) };
 
     // `Emitable` serializes to the bytes that the codec states.
@@ -162,13 +182,15 @@ pub trait Wire: HasCodec + Readable + Emitable {
 /// Serializes a value to a new vector of exactly its bytes. Fails with `Unwritable` if the value is
 /// not writable, and with `Memory` only if it is.
 pub fn write_new<T: Emitable>(alloc: Global, value: &T) -> Result<Vec<u8>, CanonError>
-    ensures written { IfOk result (λ c. T.writable value.now × (c.items ≡ T.bytes value.now)) }
+    // T.bytes value: the bytes that the value serializes to.
+    ensures written { IfOk result (λ written.
+        T.writable value.now × (written.items ≡ T.bytes value.now)) }
     // Each number of the value fits its field. This is so for all Rust values; it is stated for the
     // laws.
     ensures in_range { OnOk result (T.in_range value.now) }
-    // CanonicalFails parses rejects is_writable error: why nothing is returned. Here the only value
-    // is this one (`parses`), and there are no decode errors (`rejects`).
-    ensures err { IfErr result (CanonicalFails (λ v. v ≡ value.now) (λ error. ⊥) T.writable) }
+    // SerializingFails is_writable value error: `Unwritable` if the value is not writable, `Memory`
+    // if it is.
+    ensures err { IfErr result (SerializingFails T.writable value.now) }
 {
     let Some(len) = value.writable_len() else {
         return Err(CanonError::Unwritable);

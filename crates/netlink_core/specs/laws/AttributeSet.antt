@@ -27,8 +27,8 @@ decoded_at_later_type spec others a v h =
     grind (arith, nat_tests)
 
 -- decoding an attribute never fails with `Memory`
-pub decode_error_is_not_memory : (F : AttributeSet) → AttributeSetLaws F → (a : Attribute)
-    → decode_attribute F a ≡ Err Memory → ⊥
+pub decode_error_is_not_memory : (set : AttributeSet) → AttributeSetLaws set → (a : Attribute)
+    → decode_attribute set a ≡ Err Memory → ⊥
 decode_error_is_not_memory [] laws a h = cc
 decode_error_is_not_memory (spec ∷ others) laws a h =
     grind (
@@ -39,19 +39,19 @@ decode_error_is_not_memory (spec ∷ others) laws a h =
     )
 
 -- a decoded value serializes with the kind that it was decoded from
-encoding_keeps_kind : (F : AttributeSet) → AttributeSetLaws F
-    → (a : Attribute) (v : AttributeValue F)
-    → decode_attribute F a ≡ Ok v
-    → attribute_kind (encode_attribute F v) ≡ attribute_kind a
+encoding_keeps_kind : (set : AttributeSet) → AttributeSetLaws set
+    → (a : Attribute) (v : AttributeValue set)
+    → decode_attribute set a ≡ Ok v
+    → attribute_kind (encode_attribute set v) ≡ attribute_kind a
 encoding_keeps_kind [] laws a v h = cc
 encoding_keeps_kind (spec ∷ others) laws a v h =
     grind (arith, nat_tests, laws.0.plain, encoding_keeps_kind others laws.1 a)
 
 -- what an attribute decodes to is in range and in normal form
-pub decoded_is_normal : (F : AttributeSet) → AttributeSetLaws F
-    → (a : Attribute) (v : AttributeValue F)
-    → IsAttributeInRange a → decode_attribute F a ≡ Ok v
-    → IsInRangeIn F v × IsNormalIn F v
+pub decoded_is_normal : (set : AttributeSet) → AttributeSetLaws set
+    → (a : Attribute) (v : AttributeValue set)
+    → IsAttributeInRange a → decode_attribute set a ≡ Ok v
+    → IsInRangeIn set v × IsNormalIn set v
 decoded_is_normal [] laws a v in_range h = grind arith
 decoded_is_normal (spec ∷ others) laws a (inl x) in_range h =
     laws.0.value.parsed_is_normal a.value tt x in_range.1
@@ -65,11 +65,11 @@ decoded_is_normal (spec ∷ others) laws a (inr v) in_range h =
     )
 
 -- two attributes decode to the same value if and only if they are equivalent
-pub decoded_equal_iff_equivalent : (F : AttributeSet) → AttributeSetLaws F
-    → (a b : Attribute) (v w : AttributeValue F)
-    → IsAttributeInRange a → IsAttributeInRange b → decode_attribute F a ≡ Ok v
-    → decode_attribute F b ≡ Ok w
-    → ((v ≡ w) ↔ AreEquivalentAttributes F a b)
+pub decoded_equal_iff_equivalent : (set : AttributeSet) → AttributeSetLaws set
+    → (a b : Attribute) (v w : AttributeValue set)
+    → IsAttributeInRange a → IsAttributeInRange b → decode_attribute set a ≡ Ok v
+    → decode_attribute set b ≡ Ok w
+    → ((v ≡ w) ↔ AreEquivalentAttributes set a b)
 decoded_equal_iff_equivalent [] laws a b v w s t h k = (λ e. cc, λ e. cc)
 decoded_equal_iff_equivalent (spec ∷ others) laws a b (inl x) (inl y) s t h k =
     grind (arith, decoded_at_first_type spec others a x h, decoded_at_first_type spec others b y k)
@@ -84,18 +84,18 @@ decoded_equal_iff_equivalent (spec ∷ others) laws a b v w s t h k =
     grind (arith, nat_tests)
 
 -- a decoded value in range serializes as an attribute in range
-pub encoded_in_range : (F : AttributeSet) → AttributeSetLaws F → (v : AttributeValue F)
-    → IsInRangeIn F v
-    → IsAttributeInRange (encode_attribute F v)
+pub encoded_in_range : (set : AttributeSet) → AttributeSetLaws set → (v : AttributeValue set)
+    → IsInRangeIn set v
+    → IsAttributeInRange (encode_attribute set v)
 encoded_in_range [] laws a t = t
 encoded_in_range (spec ∷ others) laws (inl x) t =
     grind (arith, and_mask spec.number 14)
 encoded_in_range (spec ∷ others) laws (inr v) t = encoded_in_range others laws.1 v t
 
 -- a decoded value in range and in normal form is decoded from the attribute that it serializes as
-pub decoded_round_trips : (F : AttributeSet) → AttributeSetLaws F → (v : AttributeValue F)
-    → IsInRangeIn F v → IsNormalIn F v
-    → decode_attribute F (encode_attribute F v) ≡ Ok v
+pub decoded_round_trips : (set : AttributeSet) → AttributeSetLaws set → (v : AttributeValue set)
+    → IsInRangeIn set v → IsNormalIn set v
+    → decode_attribute set (encode_attribute set v) ≡ Ok v
 decoded_round_trips [] laws a t n = refl
 decoded_round_trips (spec ∷ others) laws (inl x) t n =
     grind (arith, nat_tests, laws.0.plain, laws.0.value.round_trips tt x t n tt)

@@ -8,7 +8,7 @@ use Rattle.netlink_core.specs.Layout.{Layout, tag_fields, field_numbers, record_
 use Rattle.netlink_core.specs.Layout.{IsNormal}
 use Rattle.netlink_core.specs.declared.error.DecodeError.TheVariants.{Memory}
 
--- the offset of a field, and its number of bytes
+-- the offset of a field
 abbrev pub offset_of : Field → ℕ
 offset_of (byte offset) = offset
 offset_of (number offset width) = offset
@@ -16,6 +16,7 @@ offset_of (network offset width) = offset
 offset_of (flags offset width mask) = offset
 offset_of (unread offset written) = offset
 
+-- the number of bytes of a field
 abbrev pub width_of : Field → ℕ
 width_of (byte offset) = 1
 width_of (number offset width) = width
@@ -25,59 +26,64 @@ width_of (unread offset written) = length written
 
 -- what the serializer writes to an ignored field is bytes
 abbrev pub ignored_content_is_bytes : Field → Bool
-ignored_content_is_bytes (unread offset written) = list_all (λ one. nat_lt one 256) written
+ignored_content_is_bytes (unread offset written) = list_all (λ number. nat_lt number 256) written
 ignored_content_is_bytes _ = true
 
--- the fields are consecutive from the offset `from` to the offset `end`, and what the serializer
--- writes to ignored fields is bytes
-abbrev pub fields_are_consecutive : ℕ → List Field → ℕ → Bool
-fields_are_consecutive from [] end = from == end
-fields_are_consecutive from (field ∷ fields) end =
-    ((offset_of field == from) && ignored_content_is_bytes field)
-    && fields_are_consecutive (from + width_of field) fields end
+-- fields_are_consecutive start fields end: the fields are consecutive from the offset `start` to
+-- the offset `end`, and what the serializer writes to ignored fields is bytes
+abbrev pub fields_are_consecutive : (start : ℕ) → List Field → (end : ℕ) → Bool
+fields_are_consecutive start [] end = start == end
+fields_are_consecutive start (field ∷ fields) end =
+    ((offset_of field == start) && ignored_content_is_bytes field)
+    && fields_are_consecutive (start + width_of field) fields end
 
 module _ {Param Tag Value : Type 0} (layout : Layout Param Tag Value) where
   -- The conditions on a layout from which its laws follow.
   pub record MeetsLayoutConditions : Type 0 where
     -- the number of bytes for a tag
     pub size : Tag → ℕ
-    -- The fields for the tag of bytes or of a value are consecutive, and have this number of bytes.
-    -- Accepted bytes have at least this number, which for a value is at least `least`.
-    pub tables : (param : Param) (tag : Tag) (left : List ℕ)
-        → layout.tag_at param left ≡ Ok tag
+    -- the fields for the tag of bytes are consecutive, and have `size` bytes together
+    pub tables : (param : Param) (tag : Tag) (bytes : List ℕ)
+        → layout.tag_for param bytes ≡ Ok tag
         → IsTrue (fields_are_consecutive 0 (tag_fields layout tag) (size tag))
-    pub room : (param : Param) (tag : Tag) (left : List ℕ) → layout.least ≤ length left
-        → layout.tag_at param left ≡ Ok tag → size tag ≤ length left
+    -- accepted bytes have at least `size` bytes
+    pub room : (param : Param) (tag : Tag) (bytes : List ℕ) → layout.least ≤ length bytes
+        → layout.tag_for param bytes ≡ Ok tag → size tag ≤ length bytes
+    -- the fields for the tag of a value are consecutive, and have `size` bytes together
     pub own_table : (value : Value)
         → IsTrue (fields_are_consecutive 0 (tag_fields layout (layout.tag_of value))
         (size (layout.tag_of value)))
+    -- `size` for the tag of a value is at least `least`
     pub enough : (value : Value) → layout.least ≤ size (layout.tag_of value)
-    -- a value serializes to this number of bytes, and bytes are never rejected with `Memory`
+    -- a value serializes to `size` bytes
     pub long : (value : Value) → length (record_bytes layout value)
         ≡ size (layout.tag_of value)
-    pub named : (param : Param) (left : List ℕ) → layout.tag_at param left ≡ Err Memory → ⊥
-    -- a parsed value has the numbers and the tag of the bytes, its arrays have their length, and it
-    -- meets the layout's other conditions
-    pub kept : (param : Param) (tag : Tag) (left : List ℕ) → IsBytes left
-        → layout.tag_at param left ≡ Ok tag
-        → field_numbers layout (layout.value tag (values_of (tag_fields layout tag) left))
-        ≡ values_of (tag_fields layout tag) left
-    pub tagged : (param : Param) (tag : Tag) (left : List ℕ) → layout.tag_at param left ≡ Ok tag
-        → layout.tag_of (layout.value tag (values_of (tag_fields layout tag) left)) ≡ tag
-    pub shaped : (param : Param) (tag : Tag) (left : List ℕ) → IsBytes left
-        → layout.tag_at param left ≡ Ok tag
-        → layout.is_shaped (layout.value tag (values_of (tag_fields layout tag) left))
-    pub owned : (param : Param) (tag : Tag) (left : List ℕ) → IsBytes left
-        → layout.tag_at param left ≡ Ok tag
-        → layout.is_own param (layout.value tag (values_of (tag_fields layout tag) left))
-    -- a value in range and in normal form is determined by its tag and its numbers, and its bytes
-    -- have its tag
+    -- bytes are never rejected with `Memory`
+    pub named : (param : Param) (bytes : List ℕ) → layout.tag_for param bytes ≡ Err Memory → ⊥
+    -- a parsed value has the numbers of the bytes
+    pub kept : (param : Param) (tag : Tag) (bytes : List ℕ) → IsBytes bytes
+        → layout.tag_for param bytes ≡ Ok tag
+        → field_numbers layout (layout.value tag (values_of (tag_fields layout tag) bytes))
+        ≡ values_of (tag_fields layout tag) bytes
+    -- a parsed value has the tag of the bytes
+    pub tagged : (param : Param) (tag : Tag) (bytes : List ℕ) → layout.tag_for param bytes ≡ Ok tag
+        → layout.tag_of (layout.value tag (values_of (tag_fields layout tag) bytes)) ≡ tag
+    -- the arrays of a parsed value have the length of their types
+    pub shaped : (param : Param) (tag : Tag) (bytes : List ℕ) → IsBytes bytes
+        → layout.tag_for param bytes ≡ Ok tag
+        → layout.arrays_fit (layout.value tag (values_of (tag_fields layout tag) bytes))
+    -- the fields of a parsed value are consistent, as the normal form requires
+    pub owned : (param : Param) (tag : Tag) (bytes : List ℕ) → IsBytes bytes
+        → layout.tag_for param bytes ≡ Ok tag
+        → layout.is_consistent param (layout.value tag (values_of (tag_fields layout tag) bytes))
+    -- a value in range and in normal form is the value with its tag and its numbers
     pub back : (param : Param) (value : Value) → IsInRange layout value
         → IsNormal layout param value
         → layout.value (layout.tag_of value) (field_numbers layout value) ≡ value
+    -- the bytes that a value in range and in normal form serializes to have its tag
     pub tag_written : (param : Param) (value : Value) → IsInRange layout value
         → IsNormal layout param value
-        → layout.tag_at param (record_bytes layout value) ≡ Ok (layout.tag_of value)
+        → layout.tag_for param (record_bytes layout value) ≡ Ok (layout.tag_of value)
 
   -- each value has `size` bytes, and is parsed from at least `size` bytes
   abbrev pub HasFixedSize : ℕ → Type 0

@@ -8,13 +8,10 @@ use Rattle.netlink_core.specs.declared.error.DecodeError.{DecodeError}
 use Rattle.netlink_core.specs.declared.error.DecodeError.TheVariants as errors
 use Rattle.netlink_core.specs.Bytes.{IsBytes}
 use Rattle.netlink_core.specs.Attribute.{Attribute, header_and_value, attribute_bytes}
+pub use Rattle.netlink_core.specs.Attribute.{FitsHeaderFields}
 use Rattle.netlink_core.specs.Attribute.{HasAttributePrefix, IsFramingError, IsFirstAttributeError}
 use Rattle.netlink_core.specs.laws.Byte.{IsBytes-append, IsBytes-left, IsBytes-number}
 use Rattle.netlink_core.specs.laws.Byte.{IsBytes-zeros}
-
--- the type field and the length field have 16 bits
-abbrev pub FitsHeaderFields : Attribute → Type 0
-FitsHeaderFields a = (a.type_word < 2 ^ 16) × (length a.value ≤ 65531)
 
 -- the type field has 16 bits, and the value is bytes
 abbrev pub IsAttributeInRange : Attribute → Type 0
@@ -24,27 +21,27 @@ IsAttributeInRange a = (a.type_word < 2 ^ 16) × IsBytes a.value
 
 -- bytes with a valid length field begin with an attribute whose value is between its header and the
 -- end that the length field gives
-pub has_attribute_prefix : (bytes : List ℕ) (word type_word : ℕ) → IsBytes bytes
-    → word ≡ little_number 2 bytes
+pub has_attribute_prefix : (bytes : List ℕ) (nla_len type_word : ℕ) → IsBytes bytes
+    → nla_len ≡ little_number 2 bytes
     → type_word ≡ little_number 2 (take (length bytes - 2) (drop 2 bytes))
-    → 4 ≤ word → word ≤ length bytes
+    → 4 ≤ nla_len → nla_len ≤ length bytes
     → HasAttributePrefix bytes (record {
       type_word = type_word;
-      value = take (word - 4) (drop 4 bytes);
+      value = take (nla_len - 4) (drop 4 bytes);
     })
-has_attribute_prefix (a ∷ b ∷ c ∷ d ∷ tail) word type_word fits word-is type-given low high =
+has_attribute_prefix (a ∷ b ∷ c ∷ d ∷ tail) nla_len type_word fits len-is type-is low high =
     let number : type_word ≡ c + 256 * (d + 256 * 0) =
-    type-given ∙ ap (little_number 2) (take_all _ (c ∷ d ∷ tail) (omega arith)) in
-    let len : length (take (word - 4) tail) ≡ word - 4 =
-    omega (arith, length-take (word - 4) tail) in
-    let words : (a ≡ (4 + length (take (word - 4) tail)) % 256)
-    × (b ≡ (4 + length (take (word - 4) tail)) / 256 % 256) × (c ≡ type_word % 256)
+    type-is ∙ ap (little_number 2) (take_all _ (c ∷ d ∷ tail) (omega arith)) in
+    let value_len : length (take (nla_len - 4) tail) ≡ nla_len - 4 =
+    omega (arith, length-take (nla_len - 4) tail) in
+    let header : (a ≡ (4 + length (take (nla_len - 4) tail)) % 256)
+    × (b ≡ (4 + length (take (nla_len - 4) tail)) / 256 % 256) × (c ≡ type_word % 256)
     × (d ≡ type_word / 256 % 256) = omega (arith, fits 0, fits 1, fits 2, fits 3) in (
-      drop (word - 4) tail,
-      cc (take-append-drop (word - 4) tail),
+      drop (nla_len - 4) tail,
+      cc (take-append-drop (nla_len - 4) tail),
       omega (arith, fits 2, fits 3),
     )
-has_attribute_prefix bytes word type_word fits word-is type-is low high = absurd (omega arith)
+has_attribute_prefix bytes nla_len type_word fits len-is type-is low high = absurd (omega arith)
 
 -- if two concatenations are equal and their first parts have the same length, then both parts are
 -- equal
@@ -95,11 +92,13 @@ pub prefix_or_error_apart : (bytes : List ℕ) (a : Attribute) (e : DecodeError)
 prefix_or_error_apart bytes a e head f =
     grind (arith, length_field_counts bytes a head)
 
--- too few bytes for a header; or a length field below the header's length; or a length field above
--- the number of bytes; or none of these
-pub length_field_cases : (least len word : ℕ) → (len < least) ⊎ (((least ≤ len) × (word < least))
-    ⊎ (((least ≤ len) × (least ≤ word) × (len < word)) ⊎ ((least ≤ word) × (word ≤ len))))
-length_field_cases least len word = grind arith
+-- `count` bytes with a length field (`field`) are too few for a header, which has `least` bytes; or
+-- the field is below this number; or it is above the number of bytes; or none of these
+pub length_field_cases : (least count field : ℕ)
+    → (count < least) ⊎ (((least ≤ count) × (field < least))
+    ⊎ (((least ≤ count) × (least ≤ field) × (count < field))
+    ⊎ ((least ≤ field) × (field ≤ count))))
+length_field_cases least count field = grind arith
 
 -- bytes begin with an attribute or have a framing error
 pub prefix_or_framing_error : (bytes : List ℕ) → IsBytes bytes

@@ -6,12 +6,12 @@ use Rattle.netlink_core.specs.ValueCodec.{ValueCodec}
 use Rattle.netlink_core.specs.AttributeSet.{AttributeSpec, AttributeSet}
 use Rattle.netlink_core.specs.Response.{ResponseSpec}
 
--- In addition to the codec laws, for a record that other bytes follow: values in range have `size`
--- bytes, and round-trip also if bytes follow.
-pub record IsPrefixCodec (P : ValueCodec (Unit {0})) (size : ℕ) : Type 0 where
-  pub bytes_long : (v : P.Value) → P.is_in_range v → length (P.bytes v) ≡ size
-  pub reads_as_prefix : (v : P.Value) (rest : List ℕ) → P.is_in_range v → P.is_normal tt v
-      → P.parses tt (P.bytes v ++ rest) ≡ Ok v
+-- IsPrefixCodec C size: in addition to the codec laws, for a record that other bytes follow: values
+-- in range have `size` bytes, and round-trip also if bytes follow.
+pub record IsPrefixCodec (C : ValueCodec (Unit {0})) (size : ℕ) : Type 0 where
+  pub bytes_long : (v : C.Value) → C.is_in_range v → length (C.bytes v) ≡ size
+  pub reads_as_prefix : (v : C.Value) (rest : List ℕ) → C.is_in_range v → C.is_normal tt v
+      → C.parses tt (C.bytes v ++ rest) ≡ Ok v
 
 -- for an attribute type: its kind has no flag bit, and the codec of its values keeps the codec laws
 pub record AttributeSpecLaws (spec : AttributeSpec) : Type 0 where
@@ -25,7 +25,7 @@ AttributeSetLaws (spec ∷ others) = AttributeSpecLaws spec × AttributeSetLaws 
 
 -- for a reply: its header keeps the codec laws, also if attributes follow, and its set of attribute
 -- types keeps them
-pub record ResponseLaws (R : ResponseSpec) : Type 0 where
-  pub header : KeepsCodecLaws (as_codec R.header)
-  pub as_prefix : IsPrefixCodec R.header R.size
-  pub attribute_set : AttributeSetLaws R.attribute_set
+pub record ResponseLaws (spec : ResponseSpec) : Type 0 where
+  pub header : KeepsCodecLaws (as_codec spec.header)
+  pub as_prefix : IsPrefixCodec spec.header spec.size
+  pub attribute_set : AttributeSetLaws spec.attribute_set

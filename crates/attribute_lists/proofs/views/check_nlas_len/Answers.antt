@@ -7,7 +7,7 @@ use Rattle.netlink_core.specs.Walk.{unread_bytes}
 use Rattle.netlink_core.proofs.Iterating.{error_of_rest, error_of_first_attribute}
 use Rattle.netlink_core.proofs.Iterating.{StartsWithAttribute-nonempty, attribute_prefix_of_start}
 use Rattle.netlink_core.proofs.Splitting.{decoded_or_error_apart}
-use Rattle.attribute_lists.proofs.Emitting.{encoded_attributes_in}
+use Rattle.attribute_lists.specs.AttributesIn.{encoded_attributes_in}
 use Rattle.attribute_lists.proofs.Finding.{value_first}
 use Rattle.attribute_lists.proofs.FirstAttribute.{no_attribute_is_found}
 use Rattle.attribute_lists.proofs.Measuring.{leaves_end, leaves_less, leaves_within}

@@ -4,7 +4,7 @@ use Rattle.netlink_core.specs.Attribute.{DecodeTo, HasAttributeError}
 use Rattle.netlink_core.specs.Walk.{unread_bytes}
 use Rattle.netlink_core.specs.AttributeSet.{AttributeValue, decode_attribute}
 use Rattle.attribute_lists.specs.AttributesIn.{decoded_in}
-use Rattle.attribute_lists.proofs.Emitting.{encoded_attributes_in}
+use Rattle.attribute_lists.specs.AttributesIn.{encoded_attributes_in}
 use Rattle.attribute_lists.proofs.Measuring.{Leaves}
 use Rattle.attribute_lists.proofs.views.check_nlas_len.Given as goal
 

@@ -5,7 +5,7 @@ use Rattle.netlink_core.specs.Attribute.{Attribute, attribute_bytes}
 use Rattle.netlink_core.specs.AttributeSet.{encode_attribute}
 use Rattle.netlink_core.specs.Walk.{unread_bytes}
 use Rattle.netlink_core.proofs.Writing.{one_more_attribute_written, unchanged_after_one_more}
-use Rattle.attribute_lists.proofs.Emitting.{encoded_attributes_in}
+use Rattle.attribute_lists.specs.AttributesIn.{encoded_attributes_in}
 use Rattle.attribute_lists.proofs.views.emit_views.Goals as goal
 
 pub loop-view-preserved : goal.loop-view-preserved

@@ -5,7 +5,7 @@ use Rattle.netlink_core.specs.Attribute.{FitsLengthField, attribute_bytes}
 use Rattle.netlink_core.specs.Walk.{unread_bytes}
 use Rattle.netlink_core.specs.AttributeSet.{decode_attribute}
 use Rattle.attribute_lists.specs.AttributesIn.{HasNoAttributeError, decoded_in}
-use Rattle.attribute_lists.proofs.Emitting.{encoded_attributes_in}
+use Rattle.attribute_lists.specs.AttributesIn.{encoded_attributes_in}
 use Rattle.attribute_lists.proofs.views.views_len.Given as goal
 
 -- the length so far and the length of the remaining attributes are the whole length, and all values
@@ -20,7 +20,7 @@ invariant-loop-view g l =
       room : l.len ≤ 4294967295;
       fit : AllByRecursion FitsLengthField left ↔ AllByRecursion FitsLengthField all;
       len : l.len + length (flat_map attribute_bytes left)
-          ≡ l.header + length (flat_map attribute_bytes all);
+          ≡ l.header_len + length (flat_map attribute_bytes all);
     }
 
 abbrev pub decreases-loop-view : goal.decreases-loop-view
