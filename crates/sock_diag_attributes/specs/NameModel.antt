@@ -10,6 +10,7 @@ abbrev pub socket_name_model : {B : Type 0} → (B → List ℕ) → SocketName 
 socket_name_model bytes (Pathname path) = Pathname (bytes path)
 socket_name_model bytes (Abstract address) = Abstract (bytes address)
 
--- the model of a borrowed name
+-- `name_view_model name`: the model of the borrowed name: the name with the bytes that it borrows
+-- (`.now`) as a list
 abbrev pub name_view_model : SocketName (Bor (List ℕ)) → SocketName (List ℕ)
-name_view_model = socket_name_model (λ b. b.now)
+name_view_model = socket_name_model (λ bytes. bytes.now)

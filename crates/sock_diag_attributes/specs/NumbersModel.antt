@@ -4,10 +4,11 @@ use Rattle.sock_diag_attributes.specs.declared.numbers.NumbersIterator.{NumbersI
 use Rattle.sock_diag_attributes.specs.declared.numbers.NumbersView.{NumbersView}
 use Rattle.sock_diag_attributes.specs.Numbers.{numbers_in}
 
--- the numbers in the borrowed bytes, four bytes each, little-endian
+-- `numbers_view_model numbers`: the model of borrowed numbers: the numbers in the bytes that the
+-- view borrows, four bytes each, little-endian
 abbrev pub numbers_view_model : NumbersView → List ℕ
 numbers_view_model numbers = numbers_in numbers.bytes.now
 
--- the numbers that the iterator has not yielded yet
+-- `numbers_left iterator`: the numbers that the iterator has not yielded yet, in order
 abbrev pub numbers_left : NumbersIterator → List ℕ
-numbers_left walk = numbers_view_model walk.rest
+numbers_left iterator = numbers_view_model iterator.remaining

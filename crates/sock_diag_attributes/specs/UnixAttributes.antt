@@ -16,8 +16,8 @@ use Rattle.sock_diag_records.specs.declared.constants.TheConstants as c
 -- connections that wait to be accepted), 4 (`struct unix_diag_rqlen`), 5 (`u32` values, indexed by
 -- SK_MEMINFO_..) and 6 (the directions that are shut down). `attribute_spec t codec` is type `t`,
 -- whose value is parsed and serialized by `codec`; `value_codec layout` is the codec of a record.
--- `number_attribute_spec t w` is a little-endian number of exactly `w` bytes. The value of an
--- `allocating_attribute_spec` needs memory, the value of any other type does not.
+-- `number_attribute_spec t w` is type `t`, a little-endian number of exactly `w` bytes. A value of
+-- an `allocating_attribute_spec` needs memory; a value of another type of the set needs none.
 abbrev pub unix_attribute_set : AttributeSet
 unix_attribute_set =
     allocating_attribute_spec c.UNIX_DIAG_NAME name_value ∷

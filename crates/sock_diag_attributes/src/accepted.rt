@@ -1,29 +1,32 @@
-//! Values of attributes that are known to be accepted: they are read without another test.
+//! Values of attributes that are known to be accepted: they are read without another test. The
+//! parameter `KIND` is the kind of the attribute, which only the contracts use.
 
 ghost use Rattle.std.specs.Prelude.{◌≡◌, Ok, IsOk, Some};
 ghost use Rattle.netlink_core.specs.Layout.{parse_record};
 ghost use Rattle.netlink_core.specs.Parse.{number_of_width, parse_text};
-ghost use Rattle.sock_diag_attributes.specs.Numbers.{number_pair_value};
+ghost use Rattle.sock_diag_attributes.specs.Numbers.{parse_number_pair};
 
 use byteorder::{ByteOrder, LittleEndian};
 use netlink_core::{Record, parse_str};
 
 /// Returns the number in one byte. Requires that the value has exactly one byte.
 #[inline(always)]
-pub(crate) fn accepted_u8(_kind: u16, value: &[u8]) -> u8
+pub(crate) fn accepted_u8<const KIND: u16>(value: &[u8]) -> u8
     // number_of_width (Some kind) width bytes: `Ok` of the little-endian number, or `Err` of the
     // error of another length, which contains the kind.
-    requires { IsOk (number_of_width (Some _kind) 1 value.now) }
-    ensures { number_of_width (Some _kind) 1 value.now ≡ Ok result }
+    requires { IsOk (number_of_width (Some KIND) 1 value.now) }
+    ensures { number_of_width (Some KIND) 1 value.now ≡ Ok result }
 {
     value[0]
 }
 
 /// Returns the little-endian number in four bytes. Requires that the value has exactly four bytes.
 #[inline(always)]
-pub(crate) fn accepted_u32(_kind: u16, value: &[u8]) -> u32
-    requires { IsOk (number_of_width (Some _kind) 4 value.now) }
-    ensures { number_of_width (Some _kind) 4 value.now ≡ Ok result }
+pub(crate) fn accepted_u32<const KIND: u16>(value: &[u8]) -> u32
+    // number_of_width (Some kind) 4 bytes: `Ok` of the number in four bytes, or `Err` of the error
+    // of another length, which contains the kind.
+    requires { IsOk (number_of_width (Some KIND) 4 value.now) }
+    ensures { number_of_width (Some KIND) 4 value.now ≡ Ok result }
 {
     LittleEndian::read_u32(value)
 }
@@ -31,9 +34,11 @@ pub(crate) fn accepted_u32(_kind: u16, value: &[u8]) -> u32
 /// Returns the two little-endian numbers in eight bytes. Requires that the value has exactly eight
 /// bytes.
 #[inline(always)]
-pub(crate) fn accepted_u32_pair(_kind: u16, value: &[u8]) -> (u32, u32)
-    requires { IsOk ((number_pair_value _kind).parses tt value.now) }
-    ensures { (number_pair_value _kind).parses tt value.now ≡ Ok result }
+pub(crate) fn accepted_u32_pair<const KIND: u16>(value: &[u8]) -> (u32, u32)
+    // parse_number_pair kind bytes: `Ok` of the two numbers in eight bytes, or `Err` of the error
+    // of another length, which contains the kind.
+    requires { IsOk (parse_number_pair KIND value.now) }
+    ensures { parse_number_pair KIND value.now ≡ Ok result }
 {
     let (first, second) = value.split_at(4);
     (
@@ -42,11 +47,13 @@ pub(crate) fn accepted_u32_pair(_kind: u16, value: &[u8]) -> (u32, u32)
     )
 }
 
-/// Returns the record at the start of the bytes. Requires that it is accepted.
+/// Returns the record at the start of the bytes. Requires that its parser accepts the bytes: that
+/// there are enough for the record, and that the record has no other error.
 #[inline(always)]
 #[tactic(auto, using(netlink_core::proofs::LayoutLaws::parsed_by_fields))]
 pub(crate) fn accepted_record<T: Record<Param = ()>>(bytes: &[u8]) -> T
-    // parse_record layout param bytes: `Ok` of the value, or `Err` of the first error.
+    // parse_record layout param bytes: `Ok` of the value, or `Err` of the first error. There is no
+    // parameter (`tt`).
     requires { IsOk (parse_record T.layout tt bytes.now) }
     ensures { parse_record T.layout tt bytes.now ≡ Ok result }
 {
@@ -58,11 +65,13 @@ pub(crate) fn accepted_record<T: Record<Param = ()>>(bytes: &[u8]) -> T
 
 /// Returns the text in the bytes, without one terminating NUL if there is one. Requires that the
 /// text is valid UTF-8.
-// It is tested again, since only the test makes a `str` of bytes. In the impossible case the text
-// is empty, and not `unreachable!`: so the compiler can remove the test if the text is not used.
+// UTF-8 is tested again, since only the test makes a `str` of bytes. In the impossible case the
+// text is empty, and not `unreachable!`: so the compiler can remove the test if the text is not
+// used.
 #[inline(always)]
 pub(crate) fn accepted_str(bytes: &[u8]) -> &str
-    // parse_text bytes: `Ok` of the bytes of the text, or `Err NotUtf8`.
+    // parse_text bytes: `Ok` of the bytes of the text, or `Err NotUtf8`. `bytes.entry` is the
+    // argument as it was passed.
     requires { IsOk (parse_text bytes.now) }
     ensures { parse_text bytes.entry.now ≡ Ok result.now }
 {

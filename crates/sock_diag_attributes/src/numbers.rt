@@ -9,8 +9,8 @@ ghost use Rattle.std.specs.Iterator.SizeHint.{IsWithinCount};
 ghost use Rattle.byteorder.specs.Endian.{little_bytes};
 ghost use Rattle.netlink_core.specs.Bytes.{HoldsAtStart, IsBytes};
 ghost use Rattle.netlink_core.specs.Parse.{number_of_width};
-ghost use Rattle.sock_diag_attributes.specs.Flag.{flag_value};
-ghost use Rattle.sock_diag_attributes.specs.Numbers.{number_pair_value, numbers_value};
+ghost use Rattle.sock_diag_attributes.specs.Flag.{parse_flag};
+ghost use Rattle.sock_diag_attributes.specs.Numbers.{parse_number_pair, parse_numbers};
 
 use byteorder::{ByteOrder, LittleEndian};
 use netlink_core::DecodeError;
@@ -18,6 +18,8 @@ use std::alloc::{AllocError, Global};
 
 /// Parses the number in exactly one byte. Returns `WrongLength` with the kind for any other length.
 pub(crate) fn exact_u8(kind: u16, value: &[u8]) -> Result<u8, DecodeError>
+    // number_of_width (Some kind) width bytes: `Ok` of the little-endian number, or `Err` of the
+    // error of another length, which contains the kind.
     ensures { result ≡ number_of_width (Some kind) 1 value.now }
 {
     match value {
@@ -29,6 +31,8 @@ pub(crate) fn exact_u8(kind: u16, value: &[u8]) -> Result<u8, DecodeError>
 /// Parses the little-endian number in exactly four bytes. Returns `WrongLength` with the kind for
 /// any other length.
 pub(crate) fn exact_u32(kind: u16, value: &[u8]) -> Result<u32, DecodeError>
+    // number_of_width (Some kind) 4 bytes: `Ok` of the number in four bytes, or `Err` of the error
+    // of another length, which contains the kind.
     ensures { result ≡ number_of_width (Some kind) 4 value.now }
 {
     if value.len() != 4 {
@@ -40,7 +44,8 @@ pub(crate) fn exact_u32(kind: u16, value: &[u8]) -> Result<u32, DecodeError>
 /// Parses the flag in exactly one byte, which is true if the byte is not zero. Returns
 /// `WrongLength` with the kind for any other length.
 pub(crate) fn exact_flag(kind: u16, value: &[u8]) -> Result<bool, DecodeError>
-    ensures { result ≡ (flag_value kind).parses tt value.now }
+    // parse_flag kind bytes: `Ok` of the flag, or `Err` of the `WrongLength`.
+    ensures { result ≡ parse_flag kind value.now }
 {
     Ok(exact_u8(kind, value)? != 0)
 }
@@ -48,7 +53,8 @@ pub(crate) fn exact_flag(kind: u16, value: &[u8]) -> Result<bool, DecodeError>
 /// Parses the two little-endian numbers in exactly eight bytes. Returns `WrongLength` with the kind
 /// for any other length.
 pub(crate) fn exact_u32_pair(kind: u16, value: &[u8]) -> Result<(u32, u32), DecodeError>
-    ensures { result ≡ (number_pair_value kind).parses tt value.now }
+    // parse_number_pair kind bytes: `Ok` of the two numbers, or `Err` of the `WrongLength`.
+    ensures { result ≡ parse_number_pair kind value.now }
 {
     if value.len() != 8 {
         return Err(wrong_length(kind, value, 8));
@@ -60,7 +66,8 @@ pub(crate) fn exact_u32_pair(kind: u16, value: &[u8]) -> Result<(u32, u32), Deco
     ))
 }
 
-// Returns the error for a value that does not have `need` bytes.
+// Returns the error `WrongLength` for the value of an attribute of this kind, which should have
+// `need` bytes. It also contains the length of the value.
 fn wrong_length(kind: u16, value: &[u8], need: usize) -> DecodeError
     ensures { result ≡ DecodeError.WrongLength (Some kind) (length value.now) need }
 {
@@ -75,7 +82,9 @@ fn wrong_length(kind: u16, value: &[u8], need: usize) -> DecodeError
 #[derive(Clone, Copy, Debug, PartialEq, Eq)]
 pub struct NumbersView<'a> {
     bytes: &'a [u8],
+    // The numbers are complete.
     ghost whole: { length bytes.now % 4 ≡ 0 },
+    // Each byte is below 256, as each `u8` is; this is stated for the codec laws.
     ghost in_range: { IsBytes bytes.now },
 }
 
@@ -85,9 +94,12 @@ impl<'a> NumbersView<'a> {
     /// Checks the length of the bytes, and returns a view of the numbers in them. Returns
     /// `NotMultipleOfFour` if the length is not a multiple of four.
     pub(crate) fn parse(bytes: &'a [u8]) -> Result<NumbersView<'a>, DecodeError>
+        // parse_numbers bytes: `Ok` of the list of numbers, or `Err` of the error. The result is
+        // the same, with the list as a view: `numbers_view_model` is the list of a view.
+        // `bytes.entry` is the argument as it was passed.
         ensures { MatchResult result
-            (λ numbers. numbers_value.parses tt bytes.entry.now ≡ Ok (numbers_view_model numbers))
-            (λ e. numbers_value.parses tt bytes.entry.now ≡ Err e) }
+            (λ numbers. parse_numbers bytes.entry.now ≡ Ok (numbers_view_model numbers))
+            (λ e. parse_numbers bytes.entry.now ≡ Err e) }
     {
         if bytes.len() % 4 != 0 {
             return Err(DecodeError::NotMultipleOfFour { got: bytes.len() });
@@ -95,12 +107,12 @@ impl<'a> NumbersView<'a> {
         Ok(NumbersView { bytes })
     }
 
-    // Returns a view of the numbers in the bytes, which are not tested: their length has to be a
-    // multiple of four.
+    // Returns the view that `parse` returns. Requires that `parse` accepts the bytes: that their
+    // length is a multiple of four. The length is not tested again.
     #[inline(always)]
     pub(crate) fn new(bytes: &'a [u8]) -> NumbersView<'a>
-        requires { IsOk (numbers_value.parses tt bytes.now) }
-        ensures { numbers_value.parses tt bytes.entry.now ≡ Ok (numbers_view_model result) }
+        requires { IsOk (parse_numbers bytes.now) }
+        ensures { parse_numbers bytes.entry.now ≡ Ok (numbers_view_model result) }
     {
         NumbersView { bytes }
     }
@@ -115,7 +127,7 @@ impl<'a> NumbersView<'a> {
     }
 
     /// Returns the number at `index`, or `None` if the index is out of bounds.
-    #[tactic(auto, using(crate::specs::laws::Number::count_of_numbers_in, crate::specs::laws::Number::number_in_list_at, std::proofs::lemmas::List::take_rest, std::proofs::lemmas::Option::slice_get_past))]
+    #[tactic(auto, using(crate::specs::laws::Number::number_at_index_rules))]
     pub fn get(&self, index: usize) -> Option<u32>
         // slice_get xs i: `Some` of the element at index `i`, or `None` if there is none.
         ensures { result ≡ slice_get (numbers_view_model self.now) index }
@@ -126,7 +138,7 @@ impl<'a> NumbersView<'a> {
         Some(LittleEndian::read_u32(&self.bytes[4 * index..]))
     }
 
-    /// Returns whether there are no numbers.
+    /// Returns `true` if and only if there are no numbers.
     #[tactic(auto, using(crate::specs::laws::Number::count_of_numbers_in))]
     pub fn is_empty(&self) -> bool
         ensures { IsTrue result ↔ (numbers_view_model self.now ≡ []) }
@@ -136,9 +148,10 @@ impl<'a> NumbersView<'a> {
 
     /// Returns an iterator that yields all of the numbers, in order.
     pub fn iter(&self) -> NumbersIterator<'a>
+        // numbers_left: the numbers that the iterator has not yielded yet.
         ensures { numbers_left result ≡ numbers_view_model self.now }
     {
-        NumbersIterator { rest: *self }
+        NumbersIterator { remaining: *self }
     }
 
     // Returns the bytes of the numbers, which are also the bytes that they serialize to.
@@ -153,6 +166,7 @@ impl<'a> NumbersView<'a> {
     /// list needs no allocation.
     pub fn to_owned(&self, alloc: Global) -> Result<Vec<u32>, AllocError>
         ensures equal { IfOk result (λ numbers. numbers.items ≡ numbers_view_model self.now) }
+        // `needs_no_memory`: the call does not fail if there are no numbers.
         ensures needs_no_memory { numbers_view_model self.now ≡ [] → IsOk result }
     {
         if self.is_empty() {
@@ -167,7 +181,7 @@ impl<'a> NumbersView<'a> {
 /// An iterator over the numbers of a [`NumbersView`].
 #[derive(Clone, Debug, Drop)]
 pub struct NumbersIterator<'a> {
-    rest: NumbersView<'a>,
+    remaining: NumbersView<'a>,
 }
 
 impl<'a> Iterator for NumbersIterator<'a> {
@@ -177,17 +191,18 @@ impl<'a> Iterator for NumbersIterator<'a> {
 
     // `next` yields the first of the numbers left (`numbers_left`), after which only the others are
     // left, or `None` if there is none.
-    ghost next_gives = { λ old item new. YieldsFirst numbers_left old item new };
+    ghost next_gives = { YieldsFirst numbers_left };
 
-    ghost remaining = { λ walk. item_count numbers_left walk };
+    // At most as many items follow as numbers are left.
+    ghost remaining = { item_count numbers_left };
 
-    #[tactic(auto, using(crate::specs::laws::Number::numbers_in_none, crate::specs::laws::Number::numbers_in_first))]
+    #[tactic(auto, using(crate::specs::laws::Number::next_number_rules))]
     fn next(&mut self) -> Option<u32> {
-        let bytes = self.rest.bytes;
+        let bytes = self.remaining.bytes;
         if bytes.len() < 4 {
             return None;
         }
-        self.rest = NumbersView { bytes: &bytes[4..] };
+        self.remaining = NumbersView { bytes: &bytes[4..] };
         Some(LittleEndian::read_u32(bytes))
     }
 
@@ -195,7 +210,9 @@ impl<'a> Iterator for NumbersIterator<'a> {
     /// the upper bound.
     #[tactic(auto, using(crate::specs::laws::Number::count_of_numbers_in))]
     fn size_hint(&self) -> (usize, Option<usize>)
-        // `lower` and `upper` are the clauses that the trait requires of every iterator.
+        // `lower` and `upper` are the clauses that the trait requires of every iterator: `result.0`
+        // is at most the number of items left, and `result.1` is at least this number. Both follow
+        // from `exact`.
         ensures lower { IsWithinCount result.0 (item_count numbers_left self.now) }
         ensures upper { IfSome result.1 (UpTo (item_count numbers_left self.now)) }
         ensures exact { result ≡ (
@@ -203,12 +220,12 @@ impl<'a> Iterator for NumbersIterator<'a> {
           Some (length (numbers_left self.now)),
         ) }
     {
-        (self.rest.len(), Some(self.rest.len()))
+        (self.remaining.len(), Some(self.remaining.len()))
     }
 }
 
-/// Writes the two numbers, four bytes each, little-endian, at the start of `buffer`, which has at
-/// least 8 bytes. The bytes after them are unchanged.
+/// Writes the two numbers, four bytes each, little-endian, at the start of `buffer`, which has to
+/// have at least 8 bytes. The bytes after these 8 are unchanged.
 pub(crate) fn emit_u32_pair(first: u32, second: u32, buffer: &mut [u8])
     requires { 8 ≤ length buffer.old }
     ensures { buffer.new ≡ little_bytes 4 first ++ little_bytes 4 second
@@ -217,12 +234,14 @@ pub(crate) fn emit_u32_pair(first: u32, second: u32, buffer: &mut [u8])
     LittleEndian::write_u32_into(&[first, second], &mut buffer[..8]);
 }
 
-/// Writes the numbers, four bytes each, little-endian, at the start of `buffer`, which is long
-/// enough. The bytes after them are unchanged.
-#[tactic(auto, using(crate::specs::laws::Number::length_numbers, crate::specs::laws::Number::numbers_prefix_length, crate::specs::laws::Number::each_number_below))]
+/// Writes the numbers, four bytes each, little-endian, at the start of `buffer`, which has to be
+/// long enough. The bytes after them are unchanged.
+#[tactic(auto, using(crate::specs::laws::Number::emit_numbers_rules))]
 pub(crate) fn emit_numbers(numbers: &[u32], buffer: &mut [u8])
     requires { length (flat_map (little_bytes 4) numbers.now) ≤ length buffer.old }
+    // HoldsAtStart bytes old new: `new` is `old` with the bytes written at its start.
     ensures written { HoldsAtStart (flat_map (little_bytes 4) numbers.now) buffer.old buffer.new }
+    // Each number is below 2^32. So it is for each `u32`; this is stated for the codec laws.
     ensures in_range { AllByRecursion (λ n. n < 2 ^ 32) numbers.now }
 {
     LittleEndian::write_u32_into(numbers, &mut buffer[..4 * numbers.len()]);

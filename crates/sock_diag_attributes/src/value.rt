@@ -12,12 +12,13 @@ use netlink_core::{Emitable, emit_u32};
 use sock_diag_values::inet::{LegacyMemInfo, MemInfo, TcpInfo};
 use sock_diag_values::unix::{MemInfo as UnixMemInfo, Vfs};
 
-/// The value of an attribute, borrowed.
+/// The value of an attribute, borrowed. Numbers are serialized little-endian, a text with a
+/// terminating NUL, a name with its zero, a record by its layout, and `Bytes` unchanged.
 #[derive(Drop)]
 pub(crate) enum Value<'a> {
-    Byte(u8),
-    Word(u32),
-    Pair(u32, u32),
+    U8(u8),
+    U32(u32),
+    U32Pair(u32, u32),
     Numbers(&'a [u32]),
     Text(&'a str),
     Name(NameView<'a>),
@@ -30,17 +31,18 @@ pub(crate) enum Value<'a> {
 }
 
 impl Value<'_> {
-    /// Returns the length of the serialized value in bytes.
+    /// Returns the number of bytes that the value serializes to, without a header and padding.
     #[inline(always)]
     #[tactic(auto, using(crate::specs::laws::Number::length_numbers))]
     pub(crate) fn len(&self) -> usize
         ensures { result ≡ length (value_bytes self.now) }
     {
         match self {
-            Value::Byte(_) => 1,
-            Value::Word(_) => 4,
-            Value::Pair(..) => 8,
+            Value::U8(_) => 1,
+            Value::U32(_) => 4,
+            Value::U32Pair(..) => 8,
             Value::Numbers(numbers) => 4 * numbers.len(),
+            // The text and its terminating NUL.
             Value::Text(text) => text.len() + 1,
             Value::Name(name) => name.len(),
             Value::LegacyMemInfo(info) => info.buffer_len(),
@@ -52,18 +54,21 @@ impl Value<'_> {
         }
     }
 
-    /// Writes the serialized value at the start of `buffer`, which is long enough. The bytes after
-    /// it are unchanged.
+    /// Writes the bytes that the value serializes to at the start of `buffer`, which has to be long
+    /// enough. The bytes after them are unchanged.
     #[inline(always)]
     pub(crate) fn emit(&self, buffer: &mut [u8])
+        // value_bytes: the bytes that the value serializes to.
         requires { length (value_bytes self.now) ≤ length buffer.old }
+        // HoldsAtStart bytes old new: `new` is `old` with the bytes written at its start.
         ensures written { HoldsAtStart (value_bytes self.now) buffer.old buffer.new }
+        // Each number fits its type, as in each Rust value; this is stated for the codec laws.
         ensures in_range { IsValueInRange self.now }
     {
         match self {
-            Value::Byte(byte) => buffer[0] = *byte,
-            Value::Word(word) => emit_u32(buffer, *word),
-            Value::Pair(first, second) => emit_u32_pair(*first, *second, buffer),
+            Value::U8(number) => buffer[0] = *number,
+            Value::U32(number) => emit_u32(buffer, *number),
+            Value::U32Pair(first, second) => emit_u32_pair(*first, *second, buffer),
             Value::Numbers(numbers) => emit_numbers(numbers, buffer),
             Value::Text(text) => emit_text(text, buffer),
             Value::Name(name) => name.emit_name(buffer),

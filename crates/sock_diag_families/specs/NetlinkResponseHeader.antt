@@ -8,7 +8,8 @@ use Rattle.sock_diag_families.specs.declared.netlink.response.NetlinkResponseHea
 }
 use Rattle.sock_diag_records.specs.declared.constants.TheConstants.{AF_NETLINK}
 
--- the header with these numbers in the fields that are not ignored, in the order of the rows below
+-- `netlink_header_of values`: the header with these numbers in the fields that are not ignored, in
+-- the order of the rows of `netlink_header`
 abbrev pub netlink_header_of : List ℕ → NetlinkResponseHeader
 netlink_header_of values = record {
   kind = slice_index values 0;
@@ -21,10 +22,12 @@ netlink_header_of values = record {
   cookie = slice_index values 7;
 }
 
--- `struct netlink_diag_msg` (linux/netlink_diag.h): `ndiag_family`, which is ignored and serialized
--- as AF_NETLINK, `ndiag_type`, `ndiag_protocol`, `ndiag_state`, `ndiag_portid`, `ndiag_dst_portid`,
--- `ndiag_dst_group`, `ndiag_ino`, `ndiag_cookie`. Arguments of `plain`: the name in errors, the
--- length in bytes, the rows, their inverse, and the condition on arrays (none).
+-- `struct netlink_diag_msg` (linux/netlink_diag.h). `ndiag_family` at 0 is ignored, and serialized
+-- as AF_NETLINK. The other rows are, in order, `ndiag_type`, `ndiag_protocol`, `ndiag_state`,
+-- `ndiag_portid`, `ndiag_dst_portid`, `ndiag_dst_group`, `ndiag_ino`, `ndiag_cookie`. Arguments of
+-- `plain`: the name in errors, the length in bytes, the rows, their inverse, and the condition on
+-- arrays (`⊤`, since there are none). The types `Unit {0}`: there is no parameter, and only one
+-- tag.
 abbrev pub netlink_header : Layout (Unit {0}) (Unit {0}) NetlinkResponseHeader
 netlink_header = plain (name.FamilyResponseHeader AF_NETLINK) 28 (
     skip 0 (AF_NETLINK ∷ []) ∷

@@ -8,7 +8,8 @@ use Rattle.sock_diag_families.specs.declared.packet.response.PacketResponseHeade
 }
 use Rattle.sock_diag_records.specs.declared.constants.TheConstants.{AF_PACKET}
 
--- the header with these numbers in the fields that are not ignored, in the order of the rows below
+-- `packet_header_of values`: the header with these numbers in the fields that are not ignored, in
+-- the order of the rows of `packet_header`
 abbrev pub packet_header_of : List ℕ → PacketResponseHeader
 packet_header_of values = record {
   kind = slice_index values 0;
@@ -17,10 +18,11 @@ packet_header_of values = record {
   cookie = slice_index values 3;
 }
 
--- `struct packet_diag_msg` (linux/packet_diag.h): `pdiag_family`, which is ignored and serialized
--- as AF_PACKET, `pdiag_type`, `pdiag_num`, `pdiag_ino`, `pdiag_cookie`. Arguments of `plain`:
--- the name in errors, the length in bytes, the rows, their inverse, and the condition on arrays
--- (none).
+-- `struct packet_diag_msg` (linux/packet_diag.h). `pdiag_family` at 0 is ignored, and serialized as
+-- AF_PACKET. The other rows are, in order, `pdiag_type`, `pdiag_num`, `pdiag_ino`, `pdiag_cookie`.
+-- Arguments of `plain`: the name in errors, the length in bytes, the rows, their inverse, and the
+-- condition on arrays (`⊤`, since there are none). The types `Unit {0}`: there is no parameter, and
+-- only one tag.
 abbrev pub packet_header : Layout (Unit {0}) (Unit {0}) PacketResponseHeader
 packet_header = plain (name.FamilyResponseHeader AF_PACKET) 16 (
     skip 0 (AF_PACKET ∷ []) ∷

@@ -5,7 +5,8 @@ use Rattle.netlink_core.specs.Rows.{skip, u8, u32, u64}
 use Rattle.netlink_core.specs.declared.error.RecordName.TheVariants as name
 use Rattle.sock_diag_families.specs.declared.request.ShowRequest.{ShowRequest}
 
--- the request with these numbers in the fields that are not ignored, in the order of the rows below
+-- `show_request_of values`: the request with these numbers in the fields that are not ignored, in
+-- the order of the rows of `show_request`
 abbrev pub show_request_of : {family : ℕ} → List ℕ → ShowRequest family
 show_request_of values = record {
   protocol = slice_index values 0;
@@ -14,12 +15,19 @@ show_request_of values = record {
   cookie = slice_index values 3;
 }
 
--- `struct netlink_diag_req` (linux/netlink_diag.h), `struct packet_diag_req` (linux/packet_diag.h)
--- or `struct xdp_diag_req` (linux/xdp_diag.h), by the family AF_NETLINK, AF_PACKET or AF_XDP.
--- `sdiag_family` at 0 and `pad` at 2 are ignored, and serialized as the family and 0;
--- `family % 256` is the family, which has one byte. The others are `sdiag_protocol` at 1, `*_ino`
--- at 4, `*_show` at 8 and `*_cookie` at 12. Arguments of `plain`: the name in errors, the length in
--- bytes, the rows, their inverse, and the condition on arrays (none).
+-- `show_request family`: `struct netlink_diag_req` (linux/netlink_diag.h) for AF_NETLINK,
+-- `struct packet_diag_req` (linux/packet_diag.h) for AF_PACKET, or `struct xdp_diag_req`
+-- (linux/xdp_diag.h) for AF_XDP. By offsets:
+--   0   `sdiag_family`: ignored, and serialized as the family. A family is below 256; `% 256` makes
+--       any other number one byte.
+--   1   `sdiag_protocol`
+--   2   `pad`, two bytes: ignored, and serialized as 0
+--   4   `*_ino`
+--   8   `*_show`
+--   12  `*_cookie`
+-- Arguments of `plain`: the name in errors, the length in bytes, the rows, their inverse, and the
+-- condition on arrays (`⊤`, since there are none). The types `Unit {0}`: there is no parameter, and
+-- only one tag.
 abbrev pub show_request : (family : ℕ) → Layout (Unit {0}) (Unit {0}) (ShowRequest family)
 show_request family = plain (name.FamilyRequest family) 20 (
     skip 0 (family % 256 ∷ []) ∷

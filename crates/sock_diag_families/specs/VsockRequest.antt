@@ -6,14 +6,20 @@ use Rattle.netlink_core.specs.declared.error.RecordName.TheVariants as name
 use Rattle.sock_diag_families.specs.declared.vsock.request.VsockRequest.{VsockRequest}
 use Rattle.sock_diag_families.specs.declared.vsock.TheConstants.{AF_VSOCK}
 
--- the request with these numbers in the fields that are not ignored, in the order of the rows below
+-- `vsock_request_of values`: the request with these numbers in the fields that are not ignored, in
+-- the order of the rows of `vsock_request`
 abbrev pub vsock_request_of : List ℕ → VsockRequest
 vsock_request_of values = record { states = slice_index values 0; cookie = slice_index values 1 }
 
--- `struct vsock_diag_req` (linux/vm_sockets_diag.h): `sdiag_family`, `sdiag_protocol` and `pad` are
--- ignored, and serialized as AF_VSOCK and 0; `vdiag_states`; `vdiag_ino` and `vdiag_show` are
--- ignored, and serialized as 0; `vdiag_cookie`. Arguments of `plain`: the name in errors, the
--- length in bytes, the rows, their inverse, and the condition on arrays (none).
+-- `struct vsock_diag_req` (linux/vm_sockets_diag.h), by offsets:
+--   0   `sdiag_family`, `sdiag_protocol` and `pad` (two bytes): ignored, and serialized as
+--       AF_VSOCK, 0, 0, 0
+--   4   `vdiag_states`
+--   8   `vdiag_ino` and `vdiag_show`, eight bytes: ignored, and serialized as 0
+--   16  `vdiag_cookie`
+-- Arguments of `plain`: the name in errors, the length in bytes, the rows, their inverse, and the
+-- condition on arrays (`⊤`, since there are none). The types `Unit {0}`: there is no parameter, and
+-- only one tag.
 abbrev pub vsock_request : Layout (Unit {0}) (Unit {0}) VsockRequest
 vsock_request = plain (name.FamilyRequest AF_VSOCK) 24 (
     skip 0 (AF_VSOCK ∷ 0 ∷ 0 ∷ 0 ∷ []) ∷

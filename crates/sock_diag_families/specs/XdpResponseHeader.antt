@@ -6,7 +6,8 @@ use Rattle.netlink_core.specs.declared.error.RecordName.TheVariants as name
 use Rattle.sock_diag_families.specs.declared.xdp.response.XdpResponseHeader.{XdpResponseHeader}
 use Rattle.sock_diag_families.specs.declared.xdp.TheConstants.{AF_XDP}
 
--- the header with these numbers in the fields that are not ignored, in the order of the rows below
+-- `xdp_header_of values`: the header with these numbers in the fields that are not ignored, in the
+-- order of the rows of `xdp_header`
 abbrev pub xdp_header_of : List ℕ → XdpResponseHeader
 xdp_header_of values = record {
   kind = slice_index values 0;
@@ -14,9 +15,15 @@ xdp_header_of values = record {
   cookie = slice_index values 2;
 }
 
--- `struct xdp_diag_msg` (linux/xdp_diag.h): `xdiag_family` and `pad` are ignored, and serialized as
--- AF_XDP and 0; `xdiag_type`, `xdiag_ino`, `xdiag_cookie`. Arguments of `plain`: the name in
--- errors, the length in bytes, the rows, their inverse, and the condition on arrays (none).
+-- `struct xdp_diag_msg` (linux/xdp_diag.h), by offsets:
+--   0  `xdiag_family`: ignored, and serialized as AF_XDP
+--   1  `xdiag_type`
+--   2  `pad`, two bytes: ignored, and serialized as 0
+--   4  `xdiag_ino`
+--   8  `xdiag_cookie`
+-- Arguments of `plain`: the name in errors, the length in bytes, the rows, their inverse, and the
+-- condition on arrays (`⊤`, since there are none). The types `Unit {0}`: there is no parameter, and
+-- only one tag.
 abbrev pub xdp_header : Layout (Unit {0}) (Unit {0}) XdpResponseHeader
 xdp_header = plain (name.FamilyResponseHeader AF_XDP) 16 (
     skip 0 (AF_XDP ∷ []) ∷

@@ -36,26 +36,28 @@ use std::alloc::AllocError;
 /// States that `==` of two attributes returns true if and only if they have the same type field,
 /// with its two flag bits, and the same bytes in their values.
 #[tactic(auto, using(netlink_core::proofs::ValueTests::attribute_test_decides))]
-pub fn equal_raw_nlas(v: &RawNla<'_>, w: &RawNla<'_>) -> bool
-    // `buffered_attribute`: the type field and the bytes of the value.
-    ensures { IsTrue result ↔ (buffered_attribute v.now.0 ≡ buffered_attribute w.now.0) }
+pub fn equal_raw_nlas(left: &RawNla<'_>, right: &RawNla<'_>) -> bool
+    // `buffered_attribute`: the type field and the bytes of the value. `.0` is the `NlaBuffer`.
+    ensures { IsTrue result ↔ (buffered_attribute left.now.0 ≡ buffered_attribute right.now.0) }
 {
-    v == w
+    left == right
 }
 
-/// States that `clone` never fails, and returns an attribute with the same type field and the same
-/// bytes.
+/// Clones an attribute, which never fails and returns one with the same type field, with its two
+/// flag bits, and the same bytes in its value.
 pub fn copied_raw_nla<'a>(nla: &RawNla<'a>) -> Result<RawNla<'a>, AllocError>
     ensures ok { IsOk result }
+    // `buffered_attribute`: the type field and the bytes of the value.
     ensures same { IfOk result (λ copy. buffered_attribute copy.0 ≡ buffered_attribute nla.now.0) }
 {
     nla.clone()
 }
 
 /// States the value of each constant of this crate. Most clauses list pairs of a constant and its
-/// value, and `PairsAreEqual` says that both numbers of each pair are equal. Each size is the
-/// fewest bytes that the record is parsed from (`least` of its layout); `SHOW_REQUEST_LEN` is that
-/// for each family.
+/// value, and `PairsAreEqual` says that both numbers of each pair are equal. The value of each
+/// constant of a length is the fewest bytes that its record is parsed from (`least` of its layout).
+/// `SHOW_REQUEST_LEN` has its own clause, since its layout depends on the family: it is the same
+/// length for each.
 pub fn family_constants_have_their_values()
     ensures families { PairsAreEqual ((AF_VSOCK, 40) ∷ (AF_XDP, 44) ∷ []) }
     ensures netlink_requests { PairsAreEqual ((NDIAG_PROTO_ALL, 255) ∷ (NDIAG_SHOW_MEMINFO, 1) ∷

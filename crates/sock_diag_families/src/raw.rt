@@ -10,6 +10,7 @@ use netlink_core::{DecodeError, FamilyView, Nla, NlaBuffer};
 pub struct RawNla<'a>(pub NlaBuffer<'a>);
 
 impl Nla for RawNla<'_> {
+    // The type field and the value are unchanged.
     ghost attribute = { λ nla. buffered_attribute nla.0 };
 
     fn value_len(&self) -> usize {
@@ -26,12 +27,14 @@ impl Nla for RawNla<'_> {
     }
 }
 
-// The set of attribute kinds is empty, so that each attribute decodes to itself.
 impl<'a> FamilyView<'a> for RawNla<'a> {
+    // The set of attribute types is empty, so that each attribute is raw.
     ghost attribute_set = { [] };
 
+    // What an attribute decodes to by the empty set: itself.
     ghost model = { λ nla. buffered_attribute nla.0 };
 
+    // Proof that the attribute serializes as what it decodes to.
     ghost attribute_by_model = { λ _. refl };
 
     fn read_view(nla: &NlaBuffer<'a>) -> Result<Self, DecodeError> {

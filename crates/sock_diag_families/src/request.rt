@@ -29,12 +29,14 @@ pub struct ShowRequest<const FAMILY: u8> {
 }
 
 impl<const FAMILY: u8> Exact for ShowRequest<FAMILY> {
+    // Proof that `==` is equality, and that `clone` returns the value and cannot fail.
     ghost exact = { Prim.search rules };
 }
 
 impl<const FAMILY: u8> Record for ShowRequest<FAMILY> {
     type Param = ();
 
+    // `show_request` is the layout of all three requests, for the family.
     ghost layout = { show_request FAMILY };
 
     fn name_and_least() -> (RecordName, usize) {
@@ -63,11 +65,12 @@ impl<const FAMILY: u8> Record for ShowRequest<FAMILY> {
 
     fn write_fields(&self, buffer: &mut [u8]) {
         let (start, rest) = buffer.split_at_mut(4);
-        let (words, cookie) = rest.split_at_mut(8);
+        let (u32s, cookie) = rest.split_at_mut(8);
         write_bytes(&[FAMILY, self.protocol, 0, 0], start);
-        write_u32s(&[self.inode, self.show], words);
+        write_u32s(&[self.inode, self.show], u32s);
         write_u64s(&[self.cookie], cookie);
     }
 
+    // Proof of the laws of the record.
     ghost laws = { record_laws (show_request FAMILY) (show_request_sound FAMILY) };
 }

@@ -2,6 +2,7 @@
 use Rattle.std.specs.Prelude.{ℕ, ◌==◌, List, IsTrue}
 use Rattle.std.specs.List.{list_all}
 
--- both numbers of each pair are equal: a constant, and the value that the contract lists for it
+-- `PairsAreEqual table`: both numbers of each pair in the table are equal: a constant, and the
+-- value that the contract lists for it
 abbrev pub PairsAreEqual : List (ℕ × ℕ) → Type 0
-PairsAreEqual table = IsTrue (list_all (λ row. row.0 == row.1) table)
+PairsAreEqual table = IsTrue (list_all (λ (constant, listed). constant == listed) table)

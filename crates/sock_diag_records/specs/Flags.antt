@@ -1,14 +1,14 @@
 -- The flags that have a name in this crate: for each flag type, a table of names and bits. A name
--- is a list of character codes.
+-- is a list of character codes: `codes text` are those of a text.
 use Rattle.std.specs.Prelude.{ℕ, ◌^◌, ◌==◌, List, [], ◌∷◌, ◌++◌, codes, map}
 use Rattle.std.specs.List.{enumerate_from, slice_split}
 
--- `named_bits_from n text`: the words of a text that is separated by spaces (character 32), each
--- with its bit: 2^n for the first, 2^(n + 1) for the second, and so on.
+-- `named_bits_from bit text`: the words of a text that is separated by spaces (character 32), each
+-- with its bit: 2^bit for the first, 2^(bit + 1) for the second, and so on.
 -- `named_bits_from 1 (codes "A B")` is `(codes "A", 2) ∷ (codes "B", 4) ∷ []`.
-abbrev pub named_bits_from : ℕ → List ℕ → List (List ℕ × ℕ)
-named_bits_from n text = map (λ w. (w.1, 2 ^ w.0))
-    (enumerate_from n (slice_split (λ c. c == 32) text))
+abbrev pub named_bits_from : (bit : ℕ) → List ℕ → List (List ℕ × ℕ)
+named_bits_from bit text = map (λ (n, name). (name, 2 ^ n))
+    (enumerate_from bit (slice_split (λ character. character == 32) text))
 
 -- `idiag_states` of `struct inet_diag_req_v2`: bit n for state n, from `TCP_ESTABLISHED` (1) to
 -- `TCP_CLOSING` (11)

@@ -16,13 +16,15 @@ use Rattle.sock_diag_records.specs.inverse.InetRequest.{inet_request_of}
 --   4  `idiag_states`: the mask 0xffe has the bits of `inet_state_flags`, 1 (`TCP_ESTABLISHED`) to
 --      11 (`TCP_CLOSING`); the parser clears all others
 --   8  `id`: a `struct inet_diag_sockid`, with addresses of these IP versions
--- The tag is the IP versions. In normal form (`is_own`) both addresses are of the family's IP
--- version.
+-- The tag is the IP versions of both addresses (`versions`). The parser has no parameter
+-- (`Unit {0}`).
 unfoldable pub inet_request : Layout (Unit {0}) IpVersions InetRequest
 inet_request = record {
   name = name.InetRequest;
   least = 56;
-  tag_at = λ param left. versions_of_family (slice_index left 0);
+  -- bytes are parsed by the IP version of their family, or rejected for another family
+  tag_for = λ param bytes. versions_of_family (slice_index bytes 0);
+  -- a value is serialized with each address in its own IP version
   tag_of = λ value. versions_of value.socket_id;
   rows = λ versions.
       u8 0 InetRequest.family ∷
@@ -31,7 +33,10 @@ inet_request = record {
       skip 3 (0 ∷ []) ∷
       flags32 4 0xffe (λ request. request.states.0) ∷
       embed InetRequest.socket_id (socket_id_rows 8 versions) ∷ [];
+  -- the request with these numbers in the rows for these versions
   value = inet_request_of;
-  is_shaped = λ value. HasArrayLengths value.socket_id;
-  is_own = λ param value. versions_of_family value.family ≡ Ok (versions_of value.socket_id);
+  -- the addresses and the cookie have their lengths
+  arrays_fit = λ value. HasArrayLengths value.socket_id;
+  -- both addresses are of the family's IP version
+  is_consistent = λ param value. versions_of_family value.family ≡ Ok (versions_of value.socket_id);
 }

@@ -7,7 +7,8 @@ use Rattle.netlink_core.specs.Layout.{Layout}
 use Rattle.sock_diag_records.specs.declared.inet.socket_id.SocketId.{SocketId}
 use Rattle.netlink_core.specs.declared.error.RecordName.TheVariants as name
 use Rattle.sock_diag_records.specs.IpVersions.{IpVersion, ipv4, ipv6, IpVersions}
-use Rattle.sock_diag_records.specs.IpVersions.{versions_of_family, versions_of, address_data}
+use Rattle.sock_diag_records.specs.IpVersions.{versions_of_family, versions_of}
+use Rattle.sock_diag_records.specs.IpVersions.{octets_or_segments, octet_or_segment_count}
 use Rattle.sock_diag_records.specs.inverse.SocketId.{socket_id_of}
 use Rattle.netlink_core.specs.Rows.{Row, be16, u32, u8s}
 
@@ -18,10 +19,12 @@ abbrev pub address_fields : (offset : ℕ) → IpVersion → List Field
 address_fields offset ipv4 = bytes_at offset 4 ++ unread (offset + 4) (replicate 12 0) ∷ []
 address_fields offset ipv6 = array network offset 2 8
 
--- the four octets or eight segments of an address, one for each field of `address_fields` that is
--- not ignored
+-- `address_values address`: the four octets or eight segments of the address, one for each field of
+-- `address_fields` that is not ignored. `first_numbers` makes the count right for any list; an
+-- address in range (`HasAddressLength`) has it already.
 abbrev pub address_values : IpAddr → List ℕ
-address_values address = first_numbers (address_data address).1 (address_data address).2
+address_values address =
+    first_numbers (octet_or_segment_count address) (octets_or_segments address)
 
 -- ---- the record
 
@@ -47,27 +50,33 @@ socket_id_rows offset versions =
     u32 (offset + 36) SocketId.interface_id ∷
     u8s (offset + 40) 8 SocketId.cookie ∷ []
 
--- an address has four octets or eight segments, by its IP version
-abbrev pub IsAddress : IpAddr → Type 0
-IsAddress address = length (address_data address).2 ≡ (address_data address).1
+-- `HasAddressLength address`: the address has four octets if it is IPv4, and eight segments if it
+-- is IPv6, as each Rust value has
+abbrev pub HasAddressLength : IpAddr → Type 0
+HasAddressLength address = length (octets_or_segments address) ≡ octet_or_segment_count address
 
--- the addresses have their numbers of octets or segments, and the cookie has eight bytes
+-- `HasArrayLengths id`: both addresses of the socket id have the right number of octets or
+-- segments, and the cookie has eight bytes
 abbrev pub HasArrayLengths : SocketId → Type 0
-HasArrayLengths v = IsAddress v.source_address × IsAddress v.destination_address
-    × (length v.cookie ≡ 8)
+HasArrayLengths id = HasAddressLength id.source_address × HasAddressLength id.destination_address
+    × (length id.cookie ≡ 8)
 
--- `struct inet_diag_sockid` by itself. The parameter is the address family, which is not in these
--- bytes. It has to be AF_INET or AF_INET6, and selects the IP version of both addresses (`tag_at`).
--- A value is serialized with each address in its own IP version (`tag_of`). In normal form
--- (`is_own`) both addresses are of the version of the family.
+-- `struct inet_diag_sockid` by itself, 48 bytes. The parameter is the address family, which is not
+-- in these bytes. The tag is the IP versions of both addresses.
 unfoldable pub socket_id : Layout ℕ IpVersions SocketId
 socket_id = record {
   name = name.SocketId;
   least = 48;
-  tag_at = λ family left. versions_of_family family;
+  -- bytes are parsed by the IP version of the family, or rejected for another family
+  tag_for = λ family bytes. versions_of_family family;
+  -- a value is serialized with each address in its own IP version
   tag_of = versions_of;
+  -- the struct starts at offset 0
   rows = socket_id_rows 0;
+  -- the id with these numbers in the rows for these versions
   value = socket_id_of;
-  is_shaped = HasArrayLengths;
-  is_own = λ family value. versions_of_family family ≡ Ok (versions_of value);
+  -- the addresses and the cookie have their lengths
+  arrays_fit = HasArrayLengths;
+  -- both addresses are of the family's IP version
+  is_consistent = λ family value. versions_of_family family ≡ Ok (versions_of value);
 }

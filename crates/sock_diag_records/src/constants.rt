@@ -451,7 +451,8 @@ pub const SHUT_WR: u8 = 1;
 pub const SHUT_RDWR: u8 = 2;
 
 /// States the value of each constant of this module. Each clause lists pairs of a constant and its
-/// value, and `PairsAreEqual` says that both numbers of each pair are equal.
+/// value, and `PairsAreEqual` says that both numbers of each pair are equal. The constants of
+/// `request_attributes` are in `inet`.
 ///
 /// Proof only: the contract states the property.
 pub fn constants_have_their_values()

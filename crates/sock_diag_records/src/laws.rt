@@ -3,14 +3,15 @@
 //! Two byte strings are equivalent if both are accepted and parse as equal values. In the contracts
 //! `EqualUnder masks b c` says that `b` and `c` have the same bits under the masks, one for each
 //! byte from the first on: a bit that is 1 in the mask is significant, a bit that is 0 is ignored.
-//! No byte after these is compared. `IsInetFamily` says that a number is `AF_INET` (2) or
-//! `AF_INET6` (10), and `IsBytes` that each number of a list is below 256. The equivalence of a
-//! record is the member `equivalent` of its codec; its parameter is the family for a [`SocketId`],
-//! and `tt` for the other records, which have none.
+//! Bytes after the last mask are not compared. `IsInetFamily` says that a number is `AF_INET` (2)
+//! or `AF_INET6` (10). The byte strings are any lists `b` and `c` of numbers, so that each contract
+//! has the premise that these are bytes: `IsBytes` says that each number of a list is below 256.
+//! The equivalence of a record is the member `equivalent` of its codec; its parameter is the family
+//! for a [`SocketId`], and `tt` for the other records, which have none.
 //!
 //! Proof only: the contracts state the property.
 
-ghost use Rattle.std.specs.Prelude.{◌≡◌, ◌↔◌, ◌≤◌, ℕ, List, length, slice_index};
+ghost use Rattle.std.specs.Prelude.{◌≡◌, ◌↔◌, ◌≤◌, ℕ, List, length};
 ghost use Rattle.netlink_core.specs.Bytes.{IsBytes};
 ghost use Rattle.netlink_core.specs.SignificantBits.{EqualUnder};
 ghost use Rattle.sock_diag_records.specs.InetRequest.{inet_request};
@@ -18,6 +19,7 @@ ghost use Rattle.sock_diag_records.specs.InetResponse.{inet_response_header};
 ghost use Rattle.sock_diag_records.specs.SignificantBits.{inet_request_masks, IsInetFamily};
 ghost use Rattle.sock_diag_records.specs.SignificantBits.{inet_response_header_masks};
 ghost use Rattle.sock_diag_records.specs.SignificantBits.{HaveSameTimerClass, socket_id_masks};
+ghost use Rattle.sock_diag_records.specs.SignificantBits.{family_byte, timer_byte};
 ghost use Rattle.sock_diag_records.specs.SignificantBits.{unix_request_masks};
 ghost use Rattle.sock_diag_records.specs.SignificantBits.{unix_response_header_masks};
 ghost use Rattle.sock_diag_records.specs.SocketId.{socket_id};
@@ -31,9 +33,11 @@ use crate::inet::{
 use crate::unix::{UNIX_REQUEST_LEN, UNIX_RESPONSE_HEADER_LEN, UnixRequest, UnixResponseHeader};
 use netlink_core::HasCodec;
 
-/// States that two byte strings are equivalent as [`SocketId`] of a family if and only if both have
-/// at least 48 bytes, the family is `AF_INET` or `AF_INET6`, and the bits that are significant for
-/// the family are equal. The family is the parameter of the parser, and not in the bytes.
+/// States, for each family, that two byte strings are equivalent as [`SocketId`] of this family if
+/// and only if three conditions hold. Both have at least 48 bytes. The family is `AF_INET` or
+/// `AF_INET6`. And the bytes that are significant for the family are equal: the ports, the first 4
+/// bytes (`AF_INET`) or all 16 bytes (`AF_INET6`) of both address fields, the interface and the
+/// cookie. The family is the parameter of the parser, and not in the bytes.
 pub fn equivalent_socket_ids()
     ensures { (family : ℕ) (b c : List ℕ) → IsBytes b → IsBytes c
         → ⟦<SocketId as HasCodec>⟧.codec.equivalent family b c
@@ -41,29 +45,31 @@ pub fn equivalent_socket_ids()
         × EqualUnder (socket_id_masks family) b c) }
 {}
 
-/// States that two byte strings `b` and `c` are equivalent as [`InetRequest`] if and only if both
-/// have at least 56 bytes, the family of `b`, its first byte, is `AF_INET` or `AF_INET6`, and the
-/// bits that are significant for this family are equal: the family, the protocol, the byte of
-/// extensions, the state bits 1 to 11, the ports, the address bytes of the family, the interface
-/// and the cookie. The first byte is significant, so `c` has the same family.
+/// States that two byte strings `b` and `c` are equivalent as [`InetRequest`] if and only if three
+/// conditions hold. Both have at least 56 bytes. The first byte of `b`, its family, is `AF_INET` or
+/// `AF_INET6`. And the bits that are significant for this family are equal: the family, the
+/// protocol, the byte of extensions, the state bits 1 to 11, the ports, the address bytes of the
+/// family, the interface and the cookie. The first byte is significant, so `c` has the same family.
 pub fn equivalent_inet_requests()
     ensures { (b c : List ℕ) → IsBytes b → IsBytes c
         → ⟦<InetRequest as HasCodec>⟧.codec.equivalent tt b c
         ↔ ((INET_REQUEST_LEN ≤ length b) × (INET_REQUEST_LEN ≤ length c)
-        × IsInetFamily (slice_index b 0) × EqualUnder (inet_request_masks (slice_index b 0)) b c) }
+        × IsInetFamily (family_byte b) × EqualUnder (inet_request_masks (family_byte b)) b c) }
 {}
 
 /// States that two byte strings `b` and `c` are equivalent as [`InetResponseHeader`] if and only if
-/// both have at least 72 bytes, the family of `b`, its first byte, is `AF_INET` or `AF_INET6`, the
-/// timer bytes of both, at offset 2, have the same class (1, 2, 3, 4, or any other number), and the
-/// bits that are significant for the family and the timer of `b` are equal. The first byte is
-/// significant, so `c` has the same family.
+/// four conditions hold. Both have at least 72 bytes. The first byte of `b`, its family, is
+/// `AF_INET` or `AF_INET6`. The timer bytes of both, at offset 2, have the same class: 1, 2, 3, 4,
+/// or any other number. And the bytes that are significant for the family and the timer of `b` are
+/// equal: the family, the state, the bytes of the socket id as in [`equivalent_socket_ids`], the
+/// two queues, the user id and the inode; `idiag_retrans` only for timer 1, and `idiag_expires`
+/// only for the timers 1, 2 and 4. The first byte is significant, so `c` has the same family.
 pub fn equivalent_inet_response_headers()
     ensures { (b c : List ℕ) → IsBytes b → IsBytes c
         → ⟦<InetResponseHeader as HasCodec>⟧.codec.equivalent tt b c
         ↔ ((INET_RESPONSE_HEADER_LEN ≤ length b) × (INET_RESPONSE_HEADER_LEN ≤ length c)
-        × (IsInetFamily (slice_index b 0) × HaveSameTimerClass (slice_index b 2) (slice_index c 2))
-        × EqualUnder (inet_response_header_masks (slice_index b 0) (slice_index b 2)) b c) }
+        × (IsInetFamily (family_byte b) × HaveSameTimerClass (timer_byte b) (timer_byte c))
+        × EqualUnder (inet_response_header_masks (family_byte b) (timer_byte b)) b c) }
 {}
 
 /// States that two byte strings are equivalent as [`UnixRequest`] if and only if both have at least
@@ -88,7 +94,6 @@ pub fn equivalent_unix_response_headers()
 
 /// States that each constant is the fewest bytes that its record is parsed from (`least` of its
 /// layout).
-#[tactic(auto, unfolding(crate::specs::InetRequest::inet_request, crate::specs::InetResponse::inet_response_header, crate::specs::SocketId::socket_id))]
 pub fn sizes_are_those_of_layouts()
     ensures inet_request { INET_REQUEST_LEN ≡ inet_request.least }
     ensures inet_response_header { INET_RESPONSE_HEADER_LEN ≡ inet_response_header.least }

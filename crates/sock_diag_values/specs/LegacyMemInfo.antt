@@ -8,7 +8,9 @@ use Rattle.netlink_core.specs.Rows.{u32}
 
 -- `struct inet_diag_meminfo` (linux/inet_diag.h): `idiag_rmem`, `idiag_wmem`, `idiag_fmem`,
 -- `idiag_tmem`, in the order of the rows. Arguments of `plain`: the name in errors, the length in
--- bytes, the rows, their inverse, and the condition on arrays (none).
+-- bytes, the rows, their inverse, and the condition on arrays (`⊤`, since there are none). The
+-- types `Unit {0}`: there is no parameter, and only one tag.
+-- `u32 4 LegacyMemInfo.bottom_send_queue`: the `__u32` at offset 4 is this member.
 abbrev pub legacy_mem_info : Layout (Unit {0}) (Unit {0}) LegacyMemInfo
 legacy_mem_info = plain name.LegacyMemInfo 16 (
     u32 0 LegacyMemInfo.receive_queue ∷

@@ -8,11 +8,10 @@ use Rattle.netlink_core.specs.declared.error.RecordName.TheVariants as name
 
 -- `struct tcp_info` (linux/tcp.h) up to `tcpi_snd_wnd`: each member has the name in C without the
 -- prefix `tcpi_`. A row is the width of the member, its offset, and the member of the Rust struct.
--- All are little-endian. Two rows are bytes of bit fields, which are not split: `wscale` is
+-- All numbers are little-endian. Two rows are bytes of bit fields, which are not split: `wscale` is
 -- `tcpi_snd_wscale` in its low four bits and then `tcpi_rcv_wscale`; `delivery_rate_app_limited` is
 -- the member of this name in its lowest bit and then `tcpi_fastopen_client_fail`. Newer kernels
--- append members, which are ignored. Older kernels send fewer bytes, which are rejected, since the
--- layout has a length of 232.
+-- append members, which are ignored. Older kernels send fewer than 232 bytes, which are rejected.
 abbrev pub tcp_info_rows : List (Row TcpInfo)
 tcp_info_rows =
     u8 0 TcpInfo.state ∷
@@ -71,6 +70,7 @@ tcp_info_rows =
     u32 228 TcpInfo.snd_wnd ∷ []
 
 -- The rows as a layout. Arguments of `plain`: the name in errors, the length in bytes, the rows,
--- their inverse, and the condition on arrays (none).
+-- their inverse, and the condition on arrays (`⊤`, since there are none). The types `Unit {0}`:
+-- there is no parameter, and only one tag.
 unfoldable pub tcp_info : Layout (Unit {0}) (Unit {0}) TcpInfo
 tcp_info = plain name.TcpInfo 232 tcp_info_rows tcp_info_of (λ value. ⊤)

@@ -8,9 +8,10 @@ use Rattle.netlink_core.specs.Rows.{skip, u32}
 
 -- An array of `u32`, indexed by `SK_MEMINFO_*` (linux/sock_diag.h): `SK_MEMINFO_RCVBUF` at 4,
 -- `SK_MEMINFO_SNDBUF` at 12, `SK_MEMINFO_WMEM_QUEUED` at 20. The other six are ignored, and
--- serialized as 0: `skip 8 (replicate 4 0)` is the bytes from offset 8, which are serialized as
--- four zeros. Arguments of `plain`: the name in errors, the length in bytes, the rows, their
--- inverse, and the condition on arrays (none).
+-- serialized as 0: `skip 8 (replicate 4 0)` is four bytes at offset 8, which are ignored, and
+-- serialized as four zeros. Arguments of `plain`: the name in errors, the length in bytes, the
+-- rows, their inverse, and the condition on arrays (`⊤`, since there are none). The types
+-- `Unit {0}`: there is no parameter, and only one tag.
 abbrev pub unix_mem_info : Layout (Unit {0}) (Unit {0}) MemInfo
 unix_mem_info = plain name.UnixMemInfo 36 (
     skip 0 (replicate 4 0) ∷

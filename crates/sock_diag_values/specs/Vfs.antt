@@ -8,7 +8,8 @@ use Rattle.netlink_core.specs.Rows.{u32}
 
 -- `struct unix_diag_vfs` (linux/unix_diag.h): `udiag_vfs_ino`, `udiag_vfs_dev`. Arguments of
 -- `plain`: the name in errors, the length in bytes, the rows, their inverse, and the condition on
--- arrays (none). `u32 4 Vfs.device`: the `__u32` at offset 4 is the member `device`.
+-- arrays (`⊤`, since there are none). The types `Unit {0}`: there is no parameter, and only one
+-- tag. `u32 4 Vfs.device`: the `__u32` at offset 4 is the member `device`.
 abbrev pub vfs : Layout (Unit {0}) (Unit {0}) Vfs
 vfs = plain name.Vfs 8 (
     u32 0 Vfs.inode ∷

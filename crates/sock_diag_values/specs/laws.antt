@@ -3,3 +3,4 @@ pub mod MemInfo
 pub mod MemInfoEqual
 pub mod TcpInfo
 pub mod TcpInfoEqual
+pub mod PlainLayouts

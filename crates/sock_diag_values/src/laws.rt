@@ -2,9 +2,11 @@
 //!
 //! Two byte strings are equivalent if both are accepted and parse as equal values. In the contracts
 //! `EqualUnder masks b c` says that `b` and `c` have the same bits under the masks, one for each
-//! byte from the first on: 255 for a significant byte, 0 for an ignored one. No byte after these is
-//! compared. `IsBytes` says that each number of a list is below 256. The equivalence of a record is
-//! the member `equivalent` of its codec, whose parameter is `tt`, since these records have none.
+//! byte from the first on: 255 for a significant byte, 0 for an ignored one. Bytes after the last
+//! mask are not compared. The byte strings are any lists `b` and `c` of numbers, so that each
+//! contract has the premise that these are bytes: `IsBytes` says that each number of a list is
+//! below 256. The equivalence of a record is the member `equivalent` of its codec, whose parameter
+//! is `tt`, since these records have none.
 //!
 //! Proof only: the contracts state the property.
 
@@ -15,7 +17,7 @@ ghost use Rattle.sock_diag_values.specs.LegacyMemInfo.{legacy_mem_info};
 ghost use Rattle.sock_diag_values.specs.MemInfo.{mem_info};
 ghost use Rattle.sock_diag_values.specs.SignificantBits.{legacy_mem_info_masks, mem_info_masks};
 ghost use Rattle.sock_diag_values.specs.SignificantBits.{tcp_info_masks, unix_mem_info_masks};
-ghost use Rattle.sock_diag_values.specs.SignificantBits.{vfs_masks, whole_u32_count};
+ghost use Rattle.sock_diag_values.specs.SignificantBits.{complete_u32s_in, vfs_masks};
 ghost use Rattle.sock_diag_values.specs.TcpInfo.{tcp_info};
 ghost use Rattle.sock_diag_values.specs.UnixMemInfo.{unix_mem_info};
 ghost use Rattle.sock_diag_values.specs.Vfs.{vfs};
@@ -31,15 +33,16 @@ use netlink_core::HasCodec;
 /// bytes, and their first 8 bytes are equal.
 pub fn equivalent_vfs()
     ensures { (b c : List ℕ) → IsBytes b → IsBytes c → ⟦<Vfs as HasCodec>⟧.codec.equivalent tt b c
-        ↔ ((8 ≤ length b) × (8 ≤ length c) × EqualUnder vfs_masks b c) }
+        ↔ ((VFS_LEN ≤ length b) × (VFS_LEN ≤ length c) × EqualUnder vfs_masks b c) }
 {}
 
 /// States that two byte strings are equivalent as [`UnixMemInfo`] if and only if both have at least
-/// 36 bytes, and the fields at offsets 4, 12 and 20 are equal. The other bytes are ignored.
+/// 36 bytes, and their `u32` fields at offsets 4, 12 and 20 are equal. The other bytes are ignored.
 pub fn equivalent_unix_mem_infos()
     ensures { (b c : List ℕ) → IsBytes b → IsBytes c
         → ⟦<UnixMemInfo as HasCodec>⟧.codec.equivalent tt b c
-        ↔ ((36 ≤ length b) × (36 ≤ length c) × EqualUnder unix_mem_info_masks b c) }
+        ↔ ((UNIX_MEM_INFO_LEN ≤ length b) × (UNIX_MEM_INFO_LEN ≤ length c)
+        × EqualUnder unix_mem_info_masks b c) }
 {}
 
 /// States that two byte strings are equivalent as [`LegacyMemInfo`] if and only if both have at
@@ -47,7 +50,8 @@ pub fn equivalent_unix_mem_infos()
 pub fn equivalent_legacy_mem_infos()
     ensures { (b c : List ℕ) → IsBytes b → IsBytes c
         → ⟦<LegacyMemInfo as HasCodec>⟧.codec.equivalent tt b c
-        ↔ ((16 ≤ length b) × (16 ≤ length c) × EqualUnder legacy_mem_info_masks b c) }
+        ↔ ((LEGACY_MEM_INFO_LEN ≤ length b) × (LEGACY_MEM_INFO_LEN ≤ length c)
+        × EqualUnder legacy_mem_info_masks b c) }
 {}
 
 /// States that two byte strings are equivalent as [`MemInfo`] if and only if both have at least 28
@@ -56,8 +60,9 @@ pub fn equivalent_legacy_mem_infos()
 pub fn equivalent_mem_infos()
     ensures { (b c : List ℕ) → IsBytes b → IsBytes c
         → ⟦<MemInfo as HasCodec>⟧.codec.equivalent tt b c
-        ↔ ((28 ≤ length b) × (28 ≤ length c) × (whole_u32_count b ≡ whole_u32_count c)
-        × EqualUnder (mem_info_masks (whole_u32_count b)) b c) }
+        ↔ ((MEM_INFO_SEVEN_LEN ≤ length b) × (MEM_INFO_SEVEN_LEN ≤ length c)
+        × (complete_u32s_in b ≡ complete_u32s_in c)
+        × EqualUnder (mem_info_masks (complete_u32s_in b)) b c) }
 {}
 
 /// States that two byte strings are equivalent as [`TcpInfo`] if and only if both have at least 232
@@ -65,12 +70,13 @@ pub fn equivalent_mem_infos()
 pub fn equivalent_tcp_infos()
     ensures { (b c : List ℕ) → IsBytes b → IsBytes c
         → ⟦<TcpInfo as HasCodec>⟧.codec.equivalent tt b c
-        ↔ ((232 ≤ length b) × (232 ≤ length c) × EqualUnder tcp_info_masks b c) }
+        ↔ ((TCP_INFO_LEN ≤ length b) × (TCP_INFO_LEN ≤ length c)
+        × EqualUnder tcp_info_masks b c) }
 {}
 
 /// States that each constant is the fewest bytes that its record is parsed from (`least` of its
-/// layout), for [`MemInfo`] the 28 bytes of seven `u32`; and that `MEM_INFO_EIGHT_LEN` and
-/// `MEM_INFO_LEN` are the bytes of eight and nine `u32`, 32 and 36.
+/// layout). For [`MemInfo`] this is `MEM_INFO_SEVEN_LEN`, the 28 bytes of seven `u32`. Its other
+/// two constants are the number of bytes of eight and of nine `u32`, of four bytes each.
 #[tactic(auto, unfolding(crate::specs::TcpInfo::tcp_info))]
 pub fn sizes_are_those_of_layouts()
     ensures legacy_mem_info { LEGACY_MEM_INFO_LEN ≡ legacy_mem_info.least }

@@ -13,29 +13,38 @@ use Rattle.netlink_core.specs.contracts.nla.DefaultNla as kept
 use Rattle.sock_diag_attributes.specs.contracts.numbers.NumbersView as numbers
 use Rattle.sock_diag_attributes.specs.contracts.unix.name.SocketName as name
 
-abbrev pub text_row : RattleType
-text_row = text.the_row global.the_row ghosts
+-- of `String`
+abbrev pub text_type : RattleType
+text_type = text.the_row global.the_row ghosts
 
-abbrev pub text_view_row : RattleType
-text_view_row = ShrSlice (named 0) [] u8
+-- of `&str` and of `&[u8]`
+abbrev pub text_view_type : RattleType
+text_view_type = ShrSlice (named 0) [] u8
 
-abbrev pub default_nla_row : RattleType
-default_nla_row = kept.the_row
+-- of `DefaultNla`
+abbrev pub default_nla_type : RattleType
+default_nla_type = kept.the_row
 
-abbrev pub buffer_row : RattleType
-buffer_row = buffer.the_row (record { mir = named 0; lft = [] })
+-- of `NlaBuffer`
+abbrev pub buffer_type : RattleType
+buffer_type = buffer.the_row (record { mir = named 0; lft = [] })
 
-abbrev pub byte_list_row : RattleType
-byte_list_row = vec.the_row u8 global.the_row ghosts
+-- of `Vec<u8>`
+abbrev pub byte_list_type : RattleType
+byte_list_type = vec.the_row u8 global.the_row ghosts
 
-abbrev pub name_row : RattleType
-name_row = name.the_row byte_list_row
+-- of `UnixDiagName`
+abbrev pub name_type : RattleType
+name_type = name.the_row byte_list_type
 
-abbrev pub name_view_row : RattleType
-name_view_row = name.the_row text_view_row
+-- of `NameView`
+abbrev pub name_view_type : RattleType
+name_view_type = name.the_row text_view_type
 
-abbrev pub list_row : RattleType
-list_row = vec.the_row u32 global.the_row ghosts
+-- of `Vec<u32>`
+abbrev pub list_type : RattleType
+list_type = vec.the_row u32 global.the_row ghosts
 
-abbrev pub numbers_row : RattleType
-numbers_row = numbers.the_row (record { mir = named 0; lft = [] })
+-- of `NumbersView`
+abbrev pub numbers_type : RattleType
+numbers_type = numbers.the_row (record { mir = named 0; lft = [] })

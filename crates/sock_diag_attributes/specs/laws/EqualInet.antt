@@ -31,16 +31,15 @@ use Rattle.sock_diag_attributes.specs.declared.inet.nlas.InetNla.{InetNla}
 use Rattle.sock_diag_attributes.specs.declared.inet.nlas.InetNla.TheVariants as nla
 use Rattle.sock_diag_attributes.specs.contracts.inet.nlas.InetNlaPartialEq.TheImpl.{ghosts}
 
-pub truth : (a b : Bool) → IsTrue (beq a b) ↔ (a ≡ b)
-truth a b = search rules
+pub bool_test_decides : (a b : Bool) → IsTrue (beq a b) ↔ (a ≡ b)
+bool_test_decides a b = search rules
 
 -- a test for the values of each type
 abbrev pub inet_tests : Tests inet_attribute_set
 inet_tests =
     (legacy.eq, exact_legacy.0) ⊕ (tcp.eq, exact_tcp.0) ⊕ (pointwise eqb, bytes_decides)
-    ⊕ number_test ⊕ number_test
-    ⊕ (memory.eq, exact_memory.0) ⊕ number_test ⊕ number_test ⊕ (beq, truth) ⊕ number_test
-    ⊕ number_test ⊕ tt
+    ⊕ number_test ⊕ number_test ⊕ (memory.eq, exact_memory.0) ⊕ number_test ⊕ number_test
+    ⊕ (beq, bool_test_decides) ⊕ number_test ⊕ number_test ⊕ tt
 
 -- over the types of texts and raw attributes, whose `==` compares the bytes and attributes that
 -- `text` and `other` return

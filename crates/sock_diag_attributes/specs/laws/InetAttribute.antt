@@ -16,18 +16,19 @@ use Rattle.sock_diag_values.specs.contracts.inet.mem_info.MemInfoRecord.TheImpl.
 use Rattle.sock_diag_attributes.specs.laws.Text.{text_value_laws}
 use Rattle.sock_diag_attributes.specs.laws.Flag.{flag_laws}
 use Rattle.sock_diag_attributes.specs.InetAttributes.{inet_attribute_set}
+use Rattle.sock_diag_records.specs.declared.constants.TheConstants as c
 
 pub inet_laws : AttributeSetLaws inet_attribute_set
 inet_laws =
-    attribute_spec_laws 1 refl legacy_laws.codec
-    ⊕ attribute_spec_laws 2 refl tcp_laws.codec
-    ⊕ allocating_attribute_spec_laws 4 refl text_value_laws
-    ⊕ number_attribute_laws 5 1 refl
-    ⊕ number_attribute_laws 6 1 refl
-    ⊕ attribute_spec_laws 7 refl memory_laws.codec
-    ⊕ number_attribute_laws 8 1 refl
-    ⊕ number_attribute_laws 10 1 refl
-    ⊕ attribute_spec_laws 11 refl (flag_laws 11)
-    ⊕ number_attribute_laws 15 4 refl
-    ⊕ number_attribute_laws 17 4 refl
+    attribute_spec_laws c.INET_DIAG_MEMINFO refl legacy_laws.codec
+    ⊕ attribute_spec_laws c.INET_DIAG_INFO refl tcp_laws.codec
+    ⊕ allocating_attribute_spec_laws c.INET_DIAG_CONG refl text_value_laws
+    ⊕ number_attribute_laws c.INET_DIAG_TOS 1 refl
+    ⊕ number_attribute_laws c.INET_DIAG_TCLASS 1 refl
+    ⊕ attribute_spec_laws c.INET_DIAG_SKMEMINFO refl memory_laws.codec
+    ⊕ number_attribute_laws c.INET_DIAG_SHUTDOWN 1 refl
+    ⊕ number_attribute_laws c.INET_DIAG_PROTOCOL 1 refl
+    ⊕ attribute_spec_laws c.INET_DIAG_SKV6ONLY refl (flag_laws c.INET_DIAG_SKV6ONLY)
+    ⊕ number_attribute_laws c.INET_DIAG_MARK 4 refl
+    ⊕ number_attribute_laws c.INET_DIAG_CLASS_ID 4 refl
     ⊕ tt

@@ -6,7 +6,7 @@ use Rattle.sock_diag_attributes.specs.Name.{name_value}
 use Rattle.std.proofs.Common.{Ok, Err, IsOk, ◌≡◌, ◌≢◌, ◌∙◌, ℕ, suc, ◌+◌, ◌<◌, ◌==◌, List, [], ◌∷◌}
 use Rattle.std.proofs.Common.{◌++◌, length, take, drop, get_or, append_assoc, refl, ap, sym, subst}
 use Rattle.std.proofs.Common.{arith}
-use Rattle.std.specs.Prelude.{All, if◌then◌else◌, Result}
+use Rattle.std.specs.Prelude.{All, if◌then◌else◌, Result, slice_index}
 use Rattle.std.proofs.lemmas.Bool.{eqb-true, eqb-false, ne_eqb}
 use Rattle.std.proofs.lemmas.List.{append-nil, drop_all, get_or-take, length-append, length-take}
 use Rattle.std.proofs.lemmas.List.{drop_more, get_or-append-add, take-append-drop}
@@ -24,20 +24,25 @@ use Rattle.netlink_core.specs.laws.Byte.{IsBytes-append, IsBytes-cons, IsBytes-n
 use Rattle.sock_diag_attributes.specs.declared.unix.name.SocketName.{SocketName}
 use Rattle.sock_diag_attributes.specs.declared.unix.name.SocketName.TheVariants.{Pathname}
 use Rattle.sock_diag_attributes.specs.Name.{name_bytes}
-use Rattle.sock_diag_attributes.specs.Name.{IsNormalName, read_name}
+use Rattle.sock_diag_attributes.specs.Name.{IsNormalName, parse_name}
 use Rattle.sock_diag_attributes.specs.Name.{name_codec}
 
 -- no byte is zero
 abbrev pub HasNoZero : List ℕ → Type 0
 HasNoZero bytes = All (λ byte. byte ≢ 0) bytes
 
+-- `IsFirstZero bytes index`: the byte at this index is zero, and no byte before it is
+abbrev pub IsFirstZero : List ℕ → ℕ → Type 0
+IsFirstZero bytes index =
+    (index < length bytes) × (slice_index bytes index ≡ 0) × HasNoZero (take index bytes)
+
 -- no error of a name is `Memory`
-name_error_is_not_memory : (x : List ℕ) → read_name x ≡ Err errors.Memory → ⊥
+name_error_is_not_memory : (x : List ℕ) → parse_name x ≡ Err errors.Memory → ⊥
 name_error_is_not_memory x h =
     grind arith
 
 -- a parsed name serializes to the bytes that it was parsed from, and is in normal form
-name_exact : (x : List ℕ) (u : SocketName (List ℕ)) → read_name x ≡ Ok u → (x ≡ name_bytes u)
+name_exact : (x : List ℕ) (u : SocketName (List ℕ)) → parse_name x ≡ Ok u → (x ≡ name_bytes u)
     × IsNormalName u
 name_exact (suc n ∷ xs) u h =
     let x : List ℕ = suc n ∷ xs in
@@ -68,7 +73,7 @@ path_at bytes i =
 -- a name whose first byte is not zero, by the bytes before its first zero byte; these are all of
 -- the bytes if there is none
 first_zero : (bytes front rest : List ℕ) → bytes ≡ front ++ rest → get_or bytes 0 0 ≢ 0
-    → HasNoZero front → get_or rest 0 0 ≡ 0 → read_name bytes
+    → HasNoZero front → get_or rest 0 0 ≡ 0 → parse_name bytes
     ≡ path_at bytes (length front)
 first_zero (suc n ∷ xs) front rest parts first none here =
     rw (position_or_len_is (λ b. b == 0) (suc n ∷ xs) (length front) 0
@@ -79,35 +84,39 @@ first_zero _ front rest parts first none here = absurd (first refl)
 
 -- The three results for such a name, by its last byte and the bytes before it: a zero byte before
 -- the last byte, a zero byte only at the end, and no zero byte.
-pub reads_inner_zero : (bytes path : List ℕ) (last i : ℕ) → bytes ≡ path ++ last ∷ []
+pub parses_inner_zero : (bytes path : List ℕ) (last i : ℕ) → bytes ≡ path ++ last ∷ []
     → get_or bytes 0 0 ≢ 0 → i < length path → get_or path i 0 ≡ 0 → HasNoZero (take i path)
-    → read_name bytes ≡ Err (errors.NameInnerZero i)
-reads_inner_zero bytes path last i parts first lt here none =
+    → parse_name bytes ≡ Err (errors.NameInnerZero i)
+parses_inner_zero bytes path last i parts first lt here none =
     first_zero bytes (take i path) (drop i path ++ last ∷ [])
     (rw (← append_assoc, take-append-drop) parts) first none
     (rw (drop_more path i 0 lt) here)
     ∙ grind (arith, ap length parts, length-append, length-take-le)
 
-pub reads_path : (bytes path : List ℕ) → bytes ≡ path ++ 0 ∷ [] → get_or bytes 0 0 ≢ 0
-    → HasNoZero path → read_name bytes ≡ Ok (Pathname path)
-reads_path bytes path parts first none =
+pub parses_path : (bytes path : List ℕ) → bytes ≡ path ++ 0 ∷ [] → get_or bytes 0 0 ≢ 0
+    → HasNoZero path → parse_name bytes ≡ Ok (Pathname path)
+parses_path bytes path parts first none =
     grind (arith, first_zero bytes path (0 ∷ []) parts first none, length-append, take-append_seam)
 
-pub reads_no_end : (bytes path : List ℕ) (last : ℕ) → bytes ≡ path ++ last ∷ []
-    → get_or bytes 0 0 ≢ 0 → last ≢ 0 → HasNoZero path → read_name bytes ≡ Err errors.NameWithoutEnd
-reads_no_end bytes path last parts first some none =
+pub parses_no_end : (bytes path : List ℕ) (last : ℕ) → bytes ≡ path ++ last ∷ []
+    → get_or bytes 0 0 ≢ 0 → last ≢ 0 → HasNoZero path
+    → parse_name bytes ≡ Err errors.NameWithoutEnd
+parses_no_end bytes path last parts first some none =
     first_zero bytes bytes [] (sym (append-nil bytes)) first
     (rw parts (All-push (λ b. b ≢ 0) path last none some)) refl ∙ grind arith
 
+-- the lemmas for `NameView::parse`
+pub ruleset parse_name_rules = (parses_inner_zero, parses_path, parses_no_end)
+
 -- a name in normal form round-trips
-name_reads_back : (u : SocketName (List ℕ)) → IsNormalName u → read_name (name_bytes u) ≡ Ok u
-name_reads_back u good =
-    grind (arith, common_steps, reads_path)
+name_round_trips : (u : SocketName (List ℕ)) → IsNormalName u → parse_name (name_bytes u) ≡ Ok u
+name_round_trips u good =
+    grind (arith, common_steps, parses_path)
 
 -- an accepted name whose first byte is not zero is the path before its last byte
 pub accepted_name_is_path : (bytes path : List ℕ) (last : ℕ) → bytes ≡ path ++ last ∷ []
     → get_or bytes 0 0 ≢ 0
-    → IsOk (read_name bytes) → read_name bytes ≡ Ok (Pathname path)
+    → IsOk (parse_name bytes) → parse_name bytes ≡ Ok (Pathname path)
 accepted_name_is_path bytes path last parts first ok =
     grind (arith, length-append path (last ∷ []), take-append_seam path (last ∷ []))
 
@@ -120,14 +129,17 @@ path_bytes_in_range path in_range =
 pub address_bytes_in_range : (address : List ℕ) → IsBytes address → IsBytes (0 ∷ address)
 address_bytes_in_range address in_range = IsBytes-cons 0 address (omega arith) in_range
 
+-- the lemmas for `emit_name`
+pub ruleset name_in_range_rules = (path_bytes_in_range, address_bytes_in_range)
+
 -- a name as the value of an attribute satisfies the codec laws; only equal values are equivalent
 pub name_laws : KeepsCodecLaws (as_codec name_value)
-name_laws = whole_value_laws read_name name_bytes (λ u. IsBytes (name_bytes u)) IsNormalName
+name_laws = whole_value_laws parse_name name_bytes (λ u. IsBytes (name_bytes u)) IsNormalName
     name_error_is_not_memory
     (λ x u in_range h. let exact = name_exact x u h in
     (exact.0, subst IsBytes exact.0 in_range, exact.1))
     (λ u in_range. in_range)
-    (λ u in_range normal. name_reads_back u normal)
+    (λ u in_range normal. name_round_trips u normal)
 
 -- a name by itself satisfies the codec laws
 pub name_codec_laws : KeepsCodecLaws name_codec

@@ -3,8 +3,8 @@ use Rattle.std.proofs.lemmas.Grind.{common_steps, same_number_lists}
 use Rattle.std.proofs.Common.{Some, Ok, ◌≡◌, ◌∙◌, ℕ, suc, ◌+◌, ◌*◌, ◌/◌, ◌%◌, ◌≤◌, ◌<◌, ◌^◌, List}
 use Rattle.std.proofs.Common.{[], ◌∷◌, ◌++◌, length, take, drop, refl, sym, arith}
 use Rattle.std.specs.List.{AllByRecursion, slice_get}
-use Rattle.std.proofs.lemmas.Option.{get_or_from_slice_get}
-use Rattle.std.proofs.lemmas.List.{append-nil, length-drop, length-take-le}
+use Rattle.std.proofs.lemmas.Option.{get_or_from_slice_get, slice_get_past}
+use Rattle.std.proofs.lemmas.List.{append-nil, length-drop, length-take-le, take_rest}
 use Rattle.byteorder.specs.Endian.{little_number, little_bytes, IsRead}
 use Rattle.byteorder.specs.Numbers.{little_from-lt, little_number-reads_back}
 use Rattle.byteorder.specs.Numbers.{length-bytes_low_first}
@@ -13,7 +13,9 @@ use Rattle.netlink_core.specs.laws.Byte.{IsBytes-left, IsBytes-nil, IsBytes-numb
 use Rattle.netlink_core.proofs.AttributeTypeLaws.{same_bytes, whole_value_laws}
 use Rattle.netlink_core.specs.Codec.{KeepsCodecLaws, as_codec}
 use Rattle.std.specs.Prelude.{⊤, slice_index, flat_map}
-use Rattle.sock_diag_attributes.specs.Numbers.{numbers_in, number_pair_value, numbers_value}
+use Rattle.sock_diag_attributes.specs.Numbers.{numbers_in, numbers_value, number_pair_value}
+use Rattle.sock_diag_attributes.specs.Numbers.{parse_number_pair, number_pair_bytes}
+use Rattle.sock_diag_attributes.specs.Numbers.{IsNumberPairInRange}
 
 -- bytes of this length are the little-endian bytes of their number
 number_exact : (width : ℕ) (x : List ℕ) → IsBytes x → length x ≡ width
@@ -105,8 +107,8 @@ numbers_laws =
     )
 
 pub number_pair_laws : (k : ℕ) → KeepsCodecLaws (as_codec (number_pair_value k))
-number_pair_laws k = whole_value_laws ((number_pair_value k).parses tt) (number_pair_value k).bytes
-    (λ ns. (ns.0 < 2 ^ 32) × (ns.1 < 2 ^ 32)) (λ ns. ⊤) (λ x h. grind arith)
+number_pair_laws k = whole_value_laws (parse_number_pair k) number_pair_bytes
+    IsNumberPairInRange (λ pair. ⊤) (λ x h. grind arith)
     (λ x u in_range h.
     let same : (little_number 4 x, little_number 4 (drop 4 x)) ≡ u = grind arith in
     let numbers : numbers_in x ≡ little_number 4 x ∷ little_number 4 (drop 4 x) ∷ [] =
@@ -148,3 +150,19 @@ pub numbers_in_same : (x y : List ℕ) → IsBytes x → IsBytes y → length x 
     → numbers_in x ≡ numbers_in y → x ≡ y
 numbers_in_same x y tx ty wx wy e =
     cc ((bytes_of_whole_numbers x tx wx).0, (bytes_of_whole_numbers y ty wy).0)
+
+-- ---- lemmas for functions of `numbers`
+
+-- for `NumbersView::get`
+pub ruleset number_at_index_rules = (
+  count_of_numbers_in,
+  number_in_list_at,
+  take_rest,
+  slice_get_past,
+)
+
+-- for `next` of `NumbersIterator`
+pub ruleset next_number_rules = (numbers_in_none, numbers_in_first)
+
+-- for `emit_numbers`
+pub ruleset emit_numbers_rules = (length_numbers, numbers_prefix_length, each_number_below)

@@ -11,14 +11,15 @@ use Rattle.sock_diag_values.specs.contracts.unix.mem_info.MemInfoRecord.TheImpl.
 use Rattle.sock_diag_attributes.specs.laws.Name.{name_laws}
 use Rattle.sock_diag_attributes.specs.laws.Number.{number_pair_laws, numbers_laws}
 use Rattle.sock_diag_attributes.specs.UnixAttributes.{unix_attribute_set}
+use Rattle.sock_diag_records.specs.declared.constants.TheConstants as c
 
 pub unix_laws : AttributeSetLaws unix_attribute_set
 unix_laws =
-    allocating_attribute_spec_laws 0 refl name_laws
-    ⊕ attribute_spec_laws 1 refl vfs_laws.codec
-    ⊕ number_attribute_laws 2 4 refl
-    ⊕ allocating_attribute_spec_laws 3 refl numbers_laws
-    ⊕ attribute_spec_laws 4 refl (number_pair_laws 4)
-    ⊕ attribute_spec_laws 5 refl memory_laws.codec
-    ⊕ number_attribute_laws 6 1 refl
+    allocating_attribute_spec_laws c.UNIX_DIAG_NAME refl name_laws
+    ⊕ attribute_spec_laws c.UNIX_DIAG_VFS refl vfs_laws.codec
+    ⊕ number_attribute_laws c.UNIX_DIAG_PEER 4 refl
+    ⊕ allocating_attribute_spec_laws c.UNIX_DIAG_ICONS refl numbers_laws
+    ⊕ attribute_spec_laws c.UNIX_DIAG_RQLEN refl (number_pair_laws c.UNIX_DIAG_RQLEN)
+    ⊕ attribute_spec_laws c.UNIX_DIAG_MEMINFO refl memory_laws.codec
+    ⊕ number_attribute_laws c.UNIX_DIAG_SHUTDOWN 1 refl
     ⊕ tt

@@ -10,36 +10,38 @@ use Rattle.sock_diag_values.specs.TcpInfo.{tcp_info}
 use Rattle.sock_diag_values.specs.UnixMemInfo.{unix_mem_info}
 use Rattle.sock_diag_values.specs.Vfs.{vfs}
 use Rattle.sock_diag_attributes.specs.Name.{name_bytes}
-use Rattle.sock_diag_attributes.specs.NameModel.{socket_name_model}
+use Rattle.sock_diag_attributes.specs.NameModel.{name_view_model}
 use Rattle.sock_diag_attributes.specs.declared.value.Value.{Value}
 use Rattle.sock_diag_attributes.specs.declared.value.Value.TheVariants as value
 
--- the bytes that the value serializes to
+-- `value_bytes value`: the bytes that the value serializes to. `.now` is what a reference borrows,
+-- and `record_bytes layout` the bytes of a record.
 abbrev pub value_bytes : Value → List ℕ
-value_bytes (value.Byte n) = little_bytes 1 n
-value_bytes (value.Word n) = little_bytes 4 n
-value_bytes (value.Pair m n) = little_bytes 4 m ++ little_bytes 4 n
-value_bytes (value.Numbers ns) = flat_map (little_bytes 4) ns.now
-value_bytes (value.Text t) = t.now ++ 0 ∷ []
-value_bytes (value.Name n) = name_bytes (socket_name_model (λ b. b.now) n)
-value_bytes (value.LegacyMemInfo m) = record_bytes legacy_mem_info m.now
-value_bytes (value.TcpInfo t) = record_bytes tcp_info t.now
-value_bytes (value.MemInfo m) = record_bytes mem_info m.now
-value_bytes (value.UnixMemInfo m) = record_bytes unix_mem_info m.now
-value_bytes (value.Vfs v) = record_bytes vfs v.now
-value_bytes (value.Bytes b) = b.now
+value_bytes (value.U8 n) = little_bytes 1 n
+value_bytes (value.U32 n) = little_bytes 4 n
+value_bytes (value.U32Pair first second) = little_bytes 4 first ++ little_bytes 4 second
+value_bytes (value.Numbers numbers) = flat_map (little_bytes 4) numbers.now
+value_bytes (value.Text text) = text.now ++ 0 ∷ []
+value_bytes (value.Name name) = name_bytes (name_view_model name)
+value_bytes (value.LegacyMemInfo memory) = record_bytes legacy_mem_info memory.now
+value_bytes (value.TcpInfo info) = record_bytes tcp_info info.now
+value_bytes (value.MemInfo memory) = record_bytes mem_info memory.now
+value_bytes (value.UnixMemInfo memory) = record_bytes unix_mem_info memory.now
+value_bytes (value.Vfs file) = record_bytes vfs file.now
+value_bytes (value.Bytes bytes) = bytes.now
 
--- each number fits its type, and a text is UTF-8
+-- `IsValueInRange value`: each number of the value fits its type, and a text is UTF-8. `256 ^ 4`
+-- and `2 ^ 32` are the same bound of a `u32`; each is written as in the codec of the attribute.
 abbrev pub IsValueInRange : Value → Type 0
-IsValueInRange (value.Byte n) = n < 256
-IsValueInRange (value.Word n) = n < 256 ^ 4
-IsValueInRange (value.Pair m n) = (m < 2 ^ 32) × (n < 2 ^ 32)
-IsValueInRange (value.Numbers ns) = AllByRecursion (λ n. n < 2 ^ 32) ns.now
-IsValueInRange (value.Text t) = IsUtf8 t.now × IsBytes t.now
-IsValueInRange (value.Name n) = IsBytes (name_bytes (socket_name_model (λ b. b.now) n))
-IsValueInRange (value.LegacyMemInfo m) = IsInRange legacy_mem_info m.now
-IsValueInRange (value.TcpInfo t) = IsInRange tcp_info t.now
-IsValueInRange (value.MemInfo m) = IsInRange mem_info m.now
-IsValueInRange (value.UnixMemInfo m) = IsInRange unix_mem_info m.now
-IsValueInRange (value.Vfs v) = IsInRange vfs v.now
-IsValueInRange (value.Bytes b) = IsBytes b.now
+IsValueInRange (value.U8 n) = n < 256
+IsValueInRange (value.U32 n) = n < 256 ^ 4
+IsValueInRange (value.U32Pair first second) = (first < 2 ^ 32) × (second < 2 ^ 32)
+IsValueInRange (value.Numbers numbers) = AllByRecursion (λ n. n < 2 ^ 32) numbers.now
+IsValueInRange (value.Text text) = IsUtf8 text.now × IsBytes text.now
+IsValueInRange (value.Name name) = IsBytes (name_bytes (name_view_model name))
+IsValueInRange (value.LegacyMemInfo memory) = IsInRange legacy_mem_info memory.now
+IsValueInRange (value.TcpInfo info) = IsInRange tcp_info info.now
+IsValueInRange (value.MemInfo memory) = IsInRange mem_info memory.now
+IsValueInRange (value.UnixMemInfo memory) = IsInRange unix_mem_info memory.now
+IsValueInRange (value.Vfs file) = IsInRange vfs file.now
+IsValueInRange (value.Bytes bytes) = IsBytes bytes.now

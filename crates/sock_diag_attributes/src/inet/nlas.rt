@@ -66,21 +66,22 @@ pub type NlaView<'a> = InetNla<&'a str, NlaBuffer<'a>>;
 impl Readable for Nla {
     const TAKES_MEMORY: bool = true;
 
+    // Its parsers copy what the attribute owns, and so may return `Memory`.
     ghost TAKES_MEMORY = { true };
 }
 
 impl<T: AsStr, O: OtherNla> Emitable for InetNla<T, O> {
     ghost use Rattle.sock_diag_attributes.specs.InetAttributes.{inet_attribute_set};
-    ghost use Rattle.sock_diag_attributes.specs.InetModel.{inet_nla_value};
+    ghost use Rattle.sock_diag_attributes.specs.InetModel.{inet_nla_attribute, inet_nla_value};
 
     // The header, the value, and zeros as padding up to a multiple of four.
-    ghost bytes = { λ v. attribute_bytes
-        (encode_attribute inet_attribute_set (inet_nla_value T.text O.attribute v)) };
+    // `T.text` returns the bytes of a text, and `O.attribute` a raw attribute.
+    ghost bytes = { λ v. attribute_bytes (inet_nla_attribute T.text O.attribute v) };
 
-    // The value has at most 65,531 bytes.
-    ghost writable = { λ v. FitsLengthField
-        (encode_attribute inet_attribute_set (inet_nla_value T.text O.attribute v)) };
+    // The value has at most 65,531 bytes, so that its length fits the length field.
+    ghost writable = { λ v. FitsLengthField (inet_nla_attribute T.text O.attribute v) };
 
+    // The decoded value is in range: each number fits its field. So it is for each Rust value.
     ghost in_range = { λ v. IsInRangeIn inet_attribute_set (inet_nla_value T.text O.attribute v) };
 
     fn is_writable(&self) -> bool {
@@ -96,11 +97,12 @@ impl<T: AsStr, O: OtherNla> Emitable for InetNla<T, O> {
     }
 }
 
-// Fills the unused slots of a `SmallVec`. The value is all zeros, like fresh memory, so that
-// filling costs nothing.
+// Fills the unused slots of a `SmallVec`. All bytes of a `LegacyMemInfo` of zeros are 0, since it
+// is the first variant. Fresh memory has these bytes, so that filling costs nothing.
 impl MadeWith<Global> for Nla {
     ghost use Rattle.sock_diag_attributes.specs.declared.inet.nlas.InetNla.TheVariants as variants;
 
+    // The made value is a `LegacyMemInfo` of zeros.
     ghost is_made_with = { λ nla. nla ≡ variants.LegacyMemInfo (record {
       receive_queue = 0;
       bottom_send_queue = 0;
@@ -127,15 +129,14 @@ impl Nla {
     /// allocation fails. Only a text, and an attribute of another kind whose value is not empty,
     /// may need an allocation.
     pub fn clone(&self, alloc: Global) -> Result<Self, AllocError>
-        // inet_nla_model: the decoded value of the variant. encode_attribute set value: the
-        // attribute that a decoded value serializes as.
+        // inet_nla_model: the decoded value of the attribute.
         ensures equal { IfOk result (λ copy. inet_nla_model copy ≡ inet_nla_model self.now) }
-        // `needs_no_memory`: cloning does not fail for types whose values need no memory: any
-        // variant except `Congestion` and `Other`.
+        // `needs_no_memory`: cloning does not fail if the attribute is of a type whose values need
+        // no memory: any variant except `Congestion` and `Other`.
         ensures needs_no_memory { NeedsNoMemoryIn inet_attribute_set (inet_nla_model self.now)
             → IsOk result }
-        // `empty`: cloning does not fail if the value serializes to no bytes: an `Other` without
-        // bytes.
+        // `empty`: cloning does not fail if the serialized attribute (`encode_attribute`) has an
+        // empty value: an `Other` without bytes.
         ensures empty { (encode_attribute inet_attribute_set (inet_nla_model self.now)).value ≡ []
             → IsOk result }
     {
@@ -145,18 +146,25 @@ impl Nla {
 
 impl<T: AsStr, O: OtherNla> InetNla<T, O> {
     ghost use Rattle.sock_diag_attributes.specs.InetAttributes.{inet_attribute_set};
-    ghost use Rattle.sock_diag_attributes.specs.InetModel.{inet_nla_value, inet_nla_model};
+    ghost use Rattle.sock_diag_attributes.specs.InetModel.{inet_nla_attribute, inet_nla_model};
+    ghost use Rattle.sock_diag_attributes.specs.InetModel.{inet_nla_value};
 
-    // Returns the attribute with an owned text and owned bytes.
+    // Returns the attribute with an owned text and owned bytes. Fails only if an allocation fails.
     #[inline(always)]
     fn owned(&self, alloc: Global) -> Result<Nla, AllocError>
+        // inet_nla_model: the decoded value of an owned attribute. `inet_nla_value ..` and
+        // `inet_nla_attribute ..`: the decoded value of this attribute, and what it serializes as.
+        // `T.text` returns the bytes of a text, and `O.attribute` a raw attribute.
         ensures equal { IfOk result (λ nla. inet_nla_model nla
             ≡ inet_nla_value T.text O.attribute self.now) }
+        // `needs_no_memory`: the call does not fail for any variant except `Congestion` and
+        // `Other`.
         ensures needs_no_memory { NeedsNoMemoryIn inet_attribute_set
             (inet_nla_value T.text O.attribute self.now)
             → IsOk result }
-        ensures empty { (encode_attribute inet_attribute_set
-            (inet_nla_value T.text O.attribute self.now)).value ≡ []
+        // `empty`: the call does not fail if the serialized value is empty: for an `Other` without
+        // bytes.
+        ensures empty { (inet_nla_attribute T.text O.attribute self.now).value ≡ []
             → IsOk result }
     {
         Ok(match self {
@@ -177,15 +185,17 @@ impl<T: AsStr, O: OtherNla> InetNla<T, O> {
         })
     }
 
-    // Returns the type field and the value.
+    // Returns the type field and the value that the attribute serializes as.
     #[inline(always)]
-    pub(super) fn parts(&self) -> (u16, Value<'_>)
-        ensures kind { result.0
-            ≡ (encode_attribute inet_attribute_set
-            (inet_nla_value T.text O.attribute self.now)).type_word }
+    pub(super) fn type_and_value(&self) -> (u16, Value<'_>)
+        // `inet_nla_attribute ..`: the type field and the bytes that it serializes as. `T.text`
+        // returns the bytes of a text, and `O.attribute` a raw attribute. value_bytes: the bytes
+        // that a `Value` serializes to.
+        ensures kind { result.0 ≡ (inet_nla_attribute T.text O.attribute self.now).type_word }
         ensures value { value_bytes result.1
-            ≡ (encode_attribute inet_attribute_set
-            (inet_nla_value T.text O.attribute self.now)).value }
+            ≡ (inet_nla_attribute T.text O.attribute self.now).value }
+        // Proof only, for the codec laws: if the returned value is in range, as every Rust value
+        // is, then the decoded value of the attribute (`inet_nla_value`) is in range.
         ensures in_range { IsValueInRange result.1
             → IsInRangeIn inet_attribute_set (inet_nla_value T.text O.attribute self.now) }
     {
@@ -193,14 +203,14 @@ impl<T: AsStr, O: OtherNla> InetNla<T, O> {
             InetNla::LegacyMemInfo(info) => (INET_DIAG_MEMINFO, Value::LegacyMemInfo(info)),
             InetNla::TcpInfo(info) => (INET_DIAG_INFO, Value::TcpInfo(info)),
             InetNla::Congestion(text) => (INET_DIAG_CONG, Value::Text(text.as_str())),
-            InetNla::Tos(tos) => (INET_DIAG_TOS, Value::Byte(*tos)),
-            InetNla::Tc(class) => (INET_DIAG_TCLASS, Value::Byte(*class)),
+            InetNla::Tos(tos) => (INET_DIAG_TOS, Value::U8(*tos)),
+            InetNla::Tc(class) => (INET_DIAG_TCLASS, Value::U8(*class)),
             InetNla::MemInfo(info) => (INET_DIAG_SKMEMINFO, Value::MemInfo(info)),
-            InetNla::Shutdown(state) => (INET_DIAG_SHUTDOWN, Value::Byte(*state)),
-            InetNla::Protocol(protocol) => (INET_DIAG_PROTOCOL, Value::Byte(*protocol)),
-            InetNla::SkV6Only(only) => (INET_DIAG_SKV6ONLY, Value::Byte(u8::from(*only))),
-            InetNla::Mark(mark) => (INET_DIAG_MARK, Value::Word(*mark)),
-            InetNla::ClassId(class) => (INET_DIAG_CLASS_ID, Value::Word(*class)),
+            InetNla::Shutdown(state) => (INET_DIAG_SHUTDOWN, Value::U8(*state)),
+            InetNla::Protocol(protocol) => (INET_DIAG_PROTOCOL, Value::U8(*protocol)),
+            InetNla::SkV6Only(only) => (INET_DIAG_SKV6ONLY, Value::U8(u8::from(*only))),
+            InetNla::Mark(mark) => (INET_DIAG_MARK, Value::U32(*mark)),
+            InetNla::ClassId(class) => (INET_DIAG_CLASS_ID, Value::U32(*class)),
             InetNla::Other(nla) => (nla.type_word(), Value::Bytes(nla.bytes())),
         }
     }
@@ -218,7 +228,7 @@ impl<'a> NlaView<'a> {
     pub fn parse(nla: &NlaBuffer<'a>) -> Result<NlaView<'a>, DecodeError>
         // decode_attribute set attribute: `Ok` of what the attribute decodes to by the set, or
         // `Err` of the error of its value. `buffered_attribute nla.now`: the type field and the
-        // value of `nla`. inet_nla_view_model: the decoded value of the variant.
+        // value of `nla`. inet_nla_view_model: the decoded value of a view.
         ensures { MatchResult result
             (λ view. decode_attribute inet_attribute_set (buffered_attribute nla.now)
             ≡ Ok (inet_nla_view_model view))
@@ -241,8 +251,8 @@ impl<'a> NlaView<'a> {
         })
     }
 
-    /// Returns the view that [`NlaView::parse`] returns. Requires that it accepts the attribute. No
-    /// length is tested again.
+    /// Returns the view that [`NlaView::parse`] returns. Requires that `parse` accepts the
+    /// attribute. No length is tested again.
     #[inline(always)]
     pub fn new(nla: &NlaBuffer<'a>) -> NlaView<'a>
         requires { IsOk (decode_attribute inet_attribute_set (buffered_attribute nla.now)) }
@@ -254,14 +264,14 @@ impl<'a> NlaView<'a> {
             INET_DIAG_MEMINFO => NlaView::LegacyMemInfo(accepted_record(value)),
             INET_DIAG_INFO => NlaView::TcpInfo(accepted_record(value)),
             INET_DIAG_CONG => NlaView::Congestion(accepted_str(value)),
-            INET_DIAG_TOS => NlaView::Tos(accepted_u8(INET_DIAG_TOS, value)),
-            INET_DIAG_TCLASS => NlaView::Tc(accepted_u8(INET_DIAG_TCLASS, value)),
+            INET_DIAG_TOS => NlaView::Tos(accepted_u8::<INET_DIAG_TOS>(value)),
+            INET_DIAG_TCLASS => NlaView::Tc(accepted_u8::<INET_DIAG_TCLASS>(value)),
             INET_DIAG_SKMEMINFO => NlaView::MemInfo(accepted_record(value)),
-            INET_DIAG_SHUTDOWN => NlaView::Shutdown(accepted_u8(INET_DIAG_SHUTDOWN, value)),
-            INET_DIAG_PROTOCOL => NlaView::Protocol(accepted_u8(INET_DIAG_PROTOCOL, value)),
-            INET_DIAG_SKV6ONLY => NlaView::SkV6Only(accepted_u8(INET_DIAG_SKV6ONLY, value) != 0),
-            INET_DIAG_MARK => NlaView::Mark(accepted_u32(INET_DIAG_MARK, value)),
-            INET_DIAG_CLASS_ID => NlaView::ClassId(accepted_u32(INET_DIAG_CLASS_ID, value)),
+            INET_DIAG_SHUTDOWN => NlaView::Shutdown(accepted_u8::<INET_DIAG_SHUTDOWN>(value)),
+            INET_DIAG_PROTOCOL => NlaView::Protocol(accepted_u8::<INET_DIAG_PROTOCOL>(value)),
+            INET_DIAG_SKV6ONLY => NlaView::SkV6Only(accepted_u8::<INET_DIAG_SKV6ONLY>(value) != 0),
+            INET_DIAG_MARK => NlaView::Mark(accepted_u32::<INET_DIAG_MARK>(value)),
+            INET_DIAG_CLASS_ID => NlaView::ClassId(accepted_u32::<INET_DIAG_CLASS_ID>(value)),
             _ => NlaView::Other(*nla),
         }
     }
@@ -271,15 +281,15 @@ impl<'a> NlaView<'a> {
     /// whose value is not empty, may need an allocation.
     #[inline(always)]
     pub fn to_owned(&self, alloc: Global) -> Result<Nla, AllocError>
-        // inet_nla_model and inet_nla_view_model: the decoded value of the variant, owned and
-        // borrowed.
+        // inet_nla_model and inet_nla_view_model: the decoded value of an owned and of a borrowed
+        // attribute.
         ensures equal { IfOk result (λ nla. inet_nla_model nla ≡ inet_nla_view_model self.now) }
-        // `needs_no_memory`: the call does not fail for types whose values need no memory: any
-        // variant except `Congestion` and `Other`.
+        // `needs_no_memory`: the call does not fail if the attribute is of a type whose values need
+        // no memory: any variant except `Congestion` and `Other`.
         ensures needs_no_memory { NeedsNoMemoryIn inet_attribute_set (inet_nla_view_model self.now)
             → IsOk result }
-        // `empty`: the call does not fail if the value serializes to no bytes: an `Other` without
-        // bytes.
+        // `empty`: the call does not fail if the serialized attribute (`encode_attribute`) has an
+        // empty value: an `Other` without bytes.
         ensures empty { (encode_attribute inet_attribute_set (inet_nla_view_model self.now)).value
             ≡ [] → IsOk result }
     {
@@ -297,22 +307,23 @@ impl<'a> Parseable<NlaBuffer<'a>> for Nla {
 
 impl<T: AsStr, O: OtherNla> NlaTrait for InetNla<T, O> {
     ghost use Rattle.sock_diag_attributes.specs.InetAttributes.{inet_attribute_set};
-    ghost use Rattle.sock_diag_attributes.specs.InetModel.{inet_nla_value};
+    ghost use Rattle.sock_diag_attributes.specs.InetModel.{inet_nla_attribute, inet_nla_value};
 
-    ghost attribute = { λ v. encode_attribute inet_attribute_set
-        (inet_nla_value T.text O.attribute v) };
+    // The type field and the value that the attribute serializes as.
+    ghost attribute = { inet_nla_attribute T.text O.attribute };
 
+    // The decoded value is in range: each number fits its field. So it is for each Rust value.
     ghost in_range = { λ v. IsInRangeIn inet_attribute_set (inet_nla_value T.text O.attribute v) };
 
     fn value_len(&self) -> usize {
-        self.parts().1.len()
+        self.type_and_value().1.len()
     }
 
     fn kind(&self) -> u16 {
-        self.parts().0
+        self.type_and_value().0
     }
 
     fn emit_value(&self, buffer: &mut [u8]) {
-        self.parts().1.emit(buffer);
+        self.type_and_value().1.emit(buffer);
     }
 }

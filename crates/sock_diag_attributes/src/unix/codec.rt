@@ -10,9 +10,9 @@ ghost use Rattle.sock_diag_attributes.specs.UnixModel.{unix_nla_model};
 ghost use Rattle.sock_diag_attributes.specs.NameModel.{socket_name_model};
 ghost use Rattle.sock_diag_attributes.specs.laws.EqualUnix.{unix_nlas_equal};
 ghost use Rattle.sock_diag_attributes.specs.laws.EqualName.{same_names};
-ghost use Rattle.sock_diag_attributes.specs.laws.AttributeParts.{byte_list_row, default_nla_row};
-ghost use Rattle.sock_diag_attributes.specs.laws.AttributeParts.{list_row};
-ghost use Rattle.sock_diag_attributes.specs.laws.AttributeParts.{name_row};
+ghost use Rattle.sock_diag_attributes.specs.laws.AttributeParts.{byte_list_type, default_nla_type};
+ghost use Rattle.sock_diag_attributes.specs.laws.AttributeParts.{list_type};
+ghost use Rattle.sock_diag_attributes.specs.laws.AttributeParts.{name_type};
 
 use super::nlas::{Nla, NlaView};
 use netlink_core::{CanonError, DecodeError, HasCodec, NlaBuffer, Wire, WireNla, write_new};
@@ -21,37 +21,48 @@ use std::alloc::Global;
 impl HasCodec for Nla {
     type Param = ();
 
+    // first_attribute_codec set: the codec of the attribute at the start of the bytes.
     ghost codec = { first_attribute_codec unix_attribute_set };
 
+    // What contracts see of a value: its decoded value.
     ghost model = { unix_nla_model };
 
+    // 0, since an attribute is not a netlink message, and so has no message type.
     ghost serialized_type = { λ _. 0 };
 
-    ghost eq_is_model = { unix_nlas_equal name_row list_row default_nla_row _ _ _
+    // Proof that `==` compares the models.
+    ghost eq_is_model = { unix_nlas_equal name_type list_type default_nla_type _ _ _
         (socket_name_model vec_items) vec_items
-        raw_attribute (same_names byte_list_row _ vec_items (λ _ _. refl)) (λ _ _. refl)
+        raw_attribute (same_names byte_list_type _ vec_items (λ _ _. refl)) (λ _ _. refl)
         (λ _ _. refl) };
 
+    // Proof of the codec laws.
     ghost laws = { first_attribute_codec_laws unix_attribute_set unix_laws };
 }
 
 impl Wire for Nla {
     fn read(alloc: Global, bytes: &[u8], _param: ()) -> Result<Self, DecodeError> {
+        // Splits off and decodes the first attribute, and copies its name, list or bytes.
         Ok(NlaView::parse(&NlaBuffer::new_checked(bytes)?)?.to_owned(alloc)?)
     }
 
     fn rewrite(alloc: Global, bytes: &[u8], _param: ()) -> Result<Vec<u8>, CanonError> {
+        // Splits off and decodes the first attribute, and serializes the view.
         write_new(alloc, &NlaView::parse(&NlaBuffer::new_checked(bytes)?)?)
     }
 
+    // Proof that `Emitable` serializes a value to the bytes that the codec states.
     ghost bytes_by_codec = { λ _. refl };
 
+    // Proof that a value is writable for `Emitable` if and only if it is by the codec.
     ghost writable_by_codec = { λ _. (λ h. h, λ h. h) };
 
+    // Proof that a value that is in range for `Emitable` is in range by the codec.
     ghost in_range_by_codec = { λ _ h. h };
 }
 
 impl WireNla for Nla {
+    // Proofs that `bytes` and `writable` of `Emitable` are those of the attribute.
     ghost bytes_by_attribute = { λ _. refl };
 
     ghost writable_by_attribute = { λ _. (λ h. h, λ h. h) };

@@ -1,10 +1,10 @@
 //! The name of a UNIX socket.
 
-ghost use Rattle.std.specs.Prelude.{◌≡◌, ◌<◌, ◌≤◌, length, take, slice_index, IfOk, IsOk};
+ghost use Rattle.std.specs.Prelude.{◌≡◌, ◌≤◌, length, IfOk, IsOk};
 ghost use Rattle.std.specs.Prelude.{MatchOption, MatchResult, Ok, Err, true, refl, vec_items, ⊤};
 ghost use Rattle.netlink_core.specs.Bytes.{HoldsAtStart, IsBytes};
-ghost use Rattle.sock_diag_attributes.specs.Name.{read_name, name_bytes, name_codec};
-ghost use Rattle.sock_diag_attributes.specs.laws.Name.{HasNoZero, name_codec_laws};
+ghost use Rattle.sock_diag_attributes.specs.Name.{HasU32Length, parse_name, name_bytes, name_codec};
+ghost use Rattle.sock_diag_attributes.specs.laws.Name.{HasNoZero, IsFirstZero, name_codec_laws};
 
 use netlink_core::fields::write_bytes;
 use netlink_core::{
@@ -27,8 +27,10 @@ pub enum SocketName<B> {
 
 // Not derived: a derived impl would give an owned name a `clone` without an allocator.
 impl<B: Copy> Clone for SocketName<B> {
+    // `copy` is a clone of `name` if it is the same value.
     ghost is_clone = { λ name copy. copy ≡ name };
 
+    // Cloning never fails (`⊤`).
     ghost is_infallible = { λ _. ⊤ };
 
     fn clone(&self) -> Result<Self, AllocError> {
@@ -53,14 +55,18 @@ impl UnixDiagName {
         // name_bytes: the bytes that a name serializes to, including its zero.
         ensures equal { IfOk result (λ name. socket_name_model vec_items name
             ≡ socket_name_model vec_items self.now) }
+        // `needs_no_memory`: cloning does not fail if there are no bytes besides this zero.
         ensures needs_no_memory { length (name_bytes (socket_name_model vec_items self.now)) ≤ 1
             → IsOk result }
     {
         self.view().to_owned(alloc)
     }
 
-    // Returns the name with borrowed bytes.
+    // Returns the name with borrowed bytes: a path for a path, and an abstract name for an abstract
+    // one, with the same bytes.
     pub(crate) fn view(&self) -> NameView<'_>
+        // name_view_model and `socket_name_model vec_items`: a borrowed and an owned name with its
+        // bytes as a list.
         ensures { name_view_model result ≡ socket_name_model vec_items self.now }
     {
         match self {
@@ -78,13 +84,14 @@ impl<'a> NameView<'a> {
     /// the zero at its end: returns `NameInnerZero`, with the index, if the first zero is before
     /// the last byte, and `NameWithoutEnd` if there is no zero.
     #[inline(always)]
-    #[tactic(auto, using(crate::specs::laws::Name::reads_inner_zero, crate::specs::laws::Name::reads_path, crate::specs::laws::Name::reads_no_end))]
+    #[tactic(auto, using(crate::specs::laws::Name::parse_name_rules))]
     pub fn parse(bytes: &'a [u8]) -> Result<NameView<'a>, DecodeError>
-        // read_name bytes: `Ok` of the name, with its bytes as a list, or `Err` of the error.
-        // name_view_model name: the name with its bytes as a list.
+        // parse_name bytes: `Ok` of the name, with its bytes as a list, or `Err` of the error.
+        // name_view_model name: the name with its bytes as a list. `bytes.entry` is the argument
+        // as it was passed.
         ensures { MatchResult result
-            (λ name. read_name bytes.entry.now ≡ Ok (name_view_model name))
-            (λ e. read_name bytes.entry.now ≡ Err e) }
+            (λ name. parse_name bytes.entry.now ≡ Ok (name_view_model name))
+            (λ e. parse_name bytes.entry.now ≡ Err e) }
     {
         let Some((last, path)) = bytes.split_last() else {
             return Err(DecodeError::NameEmpty);
@@ -99,13 +106,13 @@ impl<'a> NameView<'a> {
         }
     }
 
-    /// Returns the name that [`NameView::parse`] returns. Requires that it accepts the bytes. They
-    /// are not searched for zeros again.
+    /// Returns the name that [`NameView::parse`] returns. Requires that `parse` accepts the bytes.
+    /// They are not searched for zeros again.
     #[inline(always)]
     #[tactic(auto, using(crate::specs::laws::Name::accepted_name_is_path))]
     pub fn new(bytes: &'a [u8]) -> NameView<'a>
-        requires { IsOk (read_name bytes.now) }
-        ensures { read_name bytes.entry.now ≡ Ok (name_view_model result) }
+        requires { IsOk (parse_name bytes.now) }
+        ensures { parse_name bytes.entry.now ≡ Ok (name_view_model result) }
     {
         let Some((_, path)) = bytes.split_last() else {
             unreachable!();
@@ -116,8 +123,9 @@ impl<'a> NameView<'a> {
         NameView::Pathname(path)
     }
 
-    // Returns the length of the serialized name in bytes.
+    // Returns the number of bytes that the name serializes to, including its zero.
     pub(crate) fn len(&self) -> usize
+        // name_bytes (name_view_model name): the bytes that the borrowed name serializes to.
         ensures { result ≡ length (name_bytes (name_view_model self.now)) }
     {
         match self {
@@ -126,13 +134,15 @@ impl<'a> NameView<'a> {
         }
     }
 
-    // Writes the name with its zero at the start of `buffer`. The bytes after it are unchanged.
-    #[tactic(auto, using(crate::specs::laws::Name::path_bytes_in_range, crate::specs::laws::Name::address_bytes_in_range))]
+    // Writes the name with its zero at the start of `buffer`, which has to be long enough. The
+    // bytes after it are unchanged.
+    #[tactic(auto, using(crate::specs::laws::Name::name_in_range_rules))]
     pub(crate) fn emit_name(&self, buffer: &mut [u8])
-        requires { length (name_bytes (name_view_model self.now))
-            ≤ length buffer.old }
+        // name_bytes (name_view_model name): the bytes that the borrowed name serializes to.
+        requires { length (name_bytes (name_view_model self.now)) ≤ length buffer.old }
         ensures written { HoldsAtStart (name_bytes (name_view_model self.now))
             buffer.old buffer.new }
+        // Each byte is below 256, as each `u8` is; this is stated for the codec laws.
         ensures in_range { IsBytes (name_bytes (name_view_model self.now)) }
     {
         match self {
@@ -151,8 +161,11 @@ impl<'a> NameView<'a> {
     /// one. Fails only if an allocation fails. A name that serializes to one byte, its zero, needs
     /// no allocation.
     pub fn to_owned(&self, alloc: Global) -> Result<UnixDiagName, AllocError>
+        // socket_name_model vec_items and name_view_model: an owned and a borrowed name with its
+        // bytes as a list.
         ensures equal { IfOk result (λ name.
             socket_name_model vec_items name ≡ name_view_model self.now) }
+        // `needs_no_memory`: the call does not fail if there are no bytes besides this zero.
         ensures needs_no_memory { length (name_bytes (name_view_model self.now)) ≤ 1 → IsOk result }
     {
         Ok(match self {
@@ -165,6 +178,7 @@ impl<'a> NameView<'a> {
 impl Readable for UnixDiagName {
     const TAKES_MEMORY: bool = true;
 
+    // Its parsers copy the bytes of the name, and so may return `Memory`.
     ghost TAKES_MEMORY = { true };
 }
 
@@ -181,8 +195,10 @@ impl Emitable for UnixDiagName {
     // A path and its terminating zero, or a zero and the bytes of an abstract name.
     ghost bytes = { λ v. name_bytes (socket_name_model vec_items v) };
 
-    ghost writable = { λ v. length (name_bytes (socket_name_model vec_items v)) ≤ 4294967295 };
+    // The name serializes to at most 4,294,967,295 bytes.
+    ghost writable = { λ v. HasU32Length (socket_name_model vec_items v) };
 
+    // Each byte is below 256, as each `u8` is.
     ghost in_range = { λ v. IsBytes (name_bytes (socket_name_model vec_items v)) };
 
     fn is_writable(&self) -> bool {
@@ -204,8 +220,10 @@ impl Emitable for NameView<'_> {
     // A path and its terminating zero, or a zero and the bytes of an abstract name.
     ghost bytes = { λ v. name_bytes (name_view_model v) };
 
-    ghost writable = { λ v. length (name_bytes (name_view_model v)) ≤ 4294967295 };
+    // The name serializes to at most 4,294,967,295 bytes.
+    ghost writable = { λ v. HasU32Length (name_view_model v) };
 
+    // Each byte is below 256, as each `u8` is.
     ghost in_range = { λ v. IsBytes (name_bytes (name_view_model v)) };
 
     fn is_writable(&self) -> bool {
@@ -224,18 +242,23 @@ impl Emitable for NameView<'_> {
 impl HasCodec for UnixDiagName {
     ghost use Rattle.sock_diag_attributes.specs.NameModel.{socket_name_model};
     ghost use Rattle.sock_diag_attributes.specs.laws.EqualName.{names_equal};
-    ghost use Rattle.sock_diag_attributes.specs.laws.AttributeParts.{byte_list_row};
+    ghost use Rattle.sock_diag_attributes.specs.laws.AttributeParts.{byte_list_type};
 
     type Param = ();
 
+    // The codec of a name that takes all of the bytes.
     ghost codec = { name_codec };
 
+    // What contracts see of a name: a path or an abstract name, with its bytes as a list.
     ghost model = { socket_name_model vec_items };
 
+    // 0, since a name is not a netlink message, and so has no message type.
     ghost serialized_type = { λ _. 0 };
 
-    ghost eq_is_model = { names_equal byte_list_row _ vec_items (λ _ _. refl) };
+    // Proof that `==` compares the models.
+    ghost eq_is_model = { names_equal byte_list_type _ vec_items (λ _ _. refl) };
 
+    // Proof of the codec laws.
     ghost laws = { name_codec_laws };
 }
 
@@ -248,19 +271,22 @@ impl Wire for UnixDiagName {
         write_new(alloc, &NameView::parse(bytes)?)
     }
 
+    // Proof that `Emitable` serializes a value to the bytes that the codec states.
     ghost bytes_by_codec = { λ _. refl };
 
+    // Proof that a value is writable for `Emitable` if and only if it is by the codec.
     ghost writable_by_codec = { λ _. (λ h. h, λ h. h) };
 
+    // Proof that a value that is in range for `Emitable` is in range by the codec.
     ghost in_range_by_codec = { λ _ h. h };
 }
 
-// Returns the index of the first zero. Usually there is none, which `contains` finds out faster
-// than a search byte by byte.
+// Returns the index of the first zero, or `None` if there is none. Usually there is none, which
+// `contains` finds out faster than a search byte by byte.
 fn first_zero(bytes: &[u8]) -> Option<usize>
-    ensures { MatchOption result (HasNoZero bytes.now) (λ index.
-        (index < length bytes.now) × (slice_index bytes.now index ≡ 0)
-        × HasNoZero (take index bytes.now)) }
+    // HasNoZero bytes: no byte is zero. IsFirstZero bytes index: the byte at the index is zero, and
+    // no byte before it is. The index is the one in `Some`.
+    ensures { MatchOption result (HasNoZero bytes.now) (IsFirstZero bytes.now) }
 {
     if !bytes.contains(&0) {
         return None;

@@ -60,21 +60,23 @@ pub type NlaView<'a> = UnixNla<NameView<'a>, NumbersView<'a>, NlaBuffer<'a>>;
 impl Readable for Nla {
     const TAKES_MEMORY: bool = true;
 
+    // Its parsers copy what the attribute owns, and so may return `Memory`.
     ghost TAKES_MEMORY = { true };
 }
 
 impl<N: BorrowName, L: BorrowNumbers, O: OtherNla> Emitable for UnixNla<N, L, O> {
     ghost use Rattle.sock_diag_attributes.specs.UnixAttributes.{unix_attribute_set};
-    ghost use Rattle.sock_diag_attributes.specs.UnixModel.{unix_nla_value};
+    ghost use Rattle.sock_diag_attributes.specs.UnixModel.{unix_nla_attribute, unix_nla_value};
 
     // The header, the value, and zeros as padding up to a multiple of four.
-    ghost bytes = { λ v. attribute_bytes
-        (encode_attribute unix_attribute_set (unix_nla_value N.name L.numbers O.attribute v)) };
+    // `N.name`, `L.numbers` and `O.attribute` return a name, the numbers of a list, and a raw
+    // attribute.
+    ghost bytes = { λ v. attribute_bytes (unix_nla_attribute N.name L.numbers O.attribute v) };
 
-    // The value has at most 65,531 bytes.
-    ghost writable = { λ v. FitsLengthField
-        (encode_attribute unix_attribute_set (unix_nla_value N.name L.numbers O.attribute v)) };
+    // The value has at most 65,531 bytes, so that its length fits the length field.
+    ghost writable = { λ v. FitsLengthField (unix_nla_attribute N.name L.numbers O.attribute v) };
 
+    // The decoded value is in range: each number fits its field. So it is for each Rust value.
     ghost in_range = { λ v. IsInRangeIn unix_attribute_set
         (unix_nla_value N.name L.numbers O.attribute v) };
 
@@ -91,10 +93,12 @@ impl<N: BorrowName, L: BorrowNumbers, O: OtherNla> Emitable for UnixNla<N, L, O>
     }
 }
 
-// Fills the unused slots of a `SmallVec`. It does not allocate.
+// Fills the unused slots of a `SmallVec`. All bytes of a `Peer` of inode 0 are 0, since it is the
+// first variant. Fresh memory has these bytes, so that filling costs nothing.
 impl MadeWith<Global> for Nla {
     ghost use Rattle.sock_diag_attributes.specs.declared.unix.nlas.UnixNla.TheVariants.{Peer};
 
+    // The made value is a `Peer` of inode 0.
     ghost is_made_with = { λ nla. nla ≡ Peer 0 };
 
     fn made_with(_alloc: Global) -> Self {
@@ -110,15 +114,14 @@ impl Nla {
     /// allocation fails. Only a name, a list that is not empty, and an attribute of another kind
     /// whose value is not empty, may need an allocation.
     pub fn clone(&self, alloc: Global) -> Result<Self, AllocError>
-        // unix_nla_model: the decoded value of the variant. encode_attribute set value: the
-        // attribute that a decoded value serializes as.
+        // unix_nla_model: the decoded value of the attribute.
         ensures equal { IfOk result (λ copy. unix_nla_model copy ≡ unix_nla_model self.now) }
-        // `needs_no_memory`: cloning does not fail for types whose values need no memory: any
-        // variant except `Name`, `PendingConnections` and `Other`.
+        // `needs_no_memory`: cloning does not fail if the attribute is of a type whose values need
+        // no memory: any variant except `Name`, `PendingConnections` and `Other`.
         ensures needs_no_memory { NeedsNoMemoryIn unix_attribute_set (unix_nla_model self.now)
             → IsOk result }
-        // `empty`: cloning does not fail if the value serializes to no bytes: a
-        // `PendingConnections` or an `Other` without bytes.
+        // `empty`: cloning does not fail if the serialized attribute (`encode_attribute`) has an
+        // empty value: a `PendingConnections` or an `Other` without bytes.
         ensures empty { (encode_attribute unix_attribute_set (unix_nla_model self.now)).value ≡ []
             → IsOk result }
     {
@@ -128,20 +131,28 @@ impl Nla {
 
 impl<N: BorrowName, L: BorrowNumbers, O: OtherNla> UnixNla<N, L, O> {
     ghost use Rattle.sock_diag_attributes.specs.UnixAttributes.{unix_attribute_set};
-    ghost use Rattle.sock_diag_attributes.specs.UnixModel.{unix_nla_value, unix_nla_model};
+    ghost use Rattle.sock_diag_attributes.specs.UnixModel.{unix_nla_attribute, unix_nla_model};
+    ghost use Rattle.sock_diag_attributes.specs.UnixModel.{unix_nla_value};
 
-    // Returns the attribute with an owned name, owned numbers and owned bytes.
+    // Returns the attribute with an owned name, owned numbers and owned bytes. Fails only if an
+    // allocation fails.
     #[inline(always)]
     #[tactic(auto, using(crate::specs::laws::Number::no_numbers))]
     fn owned(&self, alloc: Global) -> Result<Nla, AllocError>
+        // unix_nla_model: the decoded value of an owned attribute. `unix_nla_value ..` and
+        // `unix_nla_attribute ..`: the decoded value of this attribute, and what it serializes as.
+        // `N.name`, `L.numbers` and `O.attribute` return a name, the numbers of a list, and a raw
+        // attribute.
         ensures equal { IfOk result (λ nla.
             unix_nla_model nla ≡ unix_nla_value N.name L.numbers O.attribute self.now) }
+        // `needs_no_memory`: the call does not fail for any variant except `Name`,
+        // `PendingConnections` and `Other`.
         ensures needs_no_memory { NeedsNoMemoryIn unix_attribute_set
             (unix_nla_value N.name L.numbers O.attribute self.now)
             → IsOk result }
-        ensures empty { (encode_attribute unix_attribute_set
-            (unix_nla_value N.name L.numbers O.attribute self.now)).value
-            ≡ []
+        // `empty`: the call does not fail if the serialized value is empty: for a
+        // `PendingConnections` or an `Other` without bytes.
+        ensures empty { (unix_nla_attribute N.name L.numbers O.attribute self.now).value ≡ []
             → IsOk result }
     {
         Ok(match self {
@@ -149,22 +160,27 @@ impl<N: BorrowName, L: BorrowNumbers, O: OtherNla> UnixNla<N, L, O> {
             UnixNla::Vfs(vfs) => Nla::Vfs(vfs.clone()?),
             UnixNla::Peer(inode) => Nla::Peer(*inode),
             UnixNla::PendingConnections(inodes) => Nla::PendingConnections(inodes.to_list(alloc)?),
-            UnixNla::ReceiveQueueLength(first, second) => Nla::ReceiveQueueLength(*first, *second),
+            UnixNla::ReceiveQueueLength(rqueue, wqueue) => {
+                Nla::ReceiveQueueLength(*rqueue, *wqueue)
+            }
             UnixNla::MemInfo(info) => Nla::MemInfo(*info),
             UnixNla::Shutdown(state) => Nla::Shutdown(*state),
             UnixNla::Other(nla) => Nla::Other(nla.to_owned_nla(alloc)?),
         })
     }
 
-    // Returns the type field and the value.
+    // Returns the type field and the value that the attribute serializes as.
     #[inline(always)]
-    pub(super) fn parts(&self) -> (u16, Value<'_>)
+    pub(super) fn type_and_value(&self) -> (u16, Value<'_>)
+        // `unix_nla_attribute ..`: the type field and the bytes that it serializes as. `N.name`,
+        // `L.numbers` and `O.attribute` return a name, the numbers of a list, and a raw attribute.
+        // value_bytes: the bytes that a `Value` serializes to.
         ensures kind { result.0
-            ≡ (encode_attribute unix_attribute_set
-            (unix_nla_value N.name L.numbers O.attribute self.now)).type_word }
+            ≡ (unix_nla_attribute N.name L.numbers O.attribute self.now).type_word }
         ensures value { value_bytes result.1
-            ≡ (encode_attribute unix_attribute_set
-            (unix_nla_value N.name L.numbers O.attribute self.now)).value }
+            ≡ (unix_nla_attribute N.name L.numbers O.attribute self.now).value }
+        // Proof only, for the codec laws: if the returned value is in range, as every Rust value
+        // is, then the decoded value of the attribute (`unix_nla_value`) is in range.
         ensures in_range { IsValueInRange result.1
             → IsInRangeIn unix_attribute_set
             (unix_nla_value N.name L.numbers O.attribute self.now) }
@@ -172,13 +188,13 @@ impl<N: BorrowName, L: BorrowNumbers, O: OtherNla> UnixNla<N, L, O> {
         match self {
             UnixNla::Name(name) => (UNIX_DIAG_NAME, Value::Name(name.borrow_name())),
             UnixNla::Vfs(vfs) => (UNIX_DIAG_VFS, Value::Vfs(vfs)),
-            UnixNla::Peer(inode) => (UNIX_DIAG_PEER, Value::Word(*inode)),
+            UnixNla::Peer(inode) => (UNIX_DIAG_PEER, Value::U32(*inode)),
             UnixNla::PendingConnections(inodes) => (UNIX_DIAG_ICONS, inodes.borrow_value()),
-            UnixNla::ReceiveQueueLength(first, second) => {
-                (UNIX_DIAG_RQLEN, Value::Pair(*first, *second))
+            UnixNla::ReceiveQueueLength(rqueue, wqueue) => {
+                (UNIX_DIAG_RQLEN, Value::U32Pair(*rqueue, *wqueue))
             }
             UnixNla::MemInfo(info) => (UNIX_DIAG_MEMINFO, Value::UnixMemInfo(info)),
-            UnixNla::Shutdown(state) => (UNIX_DIAG_SHUTDOWN, Value::Byte(*state)),
+            UnixNla::Shutdown(state) => (UNIX_DIAG_SHUTDOWN, Value::U8(*state)),
             UnixNla::Other(nla) => (nla.type_word(), Value::Bytes(nla.bytes())),
         }
     }
@@ -197,7 +213,7 @@ impl<'a> NlaView<'a> {
     pub fn parse(nla: &NlaBuffer<'a>) -> Result<NlaView<'a>, DecodeError>
         // decode_attribute set attribute: `Ok` of what the attribute decodes to by the set, or
         // `Err` of the error of its value. `buffered_attribute nla.now`: the type field and the
-        // value of `nla`. unix_nla_view_model: the decoded value of the variant.
+        // value of `nla`. unix_nla_view_model: the decoded value of a view.
         ensures { MatchResult result
             (λ view. decode_attribute unix_attribute_set (buffered_attribute nla.now)
             ≡ Ok (unix_nla_view_model view))
@@ -210,8 +226,8 @@ impl<'a> NlaView<'a> {
             UNIX_DIAG_PEER => NlaView::Peer(exact_u32(UNIX_DIAG_PEER, value)?),
             UNIX_DIAG_ICONS => NlaView::PendingConnections(NumbersView::parse(value)?),
             UNIX_DIAG_RQLEN => {
-                let (first, second) = exact_u32_pair(UNIX_DIAG_RQLEN, value)?;
-                NlaView::ReceiveQueueLength(first, second)
+                let (rqueue, wqueue) = exact_u32_pair(UNIX_DIAG_RQLEN, value)?;
+                NlaView::ReceiveQueueLength(rqueue, wqueue)
             }
             UNIX_DIAG_MEMINFO => NlaView::MemInfo(MemInfo::parse(value)?),
             UNIX_DIAG_SHUTDOWN => NlaView::Shutdown(exact_u8(UNIX_DIAG_SHUTDOWN, value)?),
@@ -219,8 +235,8 @@ impl<'a> NlaView<'a> {
         })
     }
 
-    /// Returns the view that [`NlaView::parse`] returns. Requires that it accepts the attribute. No
-    /// length is tested again, and a name is not searched for zeros again.
+    /// Returns the view that [`NlaView::parse`] returns. Requires that `parse` accepts the
+    /// attribute. No length is tested again, and a name is not searched for zeros again.
     #[inline(always)]
     pub fn new(nla: &NlaBuffer<'a>) -> NlaView<'a>
         requires { IsOk (decode_attribute unix_attribute_set (buffered_attribute nla.now)) }
@@ -231,14 +247,14 @@ impl<'a> NlaView<'a> {
         match nla.kind() {
             UNIX_DIAG_NAME => NlaView::Name(NameView::new(value)),
             UNIX_DIAG_VFS => NlaView::Vfs(accepted_record(value)),
-            UNIX_DIAG_PEER => NlaView::Peer(accepted_u32(UNIX_DIAG_PEER, value)),
+            UNIX_DIAG_PEER => NlaView::Peer(accepted_u32::<UNIX_DIAG_PEER>(value)),
             UNIX_DIAG_ICONS => NlaView::PendingConnections(NumbersView::new(value)),
             UNIX_DIAG_RQLEN => {
-                let (first, second) = accepted_u32_pair(UNIX_DIAG_RQLEN, value);
-                NlaView::ReceiveQueueLength(first, second)
+                let (rqueue, wqueue) = accepted_u32_pair::<UNIX_DIAG_RQLEN>(value);
+                NlaView::ReceiveQueueLength(rqueue, wqueue)
             }
             UNIX_DIAG_MEMINFO => NlaView::MemInfo(accepted_record(value)),
-            UNIX_DIAG_SHUTDOWN => NlaView::Shutdown(accepted_u8(UNIX_DIAG_SHUTDOWN, value)),
+            UNIX_DIAG_SHUTDOWN => NlaView::Shutdown(accepted_u8::<UNIX_DIAG_SHUTDOWN>(value)),
             _ => NlaView::Other(*nla),
         }
     }
@@ -248,15 +264,15 @@ impl<'a> NlaView<'a> {
     /// empty, and an attribute of another kind whose value is not empty, may need an allocation.
     #[inline(always)]
     pub fn to_owned(&self, alloc: Global) -> Result<Nla, AllocError>
-        // unix_nla_model and unix_nla_view_model: the decoded value of the variant, owned and
-        // borrowed.
+        // unix_nla_model and unix_nla_view_model: the decoded value of an owned and of a borrowed
+        // attribute.
         ensures equal { IfOk result (λ nla. unix_nla_model nla ≡ unix_nla_view_model self.now) }
-        // `needs_no_memory`: the call does not fail for types whose values need no memory: any
-        // variant except `Name`, `PendingConnections` and `Other`.
+        // `needs_no_memory`: the call does not fail if the attribute is of a type whose values need
+        // no memory: any variant except `Name`, `PendingConnections` and `Other`.
         ensures needs_no_memory { NeedsNoMemoryIn unix_attribute_set (unix_nla_view_model self.now)
             → IsOk result }
-        // `empty`: the call does not fail if the value serializes to no bytes: a
-        // `PendingConnections` or an `Other` without bytes.
+        // `empty`: the call does not fail if the serialized attribute (`encode_attribute`) has an
+        // empty value: a `PendingConnections` or an `Other` without bytes.
         ensures empty { (encode_attribute unix_attribute_set (unix_nla_view_model self.now)).value
             ≡ [] → IsOk result }
     {
@@ -274,23 +290,24 @@ impl<'a> Parseable<NlaBuffer<'a>> for Nla {
 
 impl<N: BorrowName, L: BorrowNumbers, O: OtherNla> NlaTrait for UnixNla<N, L, O> {
     ghost use Rattle.sock_diag_attributes.specs.UnixAttributes.{unix_attribute_set};
-    ghost use Rattle.sock_diag_attributes.specs.UnixModel.{unix_nla_value};
+    ghost use Rattle.sock_diag_attributes.specs.UnixModel.{unix_nla_attribute, unix_nla_value};
 
-    ghost attribute = { λ v. encode_attribute unix_attribute_set
-        (unix_nla_value N.name L.numbers O.attribute v) };
+    // The type field and the value that the attribute serializes as.
+    ghost attribute = { unix_nla_attribute N.name L.numbers O.attribute };
 
+    // The decoded value is in range: each number fits its field. So it is for each Rust value.
     ghost in_range = { λ v. IsInRangeIn unix_attribute_set
         (unix_nla_value N.name L.numbers O.attribute v) };
 
     fn value_len(&self) -> usize {
-        self.parts().1.len()
+        self.type_and_value().1.len()
     }
 
     fn kind(&self) -> u16 {
-        self.parts().0
+        self.type_and_value().0
     }
 
     fn emit_value(&self, buffer: &mut [u8]) {
-        self.parts().1.emit(buffer);
+        self.type_and_value().1.emit(buffer);
     }
 }

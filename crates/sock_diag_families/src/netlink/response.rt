@@ -40,6 +40,7 @@ pub struct NetlinkResponseHeader {
 }
 
 impl Exact for NetlinkResponseHeader {
+    // Proof that `==` is equality, and that `clone` returns the value and cannot fail.
     ghost exact = { Prim.search rules };
 }
 
@@ -78,7 +79,7 @@ impl Record for NetlinkResponseHeader {
 
     fn write_fields(&self, buffer: &mut [u8]) {
         let (start, rest) = buffer.split_at_mut(4);
-        let (words, cookie) = rest.split_at_mut(16);
+        let (u32s, cookie) = rest.split_at_mut(16);
         write_bytes(&[AF_NETLINK, self.kind, self.protocol, self.state], start);
         let numbers = [
             self.port,
@@ -86,9 +87,10 @@ impl Record for NetlinkResponseHeader {
             self.destination_group,
             self.inode,
         ];
-        write_u32s(&numbers, words);
+        write_u32s(&numbers, u32s);
         write_u64s(&[self.cookie], cookie);
     }
 
+    // Proof of the laws of the record.
     ghost laws = { record_laws netlink_header netlink_header_sound };
 }

@@ -2,13 +2,19 @@
 
 ghost use Rattle.std.proofs.Common.{rules};
 ghost use Rattle.std.specs.Prelude.{◌≡◌};
-ghost use Rattle.sock_diag_families.specs.PacketAttributes.{packet_info, packet_ring};
+ghost use Rattle.sock_diag_families.specs.PacketAttributes.{parse_packet_info, parse_packet_ring};
 
 use super::PACKET_DIAG_INFO;
 use crate::values::enough_in;
 use netlink_core::fields::u32s_at;
 use netlink_core::{DecodeError, Exact};
 use sock_diag_records::constants::AF_PACKET;
+
+// Size of `struct packet_diag_info` in bytes.
+const PACKET_INFO_LEN: usize = 24;
+
+// Size of `struct packet_diag_ring` in bytes.
+const PACKET_RING_LEN: usize = 28;
 
 /// Settings of a packet socket: `struct packet_diag_info` of `linux/packet_diag.h`.
 /// `linux/if_packet.h` has the socket options.
@@ -35,17 +41,18 @@ pub struct PacketInfo {
 }
 
 impl Exact for PacketInfo {
+    // Proof that `==` is equality, and that `clone` returns the value and cannot fail.
     ghost exact = { Prim.search rules };
 }
 
 impl PacketInfo {
     /// Parses the first 24 bytes of the value of an attribute `PACKET_DIAG_INFO`, and ignores the
-    /// bytes after them. Fewer bytes are `BufferTooSmall`.
+    /// bytes after them. Fewer bytes are [`DecodeError::BufferTooSmall`].
     pub fn parse(value: &[u8]) -> Result<PacketInfo, DecodeError>
-        // `packet_info`: the record in the first 24 bytes, or `BufferTooSmall`.
-        ensures { result ≡ packet_info value.now }
+        // parse_packet_info value: `Ok` of the record in the first 24 bytes, or `Err` of the error.
+        ensures { result ≡ parse_packet_info value.now }
     {
-        let value = enough_in(value, AF_PACKET, PACKET_DIAG_INFO, 24)?;
+        let value = enough_in(value, AF_PACKET, PACKET_DIAG_INFO, PACKET_INFO_LEN)?;
         let [
             interface,
             version,
@@ -91,6 +98,7 @@ pub struct PacketRing {
 }
 
 impl Exact for PacketRing {
+    // Proof that `==` is equality, and that `clone` returns the value and cannot fail.
     ghost exact = { Prim.search rules };
 }
 
@@ -99,10 +107,11 @@ impl PacketRing {
     /// `PACKET_DIAG_TX_RING`, and ignores the bytes after them. Fewer bytes are `BufferTooSmall`,
     /// which contains `kind`, the kind of the attribute. The kind has no other effect.
     pub fn parse(value: &[u8], kind: u16) -> Result<PacketRing, DecodeError>
-        // `packet_ring kind`: the record in the first 28 bytes, or `BufferTooSmall` with this kind.
-        ensures { result ≡ packet_ring kind value.now }
+        // parse_packet_ring kind value: `Ok` of the record in the first 28 bytes, or `Err` of the
+        // error, with this kind.
+        ensures { result ≡ parse_packet_ring kind value.now }
     {
-        let value = enough_in(value, AF_PACKET, kind, 28)?;
+        let value = enough_in(value, AF_PACKET, kind, PACKET_RING_LEN)?;
         let [
             block_size,
             blocks,

@@ -26,6 +26,7 @@ pub struct VsockRequest {
 }
 
 impl Exact for VsockRequest {
+    // Proof that `==` is equality, and that `clone` returns the value and cannot fail.
     ghost exact = { Prim.search rules };
 }
 
@@ -54,10 +55,13 @@ impl Record for VsockRequest {
     }
 
     fn write_fields(&self, buffer: &mut [u8]) {
-        let (words, cookie) = buffer.split_at_mut(16);
-        write_u32s(&[AF_VSOCK as u32, self.states, 0, 0], words);
+        let (u32s, cookie) = buffer.split_at_mut(16);
+        // Little-endian: the byte at offset 0 is the family, and those at 1 to 3 are 0. The last
+        // two zeros are `vdiag_ino` and `vdiag_show`.
+        write_u32s(&[AF_VSOCK as u32, self.states, 0, 0], u32s);
         write_u64s(&[self.cookie], cookie);
     }
 
+    // Proof of the laws of the record.
     ghost laws = { record_laws vsock_request vsock_request_sound };
 }

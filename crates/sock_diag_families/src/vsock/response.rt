@@ -42,6 +42,7 @@ pub struct VsockResponseHeader {
 }
 
 impl Exact for VsockResponseHeader {
+    // Proof that `==` is equality, and that `clone` returns the value and cannot fail.
     ghost exact = { Prim.search rules };
 }
 
@@ -87,7 +88,7 @@ impl Record for VsockResponseHeader {
 
     fn write_fields(&self, buffer: &mut [u8]) {
         let (start, rest) = buffer.split_at_mut(4);
-        let (words, cookie) = rest.split_at_mut(20);
+        let (u32s, cookie) = rest.split_at_mut(20);
         write_bytes(&[AF_VSOCK, self.kind, self.state, self.shutdown], start);
         let numbers = [
             self.source_context,
@@ -96,9 +97,10 @@ impl Record for VsockResponseHeader {
             self.destination_port,
             self.inode,
         ];
-        write_u32s(&numbers, words);
+        write_u32s(&numbers, u32s);
         write_u64s(&[self.cookie], cookie);
     }
 
+    // Proof of the laws of the record.
     ghost laws = { record_laws vsock_header vsock_header_sound };
 }

@@ -2,13 +2,24 @@
 
 ghost use Rattle.std.proofs.Common.{rules};
 ghost use Rattle.std.specs.Prelude.{◌≡◌, ◌≤◌, length};
-ghost use Rattle.sock_diag_families.specs.XdpAttributes.{xdp_info, xdp_umem, xdp_umem_fields};
-ghost use Rattle.sock_diag_families.specs.XdpAttributes.{xdp_statistics, xdp_statistics_fields};
+ghost use Rattle.sock_diag_families.specs.XdpAttributes.{parse_xdp_info, parse_xdp_umem};
+ghost use Rattle.sock_diag_families.specs.XdpAttributes.{xdp_umem_fields};
+ghost use Rattle.sock_diag_families.specs.XdpAttributes.{parse_xdp_statistics};
+ghost use Rattle.sock_diag_families.specs.XdpAttributes.{xdp_statistics_fields};
 
 use super::{AF_XDP, XDP_DIAG_INFO, XDP_DIAG_STATS, XDP_DIAG_UMEM};
 use crate::values::enough_in;
 use netlink_core::fields::{u32s_at, u64s_at};
 use netlink_core::{DecodeError, Exact};
+
+// Size of `struct xdp_diag_info` in bytes.
+const XDP_INFO_LEN: usize = 8;
+
+// Size of `struct xdp_diag_umem` in bytes.
+const XDP_UMEM_LEN: usize = 40;
+
+// Size of `struct xdp_diag_stats` in bytes.
+const XDP_STATISTICS_LEN: usize = 48;
 
 /// The interface and the queue that an XDP socket is bound to: `struct xdp_diag_info` of
 /// `linux/xdp_diag.h`.
@@ -24,6 +35,7 @@ pub struct XdpInfo {
 }
 
 impl Exact for XdpInfo {
+    // Proof that `==` is equality, and that `clone` returns the value and cannot fail.
     ghost exact = { Prim.search rules };
 }
 
@@ -31,10 +43,10 @@ impl XdpInfo {
     /// Parses the first 8 bytes of the value of an attribute `XDP_DIAG_INFO`, and ignores the bytes
     /// after them. Fewer bytes are `BufferTooSmall`.
     pub fn parse(value: &[u8]) -> Result<XdpInfo, DecodeError>
-        // `xdp_info`: the record in the first 8 bytes, or `BufferTooSmall`.
-        ensures { result ≡ xdp_info value.now }
+        // parse_xdp_info value: `Ok` of the record in the first 8 bytes, or `Err` of the error.
+        ensures { result ≡ parse_xdp_info value.now }
     {
-        let value = enough_in(value, AF_XDP, XDP_DIAG_INFO, 8)?;
+        let value = enough_in(value, AF_XDP, XDP_DIAG_INFO, XDP_INFO_LEN)?;
         let [interface, queue] = u32s_at::<2>(value, 0);
         Ok(XdpInfo { interface, queue })
     }
@@ -68,6 +80,7 @@ pub struct XdpUmem {
 }
 
 impl Exact for XdpUmem {
+    // Proof that `==` is equality, and that `clone` returns the value and cannot fail.
     ghost exact = { Prim.search rules };
 }
 
@@ -75,10 +88,10 @@ impl XdpUmem {
     /// Parses the first 40 bytes of the value of an attribute `XDP_DIAG_UMEM`, and ignores the
     /// bytes after them. Fewer bytes are `BufferTooSmall`.
     pub fn parse(value: &[u8]) -> Result<XdpUmem, DecodeError>
-        // `xdp_umem`: the record in the first 40 bytes, or `BufferTooSmall`.
-        ensures { result ≡ xdp_umem value.now }
+        // parse_xdp_umem value: `Ok` of the record in the first 40 bytes, or `Err` of the error.
+        ensures { result ≡ parse_xdp_umem value.now }
     {
-        let value = enough_in(value, AF_XDP, XDP_DIAG_UMEM, 40)?;
+        let value = enough_in(value, AF_XDP, XDP_DIAG_UMEM, XDP_UMEM_LEN)?;
         Ok(umem_in(value))
     }
 }
@@ -109,6 +122,7 @@ pub struct XdpStatistics {
 }
 
 impl Exact for XdpStatistics {
+    // Proof that `==` is equality, and that `clone` returns the value and cannot fail.
     ghost exact = { Prim.search rules };
 }
 
@@ -116,17 +130,19 @@ impl XdpStatistics {
     /// Parses the first 48 bytes of the value of an attribute `XDP_DIAG_STATS`, and ignores the
     /// bytes after them. Fewer bytes are `BufferTooSmall`.
     pub fn parse(value: &[u8]) -> Result<XdpStatistics, DecodeError>
-        // `xdp_statistics`: the record in the first 48 bytes, or `BufferTooSmall`.
-        ensures { result ≡ xdp_statistics value.now }
+        // parse_xdp_statistics value: `Ok` of the record in the first 48 bytes, or `Err` of the
+        // error.
+        ensures { result ≡ parse_xdp_statistics value.now }
     {
-        let value = enough_in(value, AF_XDP, XDP_DIAG_STATS, 48)?;
+        let value = enough_in(value, AF_XDP, XDP_DIAG_STATS, XDP_STATISTICS_LEN)?;
         Ok(statistics_in(value))
     }
 }
 
-// Parses a `struct xdp_diag_umem`.
+// Parses the `struct xdp_diag_umem` at the start of the value. Requires that the value contains it.
 fn umem_in(value: &[u8]) -> XdpUmem
-    requires { 40 ≤ length value.now }
+    requires { XDP_UMEM_LEN ≤ length value.now }
+    // xdp_umem_fields value: the record whose members are the numbers at their offsets.
     ensures { result ≡ xdp_umem_fields value.now }
 {
     let [size] = u64s_at::<1>(value, 0);
@@ -153,9 +169,11 @@ fn umem_in(value: &[u8]) -> XdpUmem
     }
 }
 
-// Parses a `struct xdp_diag_stats`.
+// Parses the `struct xdp_diag_stats` at the start of the value. Requires that the value contains
+// it.
 fn statistics_in(value: &[u8]) -> XdpStatistics
-    requires { 48 ≤ length value.now }
+    requires { XDP_STATISTICS_LEN ≤ length value.now }
+    // xdp_statistics_fields value: the record whose members are the numbers at their offsets.
     ensures { result ≡ xdp_statistics_fields value.now }
 {
     let [

@@ -4,7 +4,8 @@ use Rattle.sock_diag_records.specs.declared.inet.request.InetRequest.{InetReques
 use Rattle.sock_diag_records.specs.IpVersions.{IpVersions}
 use Rattle.sock_diag_records.specs.inverse.SocketId.{socket_id_of}
 
--- the request with these numbers in the fields that are not ignored, for these IP versions
+-- `inet_request_of versions values`: the request with these numbers in the fields that are not
+-- ignored, in the order of the rows of `inet_request`, and with addresses of these IP versions
 abbrev pub inet_request_of : IpVersions → List ℕ → InetRequest
 inet_request_of versions values = record {
   family = slice_index values 0;

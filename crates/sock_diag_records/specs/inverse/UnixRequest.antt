@@ -2,7 +2,8 @@
 use Rattle.std.specs.Prelude.{ℕ, List, take, drop, slice_index}
 use Rattle.sock_diag_records.specs.declared.unix.request.UnixRequest.{UnixRequest}
 
--- the request with these numbers in the fields that are not ignored
+-- `unix_request_of values`: the request with these numbers in the fields that are not ignored, in
+-- the order of the rows of `unix_request`
 abbrev pub unix_request_of : List ℕ → UnixRequest
 unix_request_of values = record {
   state_flags = record { 0 = slice_index values 0 };

@@ -2,7 +2,8 @@
 use Rattle.std.specs.Prelude.{ℕ, List, take, drop, slice_index}
 use Rattle.sock_diag_records.specs.declared.unix.response.UnixResponseHeader.{UnixResponseHeader}
 
--- the header with these numbers in the fields that are not ignored
+-- `unix_response_header_of values`: the header with these numbers in the fields that are not
+-- ignored, in the order of the rows of `unix_response_header`
 abbrev pub unix_response_header_of : List ℕ → UnixResponseHeader
 unix_response_header_of values = record {
   kind = slice_index values 0;

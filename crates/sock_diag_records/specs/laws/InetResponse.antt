@@ -24,7 +24,8 @@ use Rattle.sock_diag_records.specs.inverse.SocketId.{socket_id_of}
 use Rattle.sock_diag_records.specs.IpVersions.{IpVersions, versions_of}
 use Rattle.sock_diag_records.specs.InetResponse.{inet_response_header}
 use Rattle.sock_diag_records.specs.inverse.InetResponse.{duration_of_milliseconds, timer_of}
-use Rattle.sock_diag_records.specs.inverse.InetResponse.{inet_response_header_of, socket_id_count}
+use Rattle.sock_diag_records.specs.inverse.InetResponse.{inet_response_header_of}
+use Rattle.sock_diag_records.specs.inverse.InetResponse.{socket_id_value_count}
 use Rattle.sock_diag_records.specs.Timer.{u32_milliseconds, timer_class}
 use Rattle.sock_diag_records.specs.Timer.{timer_data, IsWholeU32Milliseconds}
 use Rattle.sock_diag_records.specs.laws.SocketId.{for_each_version_pair, socket_id_inverse}
@@ -34,7 +35,7 @@ abbrev pub versions_with_timer_class : ℕ → Result IpVersions DecodeError
     → Result (IpVersions × ℕ) DecodeError
 versions_with_timer_class class tag_found = map_ok (λ versions. (versions, class)) tag_found
 
--- a property of 0 to 4 holds for every timer class
+-- a property that the classes 0 to 4 have is one of every timer class
 pub for_each_timer_class : (P : ℕ → Type 0) → P 0 → P 1 → P 2 → P 3 → P 4 → (class : ℕ) → class < 5
     → P class
 for_each_timer_class P none retransmits keeps_alive waits probes class h = grind arith
@@ -94,18 +95,18 @@ parsed_header_has_values left h =
       whole,
     ))
 
--- the header with these fields, of which the last five are in a list
+-- the header with these fields, of which the `u32` at 52 and the four after it are in a list
 abbrev pub inet_response_header_from_fields : ℕ → ℕ → ℕ → ℕ → SocketId → List ℕ
     → Result InetResponseHeader DecodeError
-inet_response_header_from_fields class family state count socket words = Ok record {
+inet_response_header_from_fields class family state retransmits socket u32s = Ok record {
   family = family;
   state = state;
-  timer = timer_of class count (slice_index words 0);
+  timer = timer_of class retransmits (slice_index u32s 0);
   socket_id = socket;
-  recv_queue = slice_index words 1;
-  send_queue = slice_index words 2;
-  uid = slice_index words 3;
-  inode = slice_index words 4;
+  recv_queue = slice_index u32s 1;
+  send_queue = slice_index u32s 2;
+  uid = slice_index u32s 3;
+  inode = slice_index u32s 4;
 }
 
 pub inet_response_header_is_from_fields : (left : List ℕ) (versions : IpVersions) (class : ℕ)
@@ -131,7 +132,7 @@ duration_inverse : (time : Duration) → IsWholeU32Milliseconds time
 duration_inverse time whole = grind arith
 
 drop_socket_id_values : (value : SocketId) (rest : List ℕ)
-    → drop (socket_id_count (versions_of value)) (socket_id_values value ++ rest) ≡ rest
+    → drop (socket_id_value_count (versions_of value)) (socket_id_values value ++ rest) ≡ rest
 drop_socket_id_values value rest = grind arith
 
 inet_response_header_inverse : (timer : Option Timer) (family state : ℕ) (socket : SocketId)

@@ -15,7 +15,7 @@ use Rattle.sock_diag_records.specs.SocketId.{address_values}
 use Rattle.sock_diag_records.specs.private.SocketId.{address_field_bytes}
 use Rattle.sock_diag_records.specs.SocketId.{socket_id_rows, socket_id}
 use Rattle.netlink_core.specs.Rows.{fields_of}
-use Rattle.sock_diag_records.specs.SocketId.{IsAddress}
+use Rattle.sock_diag_records.specs.SocketId.{HasAddressLength}
 use Rattle.sock_diag_records.specs.SocketId.{HasArrayLengths}
 use Rattle.sock_diag_records.specs.inverse.SocketId.{address_value_count, address_of, socket_id_of}
 use Rattle.sock_diag_records.specs.IpVersions.{ipv4, ipv6, IpVersions, address_data, versions_of}
@@ -36,7 +36,7 @@ pub for_each_version_pair : (P : IpVersions → Type 0) → P (ipv4, ipv4) → P
 for_each_version_pair P a b c d versions = grind arith
 
 -- the inverse of an address's values is the address, and the values after them remain
-address_inverse : (address : IpAddr) (rest : List ℕ) → IsAddress address
+address_inverse : (address : IpAddr) (rest : List ℕ) → HasAddressLength address
     → address_of (address_data address).0 (address_values address ++ rest) ≡ address
 address_inverse address rest h =
     grind (arith, first_numbers_are_all 4, first_numbers_are_all 8)

@@ -19,7 +19,8 @@ pub struct StateFlags(u32);
 impl BitOr for StateFlags {
     type Output = StateFlags;
 
-    ghost bitor_gives = { λ v w both. both.0 ≡ bit_or v.0 w.0 };
+    // `left | right` returns `union`, whose bits (`.0`) are those of `left` and those of `right`.
+    ghost bitor_gives = { λ left right union. union.0 ≡ bit_or left.0 right.0 };
 
     /// Returns the union of both sets.
     fn bitor(self, other: StateFlags) -> StateFlags {
@@ -53,16 +54,20 @@ impl StateFlags {
 }
 
 impl Exact for StateFlags {
+    // Proof that `==` is equality, and that `clone` returns the value and cannot fail.
     ghost exact = { Prim.search rules };
 }
 
 impl Flags for StateFlags {
     type Bits = u32;
 
+    // The contracts of `Flags` hold of this type (`⊤`), with the table and the bits below.
     ghost exact = { ⊤ };
 
+    // The name and the bit of each constant.
     ghost table = { inet_state_flags };
 
+    // The bits of a value.
     ghost set_of = { λ flags. flags.0 };
 
     fn flags<'a>() -> &'a [Flag<StateFlags>] {
@@ -90,7 +95,8 @@ pub struct ExtensionFlags(u8);
 impl BitOr for ExtensionFlags {
     type Output = ExtensionFlags;
 
-    ghost bitor_gives = { λ v w both. both.0 ≡ bit_or v.0 w.0 };
+    // `left | right` returns `union`, whose bits (`.0`) are those of `left` and those of `right`.
+    ghost bitor_gives = { λ left right union. union.0 ≡ bit_or left.0 right.0 };
 
     /// Returns the union of both sets.
     fn bitor(self, other: ExtensionFlags) -> ExtensionFlags {
@@ -118,16 +124,20 @@ impl ExtensionFlags {
 }
 
 impl Exact for ExtensionFlags {
+    // Proof that `==` is equality, and that `clone` returns the value and cannot fail.
     ghost exact = { Prim.search rules };
 }
 
 impl Flags for ExtensionFlags {
     type Bits = u8;
 
+    // The contracts of `Flags` hold of this type (`⊤`), with the table and the bits below.
     ghost exact = { ⊤ };
 
+    // The name and the bit of each constant.
     ghost table = { inet_extension_flags };
 
+    // The bits of a value.
     ghost set_of = { λ flags. flags.0 };
 
     fn flags<'a>() -> &'a [Flag<ExtensionFlags>] {
@@ -145,10 +155,10 @@ impl Flags for ExtensionFlags {
     }
 }
 
-/// States which bits have a name in this crate: 1 to 11 of a [`StateFlags`], and all eight of an
-/// [`ExtensionFlags`]. `known_bits table` are the bits of all flags in a table of names and bits.
-/// The contract does not concern parsers: the layout of a request has the same numbers as masks,
-/// and its parser clears all other bits.
+/// States which bits have a name in this crate: bits 1 to 11 of a [`StateFlags`] (0xffe), and all
+/// eight bits of an [`ExtensionFlags`] (0xff). `known_bits table` are the bits of all flags in a
+/// table of names and bits. Contracts of parsers do not use these tables: in the layout of a
+/// request 0xffe is the mask of the states, and the byte of extensions has no mask.
 ///
 /// Proof only: the contract states the property.
 #[tactic(auto, unfolding(bitflags::proofs::OnLiterals::bitflags_on_literals))]
@@ -157,7 +167,9 @@ pub fn flags_have_their_bits()
     ensures extensions { known_bits inet_extension_flags ≡ 0xff }
 {}
 
-/// States the bits of each constant of [`StateFlags`].
+/// States the bits of each constant of [`StateFlags`]. `.0` is the set as a number.
+///
+/// Proof only: the contract states the property.
 pub fn state_flags_have_their_values()
     ensures established { StateFlags.ESTABLISHED.0 ≡ 0x2 }
     ensures syn_sent { StateFlags.SYN_SENT.0 ≡ 0x4 }
@@ -172,7 +184,9 @@ pub fn state_flags_have_their_values()
     ensures closing { StateFlags.CLOSING.0 ≡ 0x800 }
 {}
 
-/// States the bits of each constant of [`ExtensionFlags`].
+/// States the bits of each constant of [`ExtensionFlags`]. `.0` is the set as a number.
+///
+/// Proof only: the contract states the property.
 pub fn extension_flags_have_their_values()
     ensures meminfo { ExtensionFlags.MEMINFO.0 ≡ 0x1 }
     ensures info { ExtensionFlags.INFO.0 ≡ 0x2 }

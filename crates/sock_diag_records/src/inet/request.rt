@@ -52,6 +52,7 @@ pub type InetRequestBuffer = RecordBuffer<InetRequest, INET_REQUEST_LEN>;
 impl Record for InetRequest {
     type Param = ();
 
+    // The tag is the IP versions of the source and of the destination address.
     ghost Tag = { IpVersions };
 
     ghost layout = { inet_request };
@@ -69,7 +70,7 @@ impl Record for InetRequest {
     /// Parses the first 56 bytes, and ignores the bytes after them. A family other than AF_INET and
     /// AF_INET6 is [`DecodeError::UnsupportedFamily`]. There have to be 56 bytes: the caller checks
     /// this first, and reports [`DecodeError::BufferTooSmall`].
-    #[tactic(auto, unfolding(crate::specs::InetRequest::inet_request, crate::specs::SocketId::socket_id))]
+    #[tactic(auto, unfolding(crate::specs::InetRequest::inet_request))]
     fn from_fields(payload: &[u8], _param: ()) -> Result<Self, DecodeError> {
         let family = payload[0];
         let socket_id = SocketId::from_fields(&payload[8..], family)?;
@@ -83,7 +84,7 @@ impl Record for InetRequest {
         })
     }
 
-    #[tactic(auto, unfolding(crate::specs::InetRequest::inet_request, crate::specs::SocketId::socket_id), using(crate::specs::laws::SocketId::nested_socket_id_fits))]
+    #[tactic(auto, unfolding(crate::specs::InetRequest::inet_request))]
     fn write_fields(&self, buffer: &mut [u8]) {
         let (start, rest) = buffer.split_at_mut(4);
         let (states, socket_id) = rest.split_at_mut(4);
@@ -95,9 +96,12 @@ impl Record for InetRequest {
         self.socket_id.write_fields(socket_id);
     }
 
+    // Proof of the laws of the record.
     ghost laws = { record_laws inet_request inet_request_sound };
 }
 
 impl Fills<INET_REQUEST_LEN> for InetRequest {
+    // Proof that the record is parsed from at least `INET_REQUEST_LEN` bytes, and that each value
+    // serializes to exactly as many.
     ghost fills = { inet_request_has_fixed_length };
 }

@@ -8,7 +8,8 @@ ghost use Rattle.netlink_core.proofs.LayoutLaws.{record_laws};
 ghost use Rattle.sock_diag_records.specs.IpVersions.{IpVersions};
 ghost use Rattle.sock_diag_records.specs.InetResponse.{inet_response_header};
 ghost use Rattle.sock_diag_records.specs.inverse.InetResponse.{timer_of};
-ghost use Rattle.sock_diag_records.specs.Timer.{timer_class, timer_data, u32_milliseconds};
+ghost use Rattle.sock_diag_records.specs.Timer.{class_of, expires_of, retransmits_of, timer_class};
+ghost use Rattle.sock_diag_records.specs.Timer.{u32_milliseconds};
 ghost use Rattle.sock_diag_records.specs.laws.InetResponse.{inet_response_header_sound};
 ghost use Rattle.sock_diag_records.specs.laws.InetResponse.{inet_response_header_has_fixed_length};
 
@@ -71,12 +72,14 @@ pub struct InetResponseHeader {
 pub type InetResponseBuffer = RecordBuffer<InetResponseHeader, INET_RESPONSE_HEADER_LEN>;
 
 impl Exact for Timer {
+    // Proof that `==` is equality, and that `clone` returns the value and cannot fail.
     ghost exact = { Prim.search rules };
 }
 
 impl Record for InetResponseHeader {
     type Param = ();
 
+    // The tag is the IP versions of both addresses, and the class of the timer.
     ghost Tag = { IpVersions × ℕ };
 
     ghost layout = { inet_response_header };
@@ -94,7 +97,7 @@ impl Record for InetResponseHeader {
     /// Parses the first 72 bytes, and ignores the bytes after them. A family other than AF_INET and
     /// AF_INET6 is [`DecodeError::UnsupportedFamily`]. There have to be 72 bytes: the caller checks
     /// this first, and reports [`DecodeError::BufferTooSmall`].
-    #[tactic(auto, unfolding(crate::specs::InetResponse::inet_response_header, crate::specs::SocketId::socket_id))]
+    #[tactic(auto, unfolding(crate::specs::InetResponse::inet_response_header))]
     #[inline(always)]
     fn from_fields(payload: &[u8], _param: ()) -> Result<Self, DecodeError> {
         let family = payload[0];
@@ -112,27 +115,30 @@ impl Record for InetResponseHeader {
         })
     }
 
-    #[tactic(auto, unfolding(crate::specs::InetResponse::inet_response_header, crate::specs::SocketId::socket_id))]
+    #[tactic(auto, unfolding(crate::specs::InetResponse::inet_response_header))]
     fn write_fields(&self, buffer: &mut [u8]) {
         let (timer, retransmits, expires) = timer_fields(&self.timer);
         let (start, rest) = buffer.split_at_mut(4);
-        let (socket_id, rest) = rest.split_at_mut(SOCKET_ID_LEN);
+        let (socket_id, after_socket_id) = rest.split_at_mut(SOCKET_ID_LEN);
         write_bytes(&[self.family, self.state, timer, retransmits], start);
         self.socket_id.write_fields(socket_id);
-        let words = [
+        let u32s = [
             expires,
             self.recv_queue,
             self.send_queue,
             self.uid,
             self.inode,
         ];
-        write_u32s(&words, rest);
+        write_u32s(&u32s, after_socket_id);
     }
 
+    // Proof of the laws of the record.
     ghost laws = { record_laws inet_response_header inet_response_header_sound };
 }
 
 impl Fills<INET_RESPONSE_HEADER_LEN> for InetResponseHeader {
+    // Proof that the record is parsed from at least `INET_RESPONSE_HEADER_LEN` bytes, and that each
+    // value serializes to exactly as many.
     ghost fills = { inet_response_header_has_fixed_length };
 }
 
@@ -144,7 +150,8 @@ impl InetResponseHeader {
     /// [`DecodeError::Memory`].
     #[inline(always)]
     pub fn from_prefix(payload: &[u8]) -> Result<Self, DecodeError>
-        // parse_record layout param bytes: `Ok` of the value, or `Err` of the first error.
+        // parse_record layout param bytes: `Ok` of the value, or `Err` of the first error. There is
+        // no parameter (`tt`).
         ensures value { result ≡ parse_record inet_response_header tt payload.now }
         ensures not_memory { IfErr result (λ error. error ≢ Memory) }
     {
@@ -162,10 +169,12 @@ fn wrapped_milliseconds(time: Duration) -> u32
 /// Returns the fields `idiag_timer`, `idiag_retrans` and `idiag_expires` of `struct inet_diag_msg`,
 /// the last in whole milliseconds modulo 2^32, with 0 for each that the timer does not have.
 pub fn timer_fields(timer: &Option<Timer>) -> (u8, u8, u32)
-    // timer_data: the number of the timer, the number of retransmits and the time, 0 if absent.
-    ensures byte { result.0 ≡ (timer_data timer.now).0 }
-    ensures retransmits { result.1 ≡ (timer_data timer.now).1 }
-    ensures expires { result.2 ≡ u32_milliseconds (timer_data timer.now).2 }
+    // class_of, retransmits_of and expires_of: the `idiag_timer` of the timer, its number of
+    // retransmits and its time, each 0 if it has none. u32_milliseconds: whole milliseconds modulo
+    // 2^32.
+    ensures class { result.0 ≡ class_of timer.now }
+    ensures retransmits { result.1 ≡ retransmits_of timer.now }
+    ensures expires { result.2 ≡ u32_milliseconds (expires_of timer.now) }
 {
     match timer {
         Some(Timer::Retransmit(expires, retransmits)) => {
@@ -178,8 +187,11 @@ pub fn timer_fields(timer: &Option<Timer>) -> (u8, u8, u32)
     }
 }
 
-// Returns the timer with these fields `idiag_timer`, `idiag_retrans` and `idiag_expires`.
+// Returns the timer with these fields `idiag_timer`, `idiag_retrans` and `idiag_expires`, or `None`
+// if `timer` is none of 1, 2, 3 and 4. A number that the timer does not have is ignored.
 fn timer_from(timer: u8, retransmits: u8, milliseconds: u32) -> Option<Timer>
+    // timer_of class retransmits expires: the timer of this class, with those of the two numbers
+    // that it has, or `None` for class 0. timer_class: the timer byte if it is 1 to 4, else 0.
     ensures { result ≡ timer_of (timer_class timer) retransmits milliseconds }
 {
     let expires = Duration::from_millis(u64::from(milliseconds));

@@ -4,14 +4,15 @@ ghost use Rattle.std.proofs.Common.{rules};
 ghost use Rattle.std.specs.Prelude.{◌≡◌, ◌≢◌, ◌≤◌, ◌+◌, length, replicate, IfErr, ℕ};
 ghost use Rattle.std.specs.declared.net.ip_addr.IpAddr.TheVariants.{V4, V6};
 ghost use Rattle.std.specs.Net.Addr.{ipv4_octets, ipv6_segments};
-ghost use Rattle.netlink_core.specs.Table.{bytes_at, values_of, FitFields, network, array};
+ghost use Rattle.netlink_core.specs.Table.{values_of, FitFields};
 ghost use Rattle.netlink_core.specs.declared.error.DecodeError.TheVariants.{Memory};
 ghost use Rattle.netlink_core.specs.Layout.{parse_record};
 ghost use Rattle.netlink_core.proofs.LayoutLaws.{record_laws};
-ghost use Rattle.sock_diag_records.specs.SocketId.{IsAddress, address_fields, address_values};
+ghost use Rattle.sock_diag_records.specs.SocketId.{HasAddressLength, address_fields};
+ghost use Rattle.sock_diag_records.specs.SocketId.{address_values};
 ghost use Rattle.sock_diag_records.specs.SocketId.{socket_id};
 ghost use Rattle.sock_diag_records.specs.private.SocketId.{address_field_bytes};
-ghost use Rattle.sock_diag_records.specs.IpVersions.{address_data, IpVersions};
+ghost use Rattle.sock_diag_records.specs.IpVersions.{ip_version_of, ipv4, ipv6, IpVersions};
 ghost use Rattle.sock_diag_records.specs.laws.SocketId.{socket_id_sound};
 ghost use Rattle.sock_diag_records.specs.laws.SocketId.{socket_id_has_fixed_length};
 
@@ -51,12 +52,13 @@ impl SocketId {
     /// Returns the id with both ports 0, both addresses 0.0.0.0, interface 0, and a cookie of eight
     /// zeros.
     pub fn new_v4() -> Self
-        ensures { let none : IpAddr = V4 record { octets = replicate 4 0 } in result
+        // `unspecified`: the address 0.0.0.0, which has four octets 0.
+        ensures { let unspecified : IpAddr = V4 record { octets = replicate 4 0 } in result
             ≡ record {
               source_port = 0;
               destination_port = 0;
-              source_address = none;
-              destination_address = none;
+              source_address = unspecified;
+              destination_address = unspecified;
               interface_id = 0;
               cookie = replicate 8 0;
             } }
@@ -74,12 +76,13 @@ impl SocketId {
     /// Returns the id with both ports 0, both addresses `::`, interface 0, and a cookie of eight
     /// zeros.
     pub fn new_v6() -> Self
-        ensures { let none : IpAddr = V6 record { segments = replicate 8 0 } in result
+        // `unspecified`: the address `::`, which has eight segments 0.
+        ensures { let unspecified : IpAddr = V6 record { segments = replicate 8 0 } in result
             ≡ record {
               source_port = 0;
               destination_port = 0;
-              source_address = none;
-              destination_address = none;
+              source_address = unspecified;
+              destination_address = unspecified;
               interface_id = 0;
               cookie = replicate 8 0;
             } }
@@ -98,10 +101,12 @@ impl SocketId {
 /// The 48 bytes of a [`SocketId`], including the ignored ones.
 pub type SocketIdBuffer = RecordBuffer<SocketId, SOCKET_ID_LEN>;
 
-// Parses the IPv4 address at the offset.
+// Parses the IPv4 address at the offset: four octets. Requires that the bytes contain them.
 fn ipv4_at(bytes: &[u8], offset: usize) -> Ipv4Addr
     requires { offset + 4 ≤ length bytes.now }
-    ensures { ipv4_octets result ≡ values_of (bytes_at offset 4) bytes.now }
+    // address_fields offset version: the fields of an address of this IP version at the offset.
+    // values_of fields bytes: the numbers in those that are not ignored, here the octets.
+    ensures { ipv4_octets result ≡ values_of (address_fields offset ipv4) bytes.now }
 {
     Ipv4Addr::new(
         bytes[offset],
@@ -111,21 +116,28 @@ fn ipv4_at(bytes: &[u8], offset: usize) -> Ipv4Addr
     )
 }
 
-// Parses the IPv6 address at the offset.
+// Parses the IPv6 address at the offset: eight segments of two bytes in network byte order.
+// Requires that the bytes contain them.
 fn ipv6_at(bytes: &[u8], offset: usize) -> Ipv6Addr
     requires { offset + 16 ≤ length bytes.now }
-    ensures { ipv6_segments result ≡ values_of (array network offset 2 8) bytes.now }
+    // address_fields offset version: the fields of an address of this IP version at the offset.
+    // values_of fields bytes: the numbers in those that are not ignored, here the segments.
+    ensures { ipv6_segments result ≡ values_of (address_fields offset ipv6) bytes.now }
 {
     Ipv6Addr::from_segments(u16s_be_at(bytes, offset))
 }
 
-// Writes an address. Zeros follow the four bytes of an IPv4 address.
+// Writes an address to a buffer of exactly 16 bytes. Zeros follow the four bytes of an IPv4
+// address.
 fn write_address(address: IpAddr, buffer: &mut [u8])
     requires { length buffer.old ≡ 16 }
     ensures written { buffer.new ≡ address_field_bytes address }
-    ensures shaped { IsAddress address }
+    // `shaped` and `in_range` hold for each Rust address; they are stated for the laws of the
+    // record. The address has the number of octets or segments of its IP version.
+    ensures shaped { HasAddressLength address }
+    // The octets or segments fit their fields, at whatever offset the address is stored.
     ensures in_range { (offset : ℕ)
-        → FitFields (address_fields offset (address_data address).0) (address_values address) }
+        → FitFields (address_fields offset (ip_version_of address)) (address_values address) }
 {
     match address {
         IpAddr::V4(ip) => {
@@ -137,12 +149,14 @@ fn write_address(address: IpAddr, buffer: &mut [u8])
 }
 
 impl Exact for SocketId {
+    // Proof that `==` is equality, and that `clone` returns the value and cannot fail.
     ghost exact = { (Prim.search rules, Prim.search rules, Prim.search rules depth 12) };
 }
 
 impl Record for SocketId {
     type Param = u8;
 
+    // The tag is the IP versions of the source and of the destination address.
     ghost Tag = { IpVersions };
 
     ghost layout = { socket_id };
@@ -199,6 +213,7 @@ impl Record for SocketId {
         write_bytes(&self.cookie, cookie);
     }
 
+    // Proof of the laws of the record.
     ghost laws = { record_laws socket_id socket_id_sound };
 }
 
@@ -218,5 +233,7 @@ impl SocketId {
 }
 
 impl Fills<SOCKET_ID_LEN> for SocketId {
+    // Proof that the record is parsed from at least `SOCKET_ID_LEN` bytes, and that each value
+    // serializes to exactly as many.
     ghost fills = { socket_id_has_fixed_length };
 }

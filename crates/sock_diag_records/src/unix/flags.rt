@@ -21,7 +21,8 @@ pub struct StateFlags(u32);
 impl BitOr for StateFlags {
     type Output = StateFlags;
 
-    ghost bitor_gives = { λ v w both. both.0 ≡ bit_or v.0 w.0 };
+    // `left | right` returns `union`, whose bits (`.0`) are those of `left` and those of `right`.
+    ghost bitor_gives = { λ left right union. union.0 ≡ bit_or left.0 right.0 };
 
     /// Returns the union of both sets.
     fn bitor(self, other: StateFlags) -> StateFlags {
@@ -37,16 +38,20 @@ impl StateFlags {
 }
 
 impl Exact for StateFlags {
+    // Proof that `==` is equality, and that `clone` returns the value and cannot fail.
     ghost exact = { Prim.search rules };
 }
 
 impl Flags for StateFlags {
     type Bits = u32;
 
+    // The contracts of `Flags` hold of this type (`⊤`), with the table and the bits below.
     ghost exact = { ⊤ };
 
+    // The name and the bit of each constant.
     ghost table = { unix_state_flags };
 
+    // The bits of a value.
     ghost set_of = { λ flags. flags.0 };
 
     fn flags<'a>() -> &'a [Flag<StateFlags>] {
@@ -71,7 +76,8 @@ pub struct ShowFlags(u32);
 impl BitOr for ShowFlags {
     type Output = ShowFlags;
 
-    ghost bitor_gives = { λ v w both. both.0 ≡ bit_or v.0 w.0 };
+    // `left | right` returns `union`, whose bits (`.0`) are those of `left` and those of `right`.
+    ghost bitor_gives = { λ left right union. union.0 ≡ bit_or left.0 right.0 };
 
     /// Returns the union of both sets.
     fn bitor(self, other: ShowFlags) -> ShowFlags {
@@ -95,16 +101,20 @@ impl ShowFlags {
 }
 
 impl Exact for ShowFlags {
+    // Proof that `==` is equality, and that `clone` returns the value and cannot fail.
     ghost exact = { Prim.search rules };
 }
 
 impl Flags for ShowFlags {
     type Bits = u32;
 
+    // The contracts of `Flags` hold of this type (`⊤`), with the table and the bits below.
     ghost exact = { ⊤ };
 
+    // The name and the bit of each constant.
     ghost table = { unix_show_flags };
 
+    // The bits of a value.
     ghost set_of = { λ flags. flags.0 };
 
     fn flags<'a>() -> &'a [Flag<ShowFlags>] {
@@ -120,10 +130,10 @@ impl Flags for ShowFlags {
     }
 }
 
-/// States which bits have a name in this crate: 1 and 10 of a [`StateFlags`], and 0 to 5 of a
-/// [`ShowFlags`]. `known_bits table` are the bits of all flags in a table of names and bits. The
-/// contract does not concern parsers: the layout of a request has the same numbers as masks, and
-/// its parser clears all other bits.
+/// States which bits have a name in this crate: bits 1 and 10 of a [`StateFlags`] (0x402), and bits
+/// 0 to 5 of a [`ShowFlags`] (0x3f). `known_bits table` are the bits of all flags in a table of
+/// names and bits. Contracts of parsers do not use these tables: the layout of a request has the
+/// same two numbers as masks.
 ///
 /// Proof only: the contract states the property.
 #[tactic(auto, unfolding(bitflags::proofs::OnLiterals::bitflags_on_literals))]
@@ -132,13 +142,17 @@ pub fn flags_have_their_bits()
     ensures shown { known_bits unix_show_flags ≡ 0x3f }
 {}
 
-/// States the bits of each constant of [`StateFlags`].
+/// States the bits of each constant of [`StateFlags`]. `.0` is the set as a number.
+///
+/// Proof only: the contract states the property.
 pub fn state_flags_have_their_values()
     ensures established { StateFlags.ESTABLISHED.0 ≡ 0x2 }
     ensures listen { StateFlags.LISTEN.0 ≡ 0x400 }
 {}
 
-/// States the bits of each constant of [`ShowFlags`].
+/// States the bits of each constant of [`ShowFlags`]. `.0` is the set as a number.
+///
+/// Proof only: the contract states the property.
 pub fn show_flags_have_their_values()
     ensures name { ShowFlags.NAME.0 ≡ 0x1 }
     ensures vfs { ShowFlags.VFS.0 ≡ 0x2 }

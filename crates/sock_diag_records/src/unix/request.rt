@@ -37,6 +37,7 @@ pub struct UnixRequest {
 pub type UnixRequestBuffer = RecordBuffer<UnixRequest, UNIX_REQUEST_LEN>;
 
 impl Exact for UnixRequest {
+    // Proof that `==` is equality, and that `clone` returns the value and cannot fail.
     ghost exact = { Prim.search rules };
 }
 
@@ -67,18 +68,21 @@ impl Record for UnixRequest {
 
     fn write_fields(&self, buffer: &mut [u8]) {
         let (start, rest) = buffer.split_at_mut(4);
-        let (words, cookie) = rest.split_at_mut(12);
+        let (u32s, cookie) = rest.split_at_mut(12);
         write_bytes(&[AF_UNIX, 0, 0, 0], start);
         write_u32s(
             &[self.state_flags.bits(), self.inode, self.show_flags.bits()],
-            words,
+            u32s,
         );
         write_bytes(&self.cookie, cookie);
     }
 
+    // Proof of the laws of the record.
     ghost laws = { record_laws unix_request unix_request_sound };
 }
 
 impl Fills<UNIX_REQUEST_LEN> for UnixRequest {
+    // Proof, by computation, that the record is parsed from at least `UNIX_REQUEST_LEN` bytes, and
+    // that each value serializes to exactly as many.
     ghost fills = { (refl, λ _. refl) };
 }

@@ -34,6 +34,7 @@ pub struct UnixResponseHeader {
 pub type UnixResponseBuffer = RecordBuffer<UnixResponseHeader, UNIX_RESPONSE_HEADER_LEN>;
 
 impl Exact for UnixResponseHeader {
+    // Proof that `==` is equality, and that `clone` returns the value and cannot fail.
     ghost exact = { Prim.search rules };
 }
 
@@ -70,6 +71,7 @@ impl Record for UnixResponseHeader {
         write_bytes(&self.cookie, cookie);
     }
 
+    // Proof of the laws of the record.
     ghost laws = { record_laws unix_response_header unix_response_header_sound };
 }
 
@@ -78,7 +80,8 @@ impl UnixResponseHeader {
     /// not checked. It does not allocate. Fewer bytes are [`DecodeError::BufferTooSmall`], the only
     /// error.
     pub fn from_prefix(payload: &[u8]) -> Result<Self, DecodeError>
-        // parse_record layout param bytes: `Ok` of the value, or `Err` of the first error.
+        // parse_record layout param bytes: `Ok` of the value, or `Err` of the first error. There is
+        // no parameter (`tt`).
         ensures { result ≡ parse_record unix_response_header tt payload.now }
     {
         read_record(payload, ())
@@ -86,5 +89,7 @@ impl UnixResponseHeader {
 }
 
 impl Fills<UNIX_RESPONSE_HEADER_LEN> for UnixResponseHeader {
+    // Proof, by computation, that the record is parsed from at least `UNIX_RESPONSE_HEADER_LEN`
+    // bytes, and that each value serializes to exactly as many.
     ghost fills = { (refl, λ _. refl) };
 }

@@ -2,8 +2,9 @@
 use Rattle.std.specs.Prelude.{ℕ, List, slice_index, slice_get}
 use Rattle.sock_diag_values.specs.declared.inet.mem_info.MemInfo.{MemInfo}
 
--- The value with these numbers in its fields, in the order of the rows. The last two are absent if
--- there are fewer than eight or nine numbers.
+-- `mem_info_of values`: the value with these seven to nine numbers in its fields, in the order of
+-- the rows of `mem_info`. With fewer than eight numbers the backlog is `None`, with fewer than nine
+-- the drops (`slice_get`).
 abbrev pub mem_info_of : List ℕ → MemInfo
 mem_info_of values = record {
   receive_queue = slice_index values 0;

@@ -1,71 +1,63 @@
 -- The inverse of the layout `tcp_info`.
-use Rattle.std.specs.Prelude.{ℕ, List, drop, slice_index}
+use Rattle.std.specs.Prelude.{ℕ, List, slice_index}
 use Rattle.sock_diag_values.specs.declared.inet.tcp_info.TcpInfo.{TcpInfo}
 
--- the value with these numbers in its fields, by groups of consecutive fields of one width
-abbrev pub with_fields : (u8s_at_0 u32s_at_8 u32s_at_44 u32s_at_60 u32s_at_92 u64s_at_104
-    u32s_at_136 u64s_at_160 u32s_at_192 u64s_at_200 u32s_at_216 : List ℕ) → TcpInfo
-with_fields u8s_at_0 u32s_at_8 u32s_at_44 u32s_at_60 u32s_at_92 u64s_at_104 u32s_at_136 u64s_at_160
-    u32s_at_192 u64s_at_200 u32s_at_216 =
-    record {
-      state = slice_index u8s_at_0 0;
-      ca_state = slice_index u8s_at_0 1;
-      retransmits = slice_index u8s_at_0 2;
-      probes = slice_index u8s_at_0 3;
-      backoff = slice_index u8s_at_0 4;
-      options = slice_index u8s_at_0 5;
-      wscale = slice_index u8s_at_0 6;
-      delivery_rate_app_limited = slice_index u8s_at_0 7;
-      rto = slice_index u32s_at_8 0;
-      ato = slice_index u32s_at_8 1;
-      snd_mss = slice_index u32s_at_8 2;
-      rcv_mss = slice_index u32s_at_8 3;
-      unacked = slice_index u32s_at_8 4;
-      sacked = slice_index u32s_at_8 5;
-      lost = slice_index u32s_at_8 6;
-      retrans = slice_index u32s_at_8 7;
-      fackets = slice_index u32s_at_8 8;
-      last_data_sent = slice_index u32s_at_44 0;
-      last_ack_sent = slice_index u32s_at_44 1;
-      last_data_recv = slice_index u32s_at_44 2;
-      last_ack_recv = slice_index u32s_at_44 3;
-      pmtu = slice_index u32s_at_60 0;
-      rcv_ssthresh = slice_index u32s_at_60 1;
-      rtt = slice_index u32s_at_60 2;
-      rttvar = slice_index u32s_at_60 3;
-      snd_ssthresh = slice_index u32s_at_60 4;
-      snd_cwnd = slice_index u32s_at_60 5;
-      advmss = slice_index u32s_at_60 6;
-      reordering = slice_index u32s_at_60 7;
-      rcv_rtt = slice_index u32s_at_92 0;
-      rcv_space = slice_index u32s_at_92 1;
-      total_retrans = slice_index u32s_at_92 2;
-      pacing_rate = slice_index u64s_at_104 0;
-      max_pacing_rate = slice_index u64s_at_104 1;
-      bytes_acked = slice_index u64s_at_104 2;
-      bytes_received = slice_index u64s_at_104 3;
-      segs_out = slice_index u32s_at_136 0;
-      segs_in = slice_index u32s_at_136 1;
-      notsent_bytes = slice_index u32s_at_136 2;
-      min_rtt = slice_index u32s_at_136 3;
-      data_segs_in = slice_index u32s_at_136 4;
-      data_segs_out = slice_index u32s_at_136 5;
-      delivery_rate = slice_index u64s_at_160 0;
-      busy_time = slice_index u64s_at_160 1;
-      rwnd_limited = slice_index u64s_at_160 2;
-      sndbuf_limited = slice_index u64s_at_160 3;
-      delivered = slice_index u32s_at_192 0;
-      delivered_ce = slice_index u32s_at_192 1;
-      bytes_sent = slice_index u64s_at_200 0;
-      bytes_retrans = slice_index u64s_at_200 1;
-      dsack_dups = slice_index u32s_at_216 0;
-      reord_seen = slice_index u32s_at_216 1;
-      rcv_ooopack = slice_index u32s_at_216 2;
-      snd_wnd = slice_index u32s_at_216 3;
-    }
-
--- the value with these numbers in its fields, in the order of the rows
+-- `tcp_info_of values`: the value with these numbers in its fields, in the order of the rows of
+-- `tcp_info`
 abbrev pub tcp_info_of : List ℕ → TcpInfo
-tcp_info_of values = with_fields values (drop 8 values) (drop 17 values) (drop 21 values)
-    (drop 29 values) (drop 32 values) (drop 36 values) (drop 42 values) (drop 46 values)
-    (drop 48 values) (drop 50 values)
+tcp_info_of values = record {
+  state = slice_index values 0;
+  ca_state = slice_index values 1;
+  retransmits = slice_index values 2;
+  probes = slice_index values 3;
+  backoff = slice_index values 4;
+  options = slice_index values 5;
+  wscale = slice_index values 6;
+  delivery_rate_app_limited = slice_index values 7;
+  rto = slice_index values 8;
+  ato = slice_index values 9;
+  snd_mss = slice_index values 10;
+  rcv_mss = slice_index values 11;
+  unacked = slice_index values 12;
+  sacked = slice_index values 13;
+  lost = slice_index values 14;
+  retrans = slice_index values 15;
+  fackets = slice_index values 16;
+  last_data_sent = slice_index values 17;
+  last_ack_sent = slice_index values 18;
+  last_data_recv = slice_index values 19;
+  last_ack_recv = slice_index values 20;
+  pmtu = slice_index values 21;
+  rcv_ssthresh = slice_index values 22;
+  rtt = slice_index values 23;
+  rttvar = slice_index values 24;
+  snd_ssthresh = slice_index values 25;
+  snd_cwnd = slice_index values 26;
+  advmss = slice_index values 27;
+  reordering = slice_index values 28;
+  rcv_rtt = slice_index values 29;
+  rcv_space = slice_index values 30;
+  total_retrans = slice_index values 31;
+  pacing_rate = slice_index values 32;
+  max_pacing_rate = slice_index values 33;
+  bytes_acked = slice_index values 34;
+  bytes_received = slice_index values 35;
+  segs_out = slice_index values 36;
+  segs_in = slice_index values 37;
+  notsent_bytes = slice_index values 38;
+  min_rtt = slice_index values 39;
+  data_segs_in = slice_index values 40;
+  data_segs_out = slice_index values 41;
+  delivery_rate = slice_index values 42;
+  busy_time = slice_index values 43;
+  rwnd_limited = slice_index values 44;
+  sndbuf_limited = slice_index values 45;
+  delivered = slice_index values 46;
+  delivered_ce = slice_index values 47;
+  bytes_sent = slice_index values 48;
+  bytes_retrans = slice_index values 49;
+  dsack_dups = slice_index values 50;
+  reord_seen = slice_index values 51;
+  rcv_ooopack = slice_index values 52;
+  snd_wnd = slice_index values 53;
+}

@@ -2,10 +2,11 @@
 use Rattle.std.specs.Prelude.{ℕ, List, slice_index}
 use Rattle.sock_diag_values.specs.declared.unix.mem_info.MemInfo.{MemInfo}
 
--- the value with these numbers in the three fields that are not ignored
+-- `unix_mem_info_of values`: the value with these three numbers in the fields that are not ignored,
+-- in the order of the rows of `unix_mem_info`
 abbrev pub unix_mem_info_of : List ℕ → MemInfo
-unix_mem_info_of words = record {
-  so_rcvbuf = slice_index words 0;
-  max_datagram_size = slice_index words 1;
-  alloc = slice_index words 2;
+unix_mem_info_of values = record {
+  so_rcvbuf = slice_index values 0;
+  max_datagram_size = slice_index values 1;
+  alloc = slice_index values 2;
 }

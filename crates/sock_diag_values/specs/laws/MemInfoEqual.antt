@@ -7,7 +7,7 @@ use Rattle.sock_diag_values.specs.declared.inet.mem_info.MemInfo.{MemInfo}
 use Rattle.sock_diag_values.specs.declared.inet.mem_info.MemInfoBytes.{MemInfoBytes}
 use Rattle.sock_diag_values.specs.declared.inet.mem_info.MemInfoBuffer.{MemInfoBuffer}
 use Rattle.sock_diag_values.specs.contracts.inet.mem_info.MemInfoBytesPartialEq.TheImpl.{
-  ghosts as held,
+  ghosts as buffer_bytes,
 }
 
 pub mem_info_equal : (v w : MemInfo)
@@ -20,9 +20,9 @@ pub mem_info_equal : (v w : MemInfo)
     && option_eq eqb v.drops w.drops)))))))) ↔ (v ≡ w)
 mem_info_equal v w = (λ h. grind arith, λ e. grind (arith, e))
 
-pub bytes_equal : (v w : MemInfoBytes) → IsTrue (held.eq v w) ↔ (v ≡ w)
+pub bytes_equal : (v w : MemInfoBytes) → IsTrue (buffer_bytes.eq v w) ↔ (v ≡ w)
 bytes_equal v w =
     grind (arith, bytes_decides)
 
-pub buffer_equal : (v w : MemInfoBuffer) → IsTrue (held.eq v.bytes w.bytes) ↔ (v ≡ w)
+pub buffer_equal : (v w : MemInfoBuffer) → IsTrue (buffer_bytes.eq v.bytes w.bytes) ↔ (v ≡ w)
 buffer_equal v w = (λ h. grind (arith, bytes_equal), λ e. grind (arith, bytes_equal, e))

@@ -3,8 +3,9 @@
 ghost use Rattle.std.specs.Prelude.{◌≡◌, refl};
 ghost use Rattle.std.proofs.Common.{rules};
 ghost use Rattle.netlink_core.specs.Layout.{parse_record};
-ghost use Rattle.netlink_core.proofs.LayoutLaws.{plain_sound, record_laws};
+ghost use Rattle.netlink_core.proofs.LayoutLaws.{record_laws};
 ghost use Rattle.sock_diag_values.specs.LegacyMemInfo.{legacy_mem_info};
+ghost use Rattle.sock_diag_values.specs.laws.PlainLayouts.{legacy_mem_info_sound};
 
 use netlink_core::fields::{u32s_at, write_u32s};
 use netlink_core::{DecodeError, Exact, Fills, Record, RecordBuffer, RecordName, read_record};
@@ -37,6 +38,7 @@ pub struct LegacyMemInfo {
 pub type LegacyMemInfoBuffer = RecordBuffer<LegacyMemInfo, LEGACY_MEM_INFO_LEN>;
 
 impl Exact for LegacyMemInfo {
+    // Proof that `==` is equality, and that `clone` returns the value and cannot fail.
     ghost exact = { Prim.search rules };
 }
 
@@ -53,6 +55,8 @@ impl Record for LegacyMemInfo {
         LEGACY_MEM_INFO_LEN
     }
 
+    /// Parses the first 16 bytes, and ignores the bytes after them. There have to be 16 bytes: the
+    /// caller checks this first, and reports [`DecodeError::BufferTooSmall`].
     fn from_fields(payload: &[u8], _param: ()) -> Result<Self, DecodeError> {
         let [receive_queue, bottom_send_queue, cache, send_queue] = u32s_at::<4>(payload, 0);
         Ok(LegacyMemInfo {
@@ -75,11 +79,13 @@ impl Record for LegacyMemInfo {
         );
     }
 
-    ghost laws = { record_laws legacy_mem_info (plain_sound refl (λ _. refl) (λ _. refl) (λ _. tt)
-        (λ _ _. refl)) };
+    // Proof of the laws of the record.
+    ghost laws = { record_laws legacy_mem_info legacy_mem_info_sound };
 }
 
 impl Fills<LEGACY_MEM_INFO_LEN> for LegacyMemInfo {
+    // Proof, by computation, that the record is parsed from at least `LEGACY_MEM_INFO_LEN` bytes,
+    // and that each value serializes to exactly as many.
     ghost fills = { (refl, λ _. refl) };
 }
 
@@ -87,7 +93,8 @@ impl LegacyMemInfo {
     /// Parses the first 16 bytes, and ignores the bytes after them. Fewer bytes are
     /// [`DecodeError::BufferTooSmall`].
     pub fn parse(payload: &[u8]) -> Result<Self, DecodeError>
-        // parse_record layout param bytes: `Ok` of the value, or `Err` of the first error.
+        // parse_record layout param bytes: `Ok` of the value, or `Err` of the first error. There is
+        // no parameter (`tt`).
         ensures { result ≡ parse_record legacy_mem_info tt payload.now }
     {
         read_record(payload, ())

@@ -77,20 +77,24 @@ pub enum MemInfoBytes {
 }
 
 impl Exact for MemInfo {
+    // Proof that `==` is equality, and that `clone` returns the value and cannot fail.
     ghost exact = { (mem_info_equal, Prim.search rules, Prim.search rules) };
 }
 
 impl Exact for MemInfoBytes {
+    // Proof that `==` is equality, and that `clone` returns the value and cannot fail.
     ghost exact = { (bytes_equal, Prim.search rules, Prim.search rules) };
 }
 
 impl Exact for MemInfoBuffer {
+    // Proof that `==` is equality, and that `clone` returns the value and cannot fail.
     ghost exact = { (buffer_equal, Prim.search rules, Prim.search rules) };
 }
 
 impl Record for MemInfo {
     type Param = ();
 
+    // The tag is the number of `u32`: 7, 8 or 9.
     ghost Tag = { ℕ };
 
     ghost layout = { mem_info };
@@ -107,6 +111,9 @@ impl Record for MemInfo {
         }
     }
 
+    /// Parses as many `u32` as the bytes contain, at most nine, and ignores the bytes after them.
+    /// There have to be 28 bytes: the caller checks this first, and reports
+    /// [`DecodeError::BufferTooSmall`].
     fn from_fields(payload: &[u8], _param: ()) -> Result<Self, DecodeError> {
         let [
             receive_queue,
@@ -125,13 +132,13 @@ impl Record for MemInfo {
             cache,
             send_queue,
             options,
-            backlog_queue_length: word_at(payload, 28),
-            drops: word_at(payload, 32),
+            backlog_queue_length: u32_if_present(payload, 28),
+            drops: u32_if_present(payload, 32),
         })
     }
 
     fn write_fields(&self, buffer: &mut [u8]) {
-        let (words, rest) = buffer.split_at_mut(MEM_INFO_SEVEN_LEN);
+        let (first_seven, others) = buffer.split_at_mut(MEM_INFO_SEVEN_LEN);
         write_u32s(
             &[
                 self.receive_queue,
@@ -142,15 +149,17 @@ impl Record for MemInfo {
                 self.send_queue,
                 self.options,
             ],
-            words,
+            first_seven,
         );
         match (self.backlog_queue_length, self.drops) {
-            (backlog, Some(drops)) => write_u32s(&[backlog.unwrap_or(0), drops], rest),
-            (Some(backlog), None) => write_u32s(&[backlog], rest),
+            // The drops are the ninth `u32`: a missing backlog before them is written as 0.
+            (backlog, Some(drops)) => write_u32s(&[backlog.unwrap_or(0), drops], others),
+            (Some(backlog), None) => write_u32s(&[backlog], others),
             (None, None) => {}
         }
     }
 
+    // Proof of the laws of the record.
     ghost laws = { record_laws mem_info mem_info_sound };
 }
 
@@ -159,7 +168,8 @@ impl MemInfo {
     /// 32 bytes has no drops, and one of 28 bytes neither a backlog nor drops: these fields are
     /// `None`. Fewer than 28 bytes are [`DecodeError::BufferTooSmall`].
     pub fn parse(payload: &[u8]) -> Result<Self, DecodeError>
-        // parse_record layout param bytes: `Ok` of the value, or `Err` of the first error.
+        // parse_record layout param bytes: `Ok` of the value, or `Err` of the first error. There is
+        // no parameter (`tt`).
         ensures { result ≡ parse_record mem_info tt payload.now }
     {
         read_record(payload, ())
@@ -167,16 +177,18 @@ impl MemInfo {
 }
 
 impl MemInfoBuffer {
-    /// Copies the longest prefix of 36, 32 or 28 bytes. Returns `None` if and only if there are
-    /// fewer than 28 bytes.
+    /// Copies the longest prefix of 36, 32 or 28 bytes, and ignores the bytes after it. Returns
+    /// `None` if and only if there are fewer than 28 bytes.
     pub fn read_prefix(payload: &[u8]) -> Option<Self>
-        ensures enough { IsSome result ↔ 28 ≤ length payload.now }
+        ensures enough { IsSome result ↔ MEM_INFO_SEVEN_LEN ≤ length payload.now }
         // The bytes in the buffer, whatever its variant, are the first seven, eight or nine `u32`
-        // of the payload: as many as it contains, at most nine.
+        // of the payload (`mem_info_u32_count`), of four bytes each: as many as it contains, at
+        // most nine.
         ensures bytes { IfSome result
             (λ buffer. mem_info_buffer_bytes buffer.bytes
             ≡ take (4 * mem_info_u32_count (length payload.now)) payload.now) }
     {
+        // Each variant determines the length of its chunk: 36, 32 or 28 bytes.
         let bytes = if let Some(bytes) = payload.first_chunk() {
             MemInfoBytes::Nine(*bytes)
         } else if let Some(bytes) = payload.first_chunk() {
@@ -196,16 +208,18 @@ impl MemInfoBuffer {
 }
 
 impl From<&MemInfo> for MemInfoBuffer {
-    // The bytes in the buffer are those that the value serializes to, and the value is in range.
+    // The bytes in the buffer, whatever its variant, are those that the value serializes to. The
+    // value is in range, as each Rust value is; this is stated for proofs about the bytes.
     ghost from_gives = { λ value buffer.
         (mem_info_buffer_bytes buffer.bytes ≡ record_bytes mem_info value.now)
         × IsInRange mem_info value.now };
 
     fn from(value: &MemInfo) -> Self {
+        // Each variant determines the `N` of `to_array`: 36, 32 or 28.
         let bytes = match (value.backlog_queue_length, value.drops) {
-            (_, Some(_)) => MemInfoBytes::Nine(row_of(value)),
-            (Some(_), None) => MemInfoBytes::Eight(row_of(value)),
-            (None, None) => MemInfoBytes::Seven(row_of(value)),
+            (_, Some(_)) => MemInfoBytes::Nine(to_array(value)),
+            (Some(_), None) => MemInfoBytes::Eight(to_array(value)),
+            (None, None) => MemInfoBytes::Seven(to_array(value)),
         };
         MemInfoBuffer { bytes }
     }
@@ -214,6 +228,7 @@ impl From<&MemInfo> for MemInfoBuffer {
 impl MemInfoBytes {
     /// Returns the 28, 32 or 36 bytes as a slice.
     pub fn as_slice(&self) -> &[u8]
+        // mem_info_buffer_bytes array: the bytes in the array, whatever its variant.
         ensures { result.now ≡ mem_info_buffer_bytes self.now }
     {
         match self {
@@ -224,19 +239,25 @@ impl MemInfoBytes {
     }
 }
 
-// Returns the little-endian `u32` at the offset, or `None` if the bytes end before its end.
-fn word_at(payload: &[u8], offset: usize) -> Option<u32>
+// Returns the little-endian `u32` at the offset, or `None` if the payload does not contain all of
+// its four bytes.
+fn u32_if_present(payload: &[u8], offset: usize) -> Option<u32>
+    // The end of the field, `offset + 4`, does not overflow a `usize`.
     requires { offset + 4 < 2 ^ 64 }
+    // SomeIff option condition value: the option is `Some value` if the condition holds, else
+    // `None`.
     ensures { SomeIff result (offset + 4 ≤ length payload.now)
         (little_number 4 (drop offset payload.now)) }
 {
     Some(LittleEndian::read_u32(payload.get(offset..offset + 4)?))
 }
 
-// Serializes a value whose serialized form has `N` bytes.
-fn row_of<const N: usize>(value: &MemInfo) -> [u8; N]
+// Returns the bytes that the value serializes to. Requires that there are exactly `N` of them.
+fn to_array<const N: usize>(value: &MemInfo) -> [u8; N]
     requires { length (record_bytes mem_info value.now) ≡ N }
     ensures written { result ≡ record_bytes mem_info value.now }
+    // Each number of the value fits its field. This is so for each Rust value; it is stated for
+    // proofs about the bytes.
     ensures in_range { IsInRange mem_info value.now }
 {
     let mut buffer = [0; N];

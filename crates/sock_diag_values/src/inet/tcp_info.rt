@@ -10,8 +10,8 @@ ghost use Rattle.sock_diag_values.specs.private.TcpInfo.{u32s_at_60, u32s_at_92,
 ghost use Rattle.sock_diag_values.specs.private.TcpInfo.{u32s_at_136, u64s_at_160, u32s_at_192};
 ghost use Rattle.sock_diag_values.specs.private.TcpInfo.{u64s_at_200, u32s_at_216, bytes_0_to_92};
 ghost use Rattle.sock_diag_values.specs.private.TcpInfo.{bytes_92_to_192, bytes_192_to_232};
-ghost use Rattle.sock_diag_values.specs.private.TcpInfo.{FitIn0To92, FitIn92To192};
-ghost use Rattle.sock_diag_values.specs.private.TcpInfo.{FitIn192To232};
+ghost use Rattle.sock_diag_values.specs.private.TcpInfo.{ValuesFitIn0To92, ValuesFitIn92To192};
+ghost use Rattle.sock_diag_values.specs.private.TcpInfo.{ValuesFitIn192To232};
 ghost use Rattle.sock_diag_values.specs.laws.TcpInfoEqual.{tcp_info_equal};
 ghost use Rattle.sock_diag_values.specs.laws.TcpInfo.{tcp_info_sound};
 
@@ -167,8 +167,10 @@ pub type TcpInfoBuffer = RecordBuffer<TcpInfo, TCP_INFO_LEN>;
 // Implemented by hand: a derived `clone` has a branch for each copied field, and takes a minute to
 // prove.
 impl Clone for TcpInfo {
+    // `copy` is a clone of `info` if it is the same value.
     ghost is_clone = { λ info copy. copy ≡ info };
 
+    // Cloning never fails (`⊤`).
     ghost is_infallible = { λ _. ⊤ };
 
     fn clone(&self) -> Result<Self, AllocError> {
@@ -177,6 +179,7 @@ impl Clone for TcpInfo {
 }
 
 impl Exact for TcpInfo {
+    // Proof that `==` is equality, and that `clone` returns the value and cannot fail.
     ghost exact = { (tcp_info_equal, Prim.search rules, Prim.search rules) };
 }
 
@@ -195,6 +198,8 @@ impl Record for TcpInfo {
         TCP_INFO_LEN
     }
 
+    /// Parses the first 232 bytes, and ignores the bytes after them. There have to be 232 bytes:
+    /// the caller checks this first, and reports [`DecodeError::BufferTooSmall`].
     // Inlined, so that fields that the caller does not use are not read.
     #[tactic(auto, unfolding(crate::specs::TcpInfo::tcp_info))]
     #[inline(always)]
@@ -270,19 +275,22 @@ impl Record for TcpInfo {
 
     #[tactic(auto, unfolding(crate::specs::TcpInfo::tcp_info))]
     fn write_fields(&self, buffer: &mut [u8]) {
-        let (front, rest) = buffer.split_at_mut(92);
-        let (middle, back) = rest.split_at_mut(100);
-        self.write_front(front);
-        self.write_middle(middle);
-        self.write_back(back);
+        let (bytes_0_to_92, rest) = buffer.split_at_mut(92);
+        let (bytes_92_to_192, bytes_192_to_232) = rest.split_at_mut(192 - 92);
+        self.write_0_to_92(bytes_0_to_92);
+        self.write_92_to_192(bytes_92_to_192);
+        self.write_192_to_232(bytes_192_to_232);
     }
 
+    // Proof of the laws of the record.
     ghost laws = { record_laws tcp_info tcp_info_sound };
 }
 
 impl Fills<TCP_INFO_LEN> for TcpInfo {
     ghost use Rattle.sock_diag_values.specs.laws.TcpInfo.{tcp_info_has_fixed_length};
 
+    // Proof that the record is parsed from at least `TCP_INFO_LEN` bytes, and that each value
+    // serializes to exactly as many.
     ghost fills = { tcp_info_has_fixed_length };
 }
 
@@ -291,17 +299,19 @@ impl TcpInfo {
     /// [`DecodeError::BufferTooSmall`].
     #[inline(always)]
     pub fn parse(payload: &[u8]) -> Result<Self, DecodeError>
-        // parse_record layout param bytes: `Ok` of the value, or `Err` of the first error.
+        // parse_record layout param bytes: `Ok` of the value, or `Err` of the first error. There is
+        // no parameter (`tt`).
         ensures { result ≡ parse_record tcp_info tt payload.now }
     {
         read_record(payload, ())
     }
 
-    // Writes the fields at offsets 0 to 91.
-    fn write_front(&self, buffer: &mut [u8])
+    // Writes the fields at offsets 0 to 91 to the buffer, which has to have exactly their 92 bytes.
+    fn write_0_to_92(&self, buffer: &mut [u8])
         requires { length buffer.old ≡ 92 }
         ensures written { buffer.new ≡ bytes_0_to_92 self.now }
-        ensures in_range { FitIn0To92 self.now }
+        // Each number fits its field, as in each Rust value; stated for the laws of the record.
+        ensures in_range { ValuesFitIn0To92 self.now }
     {
         let (u8s_at_0, rest) = buffer.split_at_mut(8);
         let (u32s_at_8, rest) = rest.split_at_mut(36);
@@ -312,11 +322,13 @@ impl TcpInfo {
         write_u32s(&self.u32s_at_60(), u32s_at_60);
     }
 
-    // Writes the fields at offsets 92 to 191.
-    fn write_middle(&self, buffer: &mut [u8])
+    // Writes the fields at offsets 92 to 191 to the buffer, which has to have exactly their 100
+    // bytes.
+    fn write_92_to_192(&self, buffer: &mut [u8])
         requires { length buffer.old ≡ 100 }
         ensures written { buffer.new ≡ bytes_92_to_192 self.now }
-        ensures in_range { FitIn92To192 self.now }
+        // Each number fits its field, as in each Rust value; stated for the laws of the record.
+        ensures in_range { ValuesFitIn92To192 self.now }
     {
         let (u32s_at_92, rest) = buffer.split_at_mut(12);
         let (u64s_at_104, rest) = rest.split_at_mut(32);
@@ -327,11 +339,13 @@ impl TcpInfo {
         write_u64s(&self.u64s_at_160(), u64s_at_160);
     }
 
-    // Writes the fields at offsets 192 to 231.
-    fn write_back(&self, buffer: &mut [u8])
+    // Writes the fields at offsets 192 to 231 to the buffer, which has to have exactly their 40
+    // bytes.
+    fn write_192_to_232(&self, buffer: &mut [u8])
         requires { length buffer.old ≡ 40 }
         ensures written { buffer.new ≡ bytes_192_to_232 self.now }
-        ensures in_range { FitIn192To232 self.now }
+        // Each number fits its field, as in each Rust value; stated for the laws of the record.
+        ensures in_range { ValuesFitIn192To232 self.now }
     {
         let (u32s_at_192, rest) = buffer.split_at_mut(8);
         let (u64s_at_200, u32s_at_216) = rest.split_at_mut(16);
@@ -340,7 +354,7 @@ impl TcpInfo {
         write_u32s(&self.u32s_at_216(), u32s_at_216);
     }
 
-    // Returns the eight `u8` at offset 0.
+    // Returns the numbers in the eight `u8` from offset 0 on.
     fn u8s_at_0(&self) -> [u8; 8]
         ensures { result ≡ u8s_at_0 self.now }
     {
@@ -356,7 +370,7 @@ impl TcpInfo {
         ]
     }
 
-    // Returns the nine `u32` at offset 8.
+    // Returns the numbers in the nine `u32` from offset 8 on.
     fn u32s_at_8(&self) -> [u32; 9]
         ensures { result ≡ u32s_at_8 self.now }
     {
@@ -373,7 +387,7 @@ impl TcpInfo {
         ]
     }
 
-    // Returns the four `u32` at offset 44.
+    // Returns the numbers in the four `u32` from offset 44 on.
     fn u32s_at_44(&self) -> [u32; 4]
         ensures { result ≡ u32s_at_44 self.now }
     {
@@ -385,7 +399,7 @@ impl TcpInfo {
         ]
     }
 
-    // Returns the eight `u32` at offset 60.
+    // Returns the numbers in the eight `u32` from offset 60 on.
     fn u32s_at_60(&self) -> [u32; 8]
         ensures { result ≡ u32s_at_60 self.now }
     {
@@ -401,14 +415,14 @@ impl TcpInfo {
         ]
     }
 
-    // Returns the three `u32` at offset 92.
+    // Returns the numbers in the three `u32` from offset 92 on.
     fn u32s_at_92(&self) -> [u32; 3]
         ensures { result ≡ u32s_at_92 self.now }
     {
         [self.rcv_rtt, self.rcv_space, self.total_retrans]
     }
 
-    // Returns the four `u64` at offset 104.
+    // Returns the numbers in the four `u64` from offset 104 on.
     fn u64s_at_104(&self) -> [u64; 4]
         ensures { result ≡ u64s_at_104 self.now }
     {
@@ -420,7 +434,7 @@ impl TcpInfo {
         ]
     }
 
-    // Returns the six `u32` at offset 136.
+    // Returns the numbers in the six `u32` from offset 136 on.
     fn u32s_at_136(&self) -> [u32; 6]
         ensures { result ≡ u32s_at_136 self.now }
     {
@@ -434,7 +448,7 @@ impl TcpInfo {
         ]
     }
 
-    // Returns the four `u64` at offset 160.
+    // Returns the numbers in the four `u64` from offset 160 on.
     fn u64s_at_160(&self) -> [u64; 4]
         ensures { result ≡ u64s_at_160 self.now }
     {
@@ -446,21 +460,21 @@ impl TcpInfo {
         ]
     }
 
-    // Returns the two `u32` at offset 192.
+    // Returns the numbers in the two `u32` from offset 192 on.
     fn u32s_at_192(&self) -> [u32; 2]
         ensures { result ≡ u32s_at_192 self.now }
     {
         [self.delivered, self.delivered_ce]
     }
 
-    // Returns the two `u64` at offset 200.
+    // Returns the numbers in the two `u64` from offset 200 on.
     fn u64s_at_200(&self) -> [u64; 2]
         ensures { result ≡ u64s_at_200 self.now }
     {
         [self.bytes_sent, self.bytes_retrans]
     }
 
-    // Returns the four `u32` at offset 216.
+    // Returns the numbers in the four `u32` from offset 216 on.
     fn u32s_at_216(&self) -> [u32; 4]
         ensures { result ≡ u32s_at_216 self.now }
     {

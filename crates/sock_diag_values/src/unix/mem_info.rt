@@ -3,8 +3,9 @@
 ghost use Rattle.std.specs.Prelude.{◌≡◌, refl};
 ghost use Rattle.std.proofs.Common.{rules};
 ghost use Rattle.netlink_core.specs.Layout.{parse_record};
-ghost use Rattle.netlink_core.proofs.LayoutLaws.{plain_sound, record_laws};
+ghost use Rattle.netlink_core.proofs.LayoutLaws.{record_laws};
 ghost use Rattle.sock_diag_values.specs.UnixMemInfo.{unix_mem_info};
+ghost use Rattle.sock_diag_values.specs.laws.PlainLayouts.{unix_mem_info_sound};
 
 use netlink_core::fields::{u32s_at, write_u32s};
 use netlink_core::{DecodeError, Exact, Fills, Record, RecordBuffer, RecordName, read_record};
@@ -35,6 +36,7 @@ pub struct MemInfo {
 pub type MemInfoBuffer = RecordBuffer<MemInfo, MEM_INFO_LEN>;
 
 impl Exact for MemInfo {
+    // Proof that `==` is equality, and that `clone` returns the value and cannot fail.
     ghost exact = { Prim.search rules };
 }
 
@@ -51,6 +53,8 @@ impl Record for MemInfo {
         MEM_INFO_LEN
     }
 
+    /// Parses the first 36 bytes, and ignores the bytes after them. There have to be 36 bytes: the
+    /// caller checks this first, and reports [`DecodeError::BufferTooSmall`].
     fn from_fields(payload: &[u8], _param: ()) -> Result<Self, DecodeError> {
         let [_, so_rcvbuf, _, max_datagram_size, _, alloc, _, _, _] = u32s_at::<9>(payload, 0);
         Ok(MemInfo {
@@ -61,7 +65,7 @@ impl Record for MemInfo {
     }
 
     fn write_fields(&self, buffer: &mut [u8]) {
-        let words = [
+        let elements = [
             0,
             self.so_rcvbuf,
             0,
@@ -72,14 +76,16 @@ impl Record for MemInfo {
             0,
             0,
         ];
-        write_u32s(&words, buffer);
+        write_u32s(&elements, buffer);
     }
 
-    ghost laws = { record_laws unix_mem_info (plain_sound refl (λ _. refl) (λ _. refl) (λ _. tt)
-        (λ _ _. refl)) };
+    // Proof of the laws of the record.
+    ghost laws = { record_laws unix_mem_info unix_mem_info_sound };
 }
 
 impl Fills<MEM_INFO_LEN> for MemInfo {
+    // Proof, by computation, that the record is parsed from at least `MEM_INFO_LEN` bytes, and that
+    // each value serializes to exactly as many.
     ghost fills = { (refl, λ _. refl) };
 }
 
@@ -87,7 +93,8 @@ impl MemInfo {
     /// Parses the first 36 bytes, and ignores the bytes after them. Fewer bytes are
     /// [`DecodeError::BufferTooSmall`].
     pub fn parse(payload: &[u8]) -> Result<Self, DecodeError>
-        // parse_record layout param bytes: `Ok` of the value, or `Err` of the first error.
+        // parse_record layout param bytes: `Ok` of the value, or `Err` of the first error. There is
+        // no parameter (`tt`).
         ensures { result ≡ parse_record unix_mem_info tt payload.now }
     {
         read_record(payload, ())

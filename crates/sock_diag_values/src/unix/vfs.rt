@@ -3,8 +3,9 @@
 ghost use Rattle.std.specs.Prelude.{◌≡◌, refl};
 ghost use Rattle.std.proofs.Common.{rules};
 ghost use Rattle.netlink_core.specs.Layout.{parse_record};
-ghost use Rattle.netlink_core.proofs.LayoutLaws.{plain_sound, record_laws};
+ghost use Rattle.netlink_core.proofs.LayoutLaws.{record_laws};
 ghost use Rattle.sock_diag_values.specs.Vfs.{vfs};
+ghost use Rattle.sock_diag_values.specs.laws.PlainLayouts.{vfs_sound};
 
 use netlink_core::fields::{u32s_at, write_u32s};
 use netlink_core::{DecodeError, Exact, Fills, Record, RecordBuffer, RecordName, read_record};
@@ -28,6 +29,7 @@ pub struct Vfs {
 pub type VfsBuffer = RecordBuffer<Vfs, VFS_LEN>;
 
 impl Exact for Vfs {
+    // Proof that `==` is equality, and that `clone` returns the value and cannot fail.
     ghost exact = { Prim.search rules };
 }
 
@@ -44,6 +46,8 @@ impl Record for Vfs {
         VFS_LEN
     }
 
+    /// Parses the first 8 bytes, and ignores the bytes after them. There have to be 8 bytes: the
+    /// caller checks this first, and reports [`DecodeError::BufferTooSmall`].
     fn from_fields(payload: &[u8], _param: ()) -> Result<Self, DecodeError> {
         let [inode, device] = u32s_at::<2>(payload, 0);
         Ok(Vfs { inode, device })
@@ -53,11 +57,13 @@ impl Record for Vfs {
         write_u32s(&[self.inode, self.device], buffer);
     }
 
-    ghost laws = { record_laws vfs (plain_sound refl (λ _. refl) (λ _. refl) (λ _. tt)
-        (λ _ _. refl)) };
+    // Proof of the laws of the record.
+    ghost laws = { record_laws vfs vfs_sound };
 }
 
 impl Fills<VFS_LEN> for Vfs {
+    // Proof, by computation, that the record is parsed from at least `VFS_LEN` bytes, and that
+    // each value serializes to exactly as many.
     ghost fills = { (refl, λ _. refl) };
 }
 
@@ -65,7 +71,8 @@ impl Vfs {
     /// Parses the first 8 bytes, and ignores the bytes after them. Fewer bytes are
     /// [`DecodeError::BufferTooSmall`].
     pub fn parse(payload: &[u8]) -> Result<Self, DecodeError>
-        // parse_record layout param bytes: `Ok` of the value, or `Err` of the first error.
+        // parse_record layout param bytes: `Ok` of the value, or `Err` of the first error. There is
+        // no parameter (`tt`).
         ensures { result ≡ parse_record vfs tt payload.now }
     {
         read_record(payload, ())

@@ -5,8 +5,8 @@ use Rattle.sock_diag_attributes.proofs.numbers.NumbersIteratorIterator.next.Goal
 
 pub invariant_of-self : goal.invariant_of-self
 invariant_of-self c =
-    let bytes = c.args.self.now.rest.bytes.now in
+    let bytes = c.args.self.now.remaining.bytes.now in
     rw (take_rest bytes 4) (record {
-      whole = omega (arith, length-drop 4 bytes, c.args.self.now.rest.whole);
-      in_range = AreBytes-drop 4 bytes c.args.self.now.rest.in_range;
+      whole = omega (arith, length-drop 4 bytes, c.args.self.now.remaining.whole);
+      in_range = AreBytes-drop 4 bytes c.args.self.now.remaining.in_range;
     })

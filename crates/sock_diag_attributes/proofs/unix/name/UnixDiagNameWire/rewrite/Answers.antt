@@ -6,13 +6,13 @@ use Rattle.netlink_core.specs.declared.canonical_form.CanonError.{CanonError}
 use Rattle.netlink_core.specs.declared.canonical_form.CanonError.TheVariants as canon
 use Rattle.netlink_core.specs.Canonical.{CanonicalFails}
 use Rattle.netlink_core.proofs.Rewriting.{canonical_fails}
-use Rattle.sock_diag_attributes.specs.Name.{name_codec, read_name}
+use Rattle.sock_diag_attributes.specs.Name.{name_codec, parse_name}
 use Rattle.sock_diag_attributes.specs.laws.Name.{name_codec_laws}
 use Rattle.sock_diag_attributes.specs.NameModel.{socket_name_model}
 use Rattle.sock_diag_attributes.proofs.unix.name.UnixDiagNameWire.rewrite.Goals as goal
 
 -- bytes that are rejected have no canonical form
-refused_has_no_form : (b : List ℕ) {T : Type 0} (e : DecodeError) → read_name b ≡ Err e
+refused_has_no_form : (b : List ℕ) {T : Type 0} (e : DecodeError) → parse_name b ≡ Err e
     → (r : Result T CanonError)
     → IsErrAnd r (λ f. (e ≡ Memory → f ≡ canon.Memory) × (e ≢ Memory → f ≡ canon.Refused e))
     → IfErr r (CanonicalFails (name_codec.parses b tt) (name_codec.rejects b tt)

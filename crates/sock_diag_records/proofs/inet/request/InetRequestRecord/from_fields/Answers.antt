@@ -1,4 +1,5 @@
 use Rattle.std.proofs.Common.{◌<◌, ◌^◌, ℕ, drop, slice_index, sym, ap, ◌∙◌, arith, Result, Ok}
+use Rattle.std.proofs.lemmas.Grind.{common_steps}
 use Rattle.std.proofs.lemmas.List.{take_rest}
 use Rattle.std.proofs.lemmas.Nat.{and_mask}
 use Rattle.std.proofs.Math.Nat.{mod-eq_of_lt}
@@ -37,3 +38,13 @@ returns c =
     ⊛ rw c.u32s_at.ensures at (c.from_bits_truncate-2.ensures tt)
     ⊛ (h.2 ∙ ap (socket_id_of h.0) (last_socket_id_values 8 payload h.0)))
     ∙ sym (parses_by_fields inet_request tt payload h.0 h.1)
+
+pub from_fields-requires : goal.from_fields-requires
+unfolding inet_request socket_id
+from_fields-requires c =
+    grind (arith, common_steps)
+
+pub returns-in_err-socket_id : goal.returns-in_err-socket_id
+unfolding inet_request socket_id
+returns-in_err-socket_id c =
+    grind (arith, common_steps)

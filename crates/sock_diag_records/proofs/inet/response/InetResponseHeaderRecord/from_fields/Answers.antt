@@ -1,4 +1,5 @@
-use Rattle.std.proofs.Common.{drop, slice_index, sym, ap, ◌∙◌}
+use Rattle.std.proofs.Common.{drop, slice_index, sym, ap, ◌∙◌, arith}
+use Rattle.std.proofs.lemmas.Grind.{common_steps}
 use Rattle.std.proofs.lemmas.List.{take_rest}
 use Rattle.netlink_core.proofs.LayoutLaws.{parses_by_fields, parsed_fields}
 use Rattle.sock_diag_records.specs.SocketId.{socket_id}
@@ -22,3 +23,13 @@ returns c =
     (ap (versions_with_timer_class class) h.1)
     ∙ inet_response_header_is_from_fields payload h.0 class (class_lt (slice_index payload 2)) in
     rw c.timer_from.ensures (rw socket (rw c.u32s_at.ensures (sym read)))
+
+pub from_fields-requires : goal.from_fields-requires
+unfolding inet_response_header socket_id
+from_fields-requires c =
+    grind (arith, common_steps)
+
+pub returns-in_err-socket_id : goal.returns-in_err-socket_id
+unfolding inet_response_header socket_id
+returns-in_err-socket_id c =
+    grind (arith, common_steps)

@@ -3,4 +3,4 @@ use Rattle.sock_diag_values.proofs.inet.mem_info.MemInfoRecord.from_fields.Goals
 
 pub returns : goal.returns
 returns c =
-    grind (arith, c.u32s_at.ensures, c.word_at.ensures, c.word_at-2.ensures)
+    grind (arith, c.u32s_at.ensures, c.u32_if_present.ensures, c.u32_if_present-2.ensures)

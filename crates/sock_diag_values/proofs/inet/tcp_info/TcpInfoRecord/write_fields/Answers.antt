@@ -4,12 +4,16 @@ use Rattle.sock_diag_values.proofs.inet.tcp_info.TcpInfoRecord.write_fields.Goal
 pub returns-clause-written : goal.returns-clause-written
 unfolding tcp_info
 returns-clause-written c =
-    rw (c.write_front.ensures.written, c.write_middle.ensures.written, c.write_back.ensures.written)
+    rw (
+      c.write_0_to_92.ensures.written,
+      c.write_92_to_192.ensures.written,
+      c.write_192_to_232.ensures.written,
+    )
 
 pub returns-clause-in_range : goal.returns-clause-in_range
 unfolding tcp_info
 returns-clause-in_range c =
-    let front = c.write_front.ensures.in_range in
-    let middle = c.write_middle.ensures.in_range in
-    let back = c.write_back.ensures.in_range in
+    let front = c.write_0_to_92.ensures.in_range in
+    let middle = c.write_92_to_192.ensures.in_range in
+    let back = c.write_192_to_232.ensures.in_range in
     (tt, assumption)

@@ -1,5 +1,5 @@
 use Rattle.std.proofs.Common.{arith}
-use Rattle.sock_diag_values.proofs.inet.tcp_info.TcpInfo.write_back.Goals as goal
+use Rattle.sock_diag_values.proofs.inet.tcp_info.TcpInfo.write_192_to_232.Goals as goal
 
 pub returns-clause-written : goal.returns-clause-written
 returns-clause-written c =

@@ -1,5 +1,5 @@
 use Rattle.std.proofs.Common.{arith}
-use Rattle.sock_diag_values.proofs.inet.tcp_info.TcpInfo.write_middle.Goals as goal
+use Rattle.sock_diag_values.proofs.inet.tcp_info.TcpInfo.write_92_to_192.Goals as goal
 
 pub returns-clause-written : goal.returns-clause-written
 returns-clause-written c =
