@@ -48,7 +48,7 @@ DumpEndsAt later end = MatchOption (slice_get later 0) (end ≡ Ok reading_statu
 abbrev pub DumpContinues : {A : Type 0} → List A → EndOrDecodeError → List (Item A) → List A
     → EndOrDecodeError → Type 0
 DumpContinues middle state items after end =
-    ((state ≡ Ok reading_status) × DumpOfItems middle items after end)
+    ((state ≡ Ok reading_status) × DumpOfItems (middle, items) (after, end))
     ⊎ ((state ≢ Ok reading_status) × (after ≡ middle) × (end ≡ state))
 
 -- no item ends a dump
@@ -102,7 +102,7 @@ module _ {A : Type 0} where
       )
 
   reaches : (before : List A) (items : List (Item A))
-      → DumpOfItems before items (reach before items).0 (reach before items).1
+      → DumpOfItems (before, items) ((reach before items).0, (reach before items).1)
   reaches before [] = ([], [], refl, tt, sym (append-nil before), refl)
   reaches before (x ∷ items) = elim (none_or_some (dump_end_at x)) [
     | inl plain ↦
@@ -120,16 +120,16 @@ module _ {A : Type 0} where
   ]
 
   pub dump_is : (before after : List A) (items : List (Item A)) (end : EndOrDecodeError)
-      → DumpOfItems before items after end ↔ (reach before items ≡ (after, end))
+      → DumpOfItems (before, items) (after, end) ↔ (reach before items ≡ (after, end))
   dump_is before after items end =
       grind (arith, reached before, reaches before items)
 
   pub has_dump : (before : List A) (items : List (Item A))
-      → (after : List A) × (end : EndOrDecodeError) × DumpOfItems before items after end
+      → (after : List A) × (end : EndOrDecodeError) × DumpOfItems (before, items) (after, end)
   has_dump before items = (_, _, reaches before items)
 
   pub one_dump : (before : List A) (items : List (Item A)) (a b : List A) (e f : EndOrDecodeError)
-      → DumpOfItems before items a e → DumpOfItems before items b f → (a ≡ b) × (e ≡ f)
+      → DumpOfItems (before, items) (a, e) → DumpOfItems (before, items) (b, f) → (a ≡ b) × (e ≡ f)
   one_dump before items a b e f d t =
       grind (arith, dump_is before a items e, dump_is before b items f)
 
@@ -170,8 +170,8 @@ module _ {A : Type 0} where
 
   pub dump_of_joined : (before middle after : List A) (state end : EndOrDecodeError)
       (xs ys : List (Item A))
-      → DumpOfItems before xs middle state → DumpContinues middle state ys after end
-      → DumpOfItems before (xs ++ ys) after end
+      → DumpOfItems (before, xs) (middle, state) → DumpContinues middle state ys after end
+      → DumpOfItems (before, xs ++ ys) (after, end)
   dump_of_joined before middle after state end xs ys d on =
       grind (
         arith,
@@ -182,8 +182,8 @@ module _ {A : Type 0} where
       )
 
   pub parted : (before after : List A) (end : EndOrDecodeError) (xs ys : List (Item A))
-      → DumpOfItems before (xs ++ ys) after end → (middle : List A) × (state : EndOrDecodeError)
-      × DumpOfItems before xs middle state × DumpContinues middle state ys after end
+      → DumpOfItems (before, xs ++ ys) (after, end) → (middle : List A) × (state : EndOrDecodeError)
+      × DumpOfItems (before, xs) (middle, state) × DumpContinues middle state ys after end
   parted before after end xs ys d = (
     _,
     _,
@@ -244,8 +244,8 @@ module _ {A : Type 0} (item_is : List ℕ → Item A → Type 0) where
   pub equal_dumps : OneList → (datagrams others : List (List ℕ))
       → AllByRecursion IsBytes datagrams → HaveSameItems item_is datagrams others
       → (before after : List A) (end : EndOrDecodeError)
-      → DumpOfDatagrams item_is before datagrams after end
-      → DumpOfDatagrams item_is before others after end
+      → DumpOfDatagrams item_is (before, datagrams) (after, end)
+      → DumpOfDatagrams item_is (before, others) (after, end)
   equal_dumps one datagrams others in_range (xs, ys, each, also, same) before after end
       (items, are, d) =
       let parts = one_row one datagrams in_range items xs are each in
@@ -254,7 +254,8 @@ module _ {A : Type 0} (item_is : List ℕ → Item A → Type 0) where
   -- datagrams have at most one dump
   pub one_dumps : OneList → (before : List A) (datagrams : List (List ℕ))
       → AllByRecursion IsBytes datagrams → (a b : List A) (e f : EndOrDecodeError)
-      → DumpOfDatagrams item_is before datagrams a e → DumpOfDatagrams item_is before datagrams b f
+      → DumpOfDatagrams item_is (before, datagrams) (a, e)
+      → DumpOfDatagrams item_is (before, datagrams) (b, f)
       → (a ≡ b) × (e ≡ f)
   one_dumps one before datagrams in_range a b e f (items, are, d) (parts, also, t) =
       let same = one_row one datagrams in_range items parts are also in
@@ -263,7 +264,7 @@ module _ {A : Type 0} (item_is : List ℕ → Item A → Type 0) where
   -- a datagram leads to at most one list of messages, end and flag
   datagram_leads_to_one_dump : OneList → (b : List ℕ) → IsBytes b
       → (old p q : DumpProgress A) (e f : EndOrDecodeError)
-      → ReadsDatagram item_is old b p e → ReadsDatagram item_is old b q f
+      → ReadsDatagram item_is (old, b) (p, e) → ReadsDatagram item_is (old, b) (q, f)
       → (p.messages ≡ q.messages) × (e ≡ f)
       × (p.is_interrupted ≡ q.is_interrupted)
   datagram_leads_to_one_dump one b in_range old p q e f t u =
@@ -298,9 +299,9 @@ module _ {A : Type 0} (item_is : List ℕ → Item A → Type 0) where
   -- a dump over the items of a single datagram is a dump over the list of these items
   of_one_part : (before : List A) (datagram : List ℕ) (after : List A) (end : EndOrDecodeError)
       (parts : List (List (Item A))) → AllZip (AreItemsOf item_is) (datagram ∷ []) parts
-      → DumpOfItems before (concatenation parts) after end
+      → DumpOfItems (before, concatenation parts) (after, end)
       → (items : List (Item A)) × AreItemsOf item_is datagram items
-      × DumpOfItems before items after end
+      × DumpOfItems (before, items) (after, end)
   of_one_part before datagram after end (items ∷ []) are d = (items, are.0, rw append-nil at d)
   of_one_part before datagram after end parts are d = grind arith
 
@@ -308,12 +309,12 @@ module _ {A : Type 0} (item_is : List ℕ → Item A → Type 0) where
   abbrev pub DatagramDump : List A → List ℕ → List A → EndOrDecodeError → Type 0
   DatagramDump before datagram after end =
       (items : List (Item A)) × AreItemsOf item_is datagram items
-      × DumpOfItems before items after end
+      × DumpOfItems (before, items) (after, end)
 
   -- it is the dump over a list of this one datagram
   pub dump_of_one : (before : List A) (datagram : List ℕ) (after : List A) (end : EndOrDecodeError)
       → DatagramDump before datagram after end
-      ↔ DumpOfDatagrams item_is before (datagram ∷ []) after end
+      ↔ DumpOfDatagrams item_is (before, datagram ∷ []) (after, end)
   dump_of_one before datagram after end = (
     λ (items, are, d). (items ∷ [], (are, tt), rw append-nil d),
     λ (parts, are, d). of_one_part before datagram after end parts are d,
@@ -322,7 +323,7 @@ module _ {A : Type 0} (item_is : List ℕ → Item A → Type 0) where
   -- the dump over split datagrams is the dump over the items of the concatenated bytes
   pub dump_of_split : (datagrams : List (List ℕ)) → AreCompleteExceptLast datagrams
       → (before after : List A) (end : EndOrDecodeError)
-      → DumpOfDatagrams item_is before datagrams after end
+      → DumpOfDatagrams item_is (before, datagrams) (after, end)
       → DatagramDump before (concat datagrams) after end
   dump_of_split datagrams split before after end (items, are, d) =
       (concatenation items, split_items datagrams items split are, d)
@@ -332,7 +333,7 @@ module _ {A : Type 0} (item_is : List ℕ → Item A → Type 0) where
       → AllByRecursion IsBytes datagrams → AreCompleteExceptLast datagrams
       → (before after : List A) (end : EndOrDecodeError)
       → DatagramDump before (concat datagrams) after end
-      → DumpOfDatagrams item_is before datagrams after end
+      → DumpOfDatagrams item_is (before, datagrams) (after, end)
   split_of_dump some one datagrams in_range split before after end d =
       let parts = items_of_each some datagrams in_range in
       let bytes = concat datagrams in
@@ -385,8 +386,9 @@ module _ {A : Type 0} (item_is : List ℕ → Item A → Type 0) where
   state_left_is_reading end is = grind arith
 
   feed_step : (old new : DumpProgress A) (datagram : List ℕ) (answer : Result Unit DumpError)
-      → IsReading old → FeedLeadsTo item_is old datagram new answer → answer ≢ Err (Fault Memory)
-      → (end : EndOrDecodeError) × ReadsDatagram item_is old datagram new end
+      → IsReading old → FeedLeadsTo item_is (old, datagram) (new, answer)
+      → answer ≢ Err (Fault Memory)
+      → (end : EndOrDecodeError) × ReadsDatagram item_is (old, datagram) (new, end)
       × (status_of_dump new ≡ state_left end) × (end ≢ Err Memory)
   feed_step old new datagram answer reading f some =
       grind arith
@@ -402,7 +404,7 @@ module _ {A : Type 0} (item_is : List ℕ → Item A → Type 0) where
   feeds_dump : SomeItems → (datagrams : List (List ℕ)) → AllByRecursion IsBytes datagrams
       → (old new : DumpProgress A) → IsReading old → FeedingAllLeadsTo item_is old datagrams new
       → (end : EndOrDecodeError)
-      × (all : DumpOfDatagrams item_is old.messages datagrams new.messages end)
+      × (all : DumpOfDatagrams item_is (old.messages, datagrams) (new.messages, end))
       × (status_of_dump new ≡ state_left end) × (end ≢ Err Memory)
       × (AreCompleteExceptLast datagrams → (IsTrue new.is_interrupted
       ↔ (IsTrue old.is_interrupted ⊎ InterruptsDump (concat datagrams) (concatenation all.0))))
@@ -478,7 +480,7 @@ module _ {A : Type 0} (item_is : List ℕ → Item A → Type 0) (some : SomeIte
   feeding_split_is_dump : (datagrams : List (List ℕ)) → IsCompleteSplit datagrams
       → (progress : DumpProgress A) → FeedingAllLeadsTo item_is new_dump datagrams progress
       → (all : (end : EndOrDecodeError)
-      × ReadsDatagram item_is new_dump (concat datagrams) progress end)
+      × ReadsDatagram item_is (new_dump, concat datagrams) (progress, end))
       × (status_of_dump progress ≡ state_left item_is all.0) × (all.0 ≢ Err Memory)
   unfolding dump_of_split
   feeding_split_is_dump datagrams split progress f =
@@ -488,7 +490,7 @@ module _ {A : Type 0} (item_is : List ℕ → Item A → Type 0) (some : SomeIte
 
   -- a dump over one datagram is the result of feeding it
   feeding_one : (datagram : List ℕ) (progress : DumpProgress A) (end : EndOrDecodeError)
-      → ReadsDatagram item_is new_dump datagram progress end
+      → ReadsDatagram item_is (new_dump, datagram) (progress, end)
       → status_of_dump progress ≡ state_left item_is end → end ≢ Err Memory
       → FeedingAllLeadsTo item_is new_dump (datagram ∷ []) progress
   feeding_one datagram progress (Ok status) parses is some =

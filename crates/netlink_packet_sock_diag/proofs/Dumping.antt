@@ -80,8 +80,8 @@ module _ {A : Type 0} {item_is : List ℕ → Item A → Type 0} {datagram rest 
   pub datagram_read_to_end : (later : List (Item A)) (end : EndOrDecodeError)
       → AreItemsOf item_is rest later
       → reach after later ≡ (after, end) → (InterruptsDump rest later → ⊥)
-      → ReadsDatagram item_is (dump_with before reading_status was) datagram
-      (dump_with after reading_status is) end
+      → ReadsDatagram item_is (dump_with before reading_status was, datagram)
+      (dump_with after reading_status is, end)
   datagram_read_to_end later end are ends none = (
     p.passed ++ later,
     p.items later are,
@@ -90,8 +90,8 @@ module _ {A : Type 0} {item_is : List ℕ → Item A → Type 0} {datagram rest 
   )
 
   pub rest_is_framing_error : {e : DecodeError} {T : Type 0} → rest ≢ [] → IsMessageError rest e
-      → (e ≢ Memory → ReadsDatagram item_is (dump_with before reading_status was) datagram
-      (dump_with after reading_status is) (Err e))
+      → (e ≢ Memory → ReadsDatagram item_is (dump_with before reading_status was, datagram)
+      (dump_with after reading_status is, Err e))
       × (e ≡ Memory → T)
   rest_is_framing_error {e} some error = (
     λ named. datagram_read_to_end (Err e ∷ []) (Err e)
@@ -114,8 +114,8 @@ module _ {A : Type 0} {item_is : List ℕ → Item A → Type 0} {datagram next 
   }
 
   pub message_ends_dump : {end : EndOrDecodeError} → SomeItem item_is → dump_end_at item ≡ Some end
-      → ReadsDatagram item_is (dump_with before reading_status was) datagram
-      (dump_with after reading_status now) end
+      → ReadsDatagram item_is (dump_with before reading_status was, datagram)
+      (dump_with after reading_status now, end)
   message_ends_dump {end} some ends =
       let later = items_by_messages item_is some next p.in_range in (
         p.passed ++ (item ∷ later.0),
@@ -128,8 +128,8 @@ module _ {A : Type 0} {item_is : List ℕ → Item A → Type 0} {datagram next 
 pub message_is_rejected : {A : Type 0} {item_is : List ℕ → Item A → Type 0} {datagram next : List ℕ}
     {before after : List A} {was now : Bool} {value : A} → SomeItem item_is
     → ReadingMessage item_is datagram next before after was now (Ok (InnerMessage value))
-    → AllocationFailsAt item_is value (dump_with before reading_status was) datagram
-    (dump_with after reading_status now)
+    → AllocationFailsAt item_is (dump_with before reading_status was, datagram)
+    (dump_with after reading_status now, value)
 message_is_rejected {A} {item_is} {datagram} {next} {before} {after} {was} {now} {value} some p =
     let later = items_by_messages item_is some next p.in_range in (
       p.passed,

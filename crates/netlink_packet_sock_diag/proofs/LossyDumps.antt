@@ -13,7 +13,7 @@ use Rattle.netlink_core.specs.Header.{IsMessageError}
 use Rattle.netlink_core.specs.Items.{Item, IsItemOf}
 use Rattle.netlink_core.proofs.Items.{items_by_messages, one_list_by}
 use Rattle.netlink_packet_sock_diag.specs.Dump.{DumpOfDatagrams, DumpStatus}
-use Rattle.netlink_packet_sock_diag.specs.Lossy.{HasLossyEntry}
+use Rattle.netlink_packet_sock_diag.specs.Lossy.{HasLossyEntry, as_lossy_entries}
 use Rattle.netlink_packet_sock_diag.specs.laws.DumpEntry.{entry_of_item, is_entry, one_entry}
 use Rattle.netlink_packet_sock_diag.specs.laws.DumpEntry.{entries_determine_items}
 use Rattle.netlink_packet_sock_diag.proofs.DumpRows.{OneList, SomeItems, dump_is, dump_of_one}
@@ -24,13 +24,10 @@ abbrev error_after_messages : {A : Type 0} → Option DecodeError → List (Item
 error_after_messages end = option_to_list (option_map Err end)
 
 module _ {A : Type 0} where
-  abbrev entries_of : List A → List (Result A DecodeError)
-  entries_of vs = map (λ v. Ok v) vs
-
   reach_entries : (items : List (Item A)) (end : Option DecodeError) (before after : List A)
       (s : DumpStatus) → reach before (items ++ error_after_messages end) ≡ (after, Ok s)
-      → reach (entries_of before) (map entry_of_item items ++ error_after_messages end)
-      ≡ (entries_of after, Ok s)
+      → reach (as_lossy_entries before) (map entry_of_item items ++ error_after_messages end)
+      ≡ (as_lossy_entries after, Ok s)
   reach_entries (Ok (InnerMessage v) ∷ items) end before after s e =
       grind (arith, map-append, reach_entries items end (before ++ v ∷ []) after s e)
   reach_entries (Ok Noop ∷ items) end before after s e =
@@ -53,20 +50,20 @@ module _ (C : Codec ℕ) where
 
   -- the entries for a datagram whose dump ends without an error
   pub lossy_entries_of_dump : (datagram : List ℕ) (before after : List C.Value) (s : DumpStatus)
-      → DumpOfDatagrams (IsItemOf C) before (datagram ∷ []) after (Ok s)
-      → DumpOfDatagrams (HasLossyEntry C) (map (λ v. Ok v) before) (datagram ∷ [])
-      (map (λ v. Ok v) after)
-      (Ok s)
+      → DumpOfDatagrams (IsItemOf C) (before, datagram ∷ []) (after, Ok s)
+      → DumpOfDatagrams (HasLossyEntry C) (as_lossy_entries before, datagram ∷ [])
+      (as_lossy_entries after, Ok s)
   lossy_entries_of_dump datagram before after s dump =
       let one = (dump_of_one (IsItemOf C) before datagram after (Ok s)).1 dump in
       let are = one.1 in
       let entries = map entry_of_item are.2 ++ error_after_messages are.1 in
       let went = (dump_is before after one.0 (Ok s)).0 one.2 in
       let told = zip_entries datagram are.0 are.1 are.3 are.2 are.4 in
-      (dump_of_one (HasLossyEntry C) (entries_of before) datagram (entries_of after) (Ok s)).0 (
+      (dump_of_one (HasLossyEntry C) (as_lossy_entries before) datagram (as_lossy_entries after)
+      (Ok s)).0 (
         entries,
         (are.0, are.1, map entry_of_item are.2, are.3, told, refl),
-        (dump_is (entries_of before) (entries_of after) entries (Ok s)).1
+        (dump_is (as_lossy_entries before) (as_lossy_entries after) entries (Ok s)).1
             (reach_entries are.2 are.1 before after s (rw are.5 at went)),
       )
 
@@ -90,7 +87,7 @@ module _ (C : Codec ℕ) where
   error_of_rest_in bytes messages end carried cut each before after e went = grind arith
 
   pub lossy_dump_error : (datagram : List ℕ) (before after : List (Result C.Value DecodeError))
-      (e : DecodeError) → DumpOfDatagrams (HasLossyEntry C) before (datagram ∷ []) after (Err e)
+      (e : DecodeError) → DumpOfDatagrams (HasLossyEntry C) (before, datagram ∷ []) (after, Err e)
       → (rest : List ℕ) × IsMessageError rest e
   lossy_dump_error datagram before after e dump =
       let one = (dump_of_one (HasLossyEntry C) before datagram after (Err e)).1 dump in
@@ -102,7 +99,7 @@ module _ (C : Codec ℕ) where
 
 module _ (C : Codec ℕ) (laws : KeepsCodecLaws C) where
   pub some_entries : SomeItems (HasLossyEntry C)
-  some_entries = items_by_messages (HasLossyEntry C) (entries_determine_items C laws).some_item
+  some_entries = items_by_messages (HasLossyEntry C) (entries_determine_items C laws).has_item
 
   pub one_list_of_entries : OneList (HasLossyEntry C)
   one_list_of_entries = one_list_by (HasLossyEntry C) (one_entry C (one_item_of C laws))

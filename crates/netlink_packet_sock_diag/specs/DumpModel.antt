@@ -12,14 +12,15 @@ use Rattle.netlink_packet_sock_diag.specs.Feed.{DumpProgress, dump_with}
 use Rattle.netlink_packet_sock_diag.specs.Message.{Message}
 use Rattle.netlink_packet_sock_diag.specs.MessageModel.{message_model}
 
--- `generic_dump_progress model dump`: the progress of a reader; its messages are the models of the
--- values that it keeps, in order
+-- `generic_dump_progress model dump`: the progress of the reader `dump`. Its messages are the
+-- models of the values that the reader keeps, in order; `model` maps a value to its model.
 abbrev pub generic_dump_progress : {I A : Type 0} {G : Ghosts I} → (I → A) → GenericDump I G
     → DumpProgress A
 generic_dump_progress model dump = dump_with
     (map model dump.entries.items) dump.status dump.interrupted
 
--- the list of what it keeps has no free slot, so that another entry needs memory
+-- `IsFull dump`: the list of the values that the reader `dump` keeps has no free slot, so that
+-- another value needs memory
 abbrev pub IsFull : {I : Type 0} {G : Ghosts I} → GenericDump I G → Type 0
 IsFull dump = vec_capacity dump.entries ≤ vec_len dump.entries
 
@@ -31,8 +32,8 @@ reader_progress reader = generic_dump_progress message_model reader.dump
 abbrev pub lossy_entries : LossyDump → List (Result SockDiagMessage DecodeError)
 lossy_entries lossy = lossy.dump.entries.items
 
--- the progress of a `LossyDump`; its messages are its entries, with the models of the messages in
--- them
+-- The progress of a `LossyDump`. Its messages are the entries, each with the model of its message,
+-- or with its decode error: `map_ok f r` is `Ok (f v)` if `r` is `Ok v`, and else the error of `r`.
 abbrev pub lossy_progress : LossyDump → DumpProgress (Result Message DecodeError)
 lossy_progress lossy = generic_dump_progress (map_ok message_model) lossy.dump
 

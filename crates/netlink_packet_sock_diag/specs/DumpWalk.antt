@@ -1,5 +1,6 @@
 -- The iterator over the messages of a datagram, each as its payload: its state and its steps.
-use Rattle.std.specs.Prelude.{◌≡◌, ◌≢◌, ◌⊎◌, ℕ, List, [], Option, Result, Err, MatchOption}
+use Rattle.std.specs.Prelude.{◌≡◌, ◌≢◌, ◌⊎◌, ℕ, ◌+◌, ◌/◌, List, [], length, Option, Result, Err}
+use Rattle.std.specs.Prelude.{MatchOption}
 use Rattle.netlink_core.specs.declared.error.DecodeError.{DecodeError}
 use Rattle.netlink_core.specs.Datagram.{StartsWithMessage}
 use Rattle.netlink_core.specs.DatagramWalk.{unread_messages}
@@ -14,10 +15,16 @@ use Rattle.netlink_core.specs.Errors.{map_ok}
 abbrev pub unread_views : DumpViews → List ℕ
 unread_views views = unread_messages views.messages
 
+-- the greatest number of items that the iterator can still yield: one for each 16 bytes, the length
+-- of a netlink header, rounded up
+abbrev pub max_views_left : DumpViews → ℕ
+max_views_left views = (length (unread_views views) + 15) / 16
+
 -- `YieldsPayloadView old given new`: one call of `next` on the iterator `old` returns `given` and
 -- leaves `new`. It yields the payload of the first message, or the error of its payload, and the
 -- bytes after the padding of the message are left. If the bytes do not start with a message, it
--- yields the error, and no bytes are left. It returns `None` only if no bytes were left.
+-- yields the error, and no bytes are left. It returns `None` only if no bytes were left. `map_ok
+-- payload_view_model item`: the model of a payload, or the error.
 abbrev pub YieldsPayloadView : DumpViews → Option (Result PayloadView DecodeError) → DumpViews
     → Type 0
 YieldsPayloadView old given new =

@@ -19,7 +19,7 @@ PayloadView = NetlinkPayload SockDiagView (Bor (List ℕ))
 abbrev pub payload_view_model : PayloadView → Payload Message
 payload_view_model p = payload_model (λ (b : Bor (List ℕ)). b.now) message_view_model p
 
--- netlink_message_view_model v: the header of the borrowed message `v`, and the model of its
+-- `netlink_message_view_model v`: the header of the borrowed message `v`, and the model of its
 -- payload
 abbrev pub netlink_message_view_model : MessageView → NetlinkMessageModel Message
 netlink_message_view_model v = record { header = v.header; payload = payload_view_model v.payload }

@@ -1,5 +1,7 @@
 //! The codec of messages, under the message type of their netlink header.
 
+ghost use Rattle.sock_diag_records.specs.declared.constants.TheConstants.{SOCK_DESTROY};
+ghost use Rattle.sock_diag_records.specs.declared.constants.TheConstants.{SOCK_DIAG_BY_FAMILY};
 ghost use Rattle.netlink_packet_sock_diag.specs.Message.{message_codec};
 ghost use Rattle.netlink_packet_sock_diag.specs.laws.Message.{message_laws};
 ghost use Rattle.netlink_packet_sock_diag.specs.MessageModel.{message_model};
@@ -33,6 +35,8 @@ macro_rules! with_view {
 
 /// Serializes the request or reply, without a netlink header. A request is always writable.
 impl Emitable for SockDiagMessage {
+    // The members of `Emitable` are those of the codec of messages. `message_model v`: the kind of
+    // the message and the model of its content.
     ghost bytes = { λ v. message_codec.serialized (message_model v) };
 
     ghost writable = { λ v. message_codec.is_writable (message_model v) };
@@ -54,6 +58,8 @@ impl Emitable for SockDiagMessage {
 
 /// Serializes to the canonical form of the message. Does not allocate.
 impl Emitable for SockDiagView<'_> {
+    // The members of `Emitable` are those of the codec of messages. `message_view_model v`: the
+    // kind of the message and the model of its reply.
     ghost bytes = { λ v. message_codec.serialized (message_view_model v) };
 
     ghost writable = { λ v. message_codec.is_writable (message_view_model v) };
@@ -76,7 +82,7 @@ impl Emitable for SockDiagView<'_> {
 }
 
 /// The codec of messages, whose parameter is the message type. Every message is serialized under
-/// the type 20.
+/// the type `SOCK_DIAG_BY_FAMILY`, 20.
 impl HasCodec for SockDiagMessage {
     type Param = u16;
 
@@ -84,7 +90,7 @@ impl HasCodec for SockDiagMessage {
 
     ghost model = { message_model };
 
-    ghost serialized_type = { λ _. 20 };
+    ghost serialized_type = { λ _. SOCK_DIAG_BY_FAMILY };
 
     ghost eq_is_model = { message_equal };
 
@@ -92,7 +98,7 @@ impl HasCodec for SockDiagMessage {
 }
 
 /// The codec of the message that is contained. Only the type under which it is serialized differs:
-/// it is 21.
+/// it is `SOCK_DESTROY`, 21.
 impl HasCodec for SockDiagDestroy {
     type Param = u16;
 
@@ -100,7 +106,7 @@ impl HasCodec for SockDiagDestroy {
 
     ghost model = { λ destroy. message_model destroy.0 };
 
-    ghost serialized_type = { λ _. 21 };
+    ghost serialized_type = { λ _. SOCK_DESTROY };
 
     ghost eq_is_model = { λ v w. message_equal v.0 w.0 };
 

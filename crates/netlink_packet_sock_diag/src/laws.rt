@@ -11,13 +11,13 @@ ghost use Rattle.netlink_core.specs.declared.header.NetlinkHeader.{NetlinkHeader
 ghost use Rattle.netlink_core.specs.Header.{IsMessageError, header_fields, header_values};
 ghost use Rattle.netlink_core.specs.Table.{FitFields};
 ghost use Rattle.netlink_core.specs.Canonical.{HasCanonicalForm};
-ghost use Rattle.netlink_core.specs.NetlinkMessage.{Payload, NetlinkMessageModel};
+ghost use Rattle.netlink_core.specs.NetlinkMessage.{NetlinkMessageModel};
 ghost use Rattle.netlink_core.specs.NetlinkMessage.{HoldsOfInnerMessage};
 ghost use Rattle.netlink_core.specs.NetlinkMessage.{finalized_header};
 ghost use Rattle.netlink_core.specs.declared.message.NetlinkMessage.{NetlinkMessage};
 ghost use Rattle.netlink_core.specs.declared.message.NetlinkPayload.TheVariants.{InnerMessage};
 ghost use Rattle.netlink_core.specs.Errors.{map_ok};
-ghost use Rattle.netlink_core.specs.Items.{IsItemOf, AreItemsOf};
+ghost use Rattle.netlink_core.specs.Items.{Item, IsItemOf, AreItemsOf};
 ghost use Rattle.netlink_core.specs.NetlinkMessageModel.{netlink_message_model};
 ghost use Rattle.netlink_core.specs.Response.{ReplyValue, response_bytes, response_codec};
 ghost use Rattle.netlink_packet_sock_diag.specs.contracts.codec.SockDiagMessageEmitable.TheImpl.{
@@ -36,7 +36,7 @@ ghost use Rattle.netlink_packet_sock_diag.specs.declared.message.SockDiagDestroy
 ghost use Rattle.netlink_packet_sock_diag.specs.Dump.{AreSplitsOfSameBytes, DumpOfDatagrams};
 ghost use Rattle.netlink_packet_sock_diag.specs.Dump.{DumpOfItems, DumpStatus, HaveSameItems};
 ghost use Rattle.netlink_packet_sock_diag.specs.Dump.{IsCompleteSplit};
-ghost use Rattle.netlink_packet_sock_diag.specs.Feed.{DumpProgress, FeedingAllLeadsTo, new_dump};
+ghost use Rattle.netlink_packet_sock_diag.specs.Feed.{DumpProgress, NewReaderReaches};
 ghost use Rattle.netlink_packet_sock_diag.specs.declared.dump.DumpState.TheVariants.{Reading};
 ghost use Rattle.netlink_packet_sock_diag.specs.declared.dump.views.DumpViews.{DumpViews};
 ghost use Rattle.netlink_packet_sock_diag.specs.PayloadViewModel.{PayloadView, payload_view_model};
@@ -45,7 +45,7 @@ ghost use Rattle.sock_diag_replies.specs.UnixResponseSpec.{unix_response_spec};
 ghost use Rattle.sock_diag_replies.specs.InetResponseSpec.{inet_response_spec};
 ghost use Rattle.sock_diag_replies.specs.ViewModel.{view_model};
 ghost use Rattle.netlink_packet_sock_diag.specs.MessageViewModel.{message_view_model};
-ghost use Rattle.netlink_packet_sock_diag.specs.Lossy.{HasLossyEntry};
+ghost use Rattle.netlink_packet_sock_diag.specs.Lossy.{HasLossyEntry, as_lossy_entries};
 ghost use Rattle.netlink_packet_sock_diag.specs.Message.{Message, kind_of, message_codec};
 ghost use Rattle.netlink_packet_sock_diag.specs.Message.{netlink_message_codec};
 ghost use Rattle.sock_diag_records.specs.ResponseKind.{MessageKind, inet_request, inet_response};
@@ -72,11 +72,11 @@ pub fn reply_lengths_are_multiples_of_four()
         → length (response_bytes inet_response_spec v) % 4 ≡ 0 }
 {}
 
-/// Given a test for each of the four kinds, which is true if and only if a message has this kind,
-/// exactly one of the four tests is true.
+/// Of four tests, one for each kind, that state whether a message has this kind, exactly one is
+/// true. The methods `is_..` of a message are such tests.
 pub fn one_kind()
-    // `kind_of m`: the kind of the message. `count_by tests kinds`: the number of kinds of the list
-    // whose test is true.
+    // `kind_of m`: the kind of the message. `tests kind`: the result of the test for this kind.
+    // `count_by tests kinds`: the number of kinds of the list whose test is true.
     ensures { (m : Message) (tests : MessageKind → Bool)
         → ((kind : MessageKind) → IsTrue (tests kind) ↔ (kind_of m ≡ kind))
         → count_by tests (inet_request ∷ inet_response ∷ unix_request ∷ unix_response ∷ []) ≡ 1 }
@@ -119,21 +119,24 @@ pub fn parsers_take_memory() -> (bool, bool, bool)
 /// `UnknownMessageType(21)`: the request is serialized under the type 21, and messages are parsed
 /// only under the type 20.
 pub fn finalized_destroy_is_rejected()
-    // `h`: the header before `finalize`, each number of which fits its field
-    // (`FitFields header_fields (header_values h)`). `netlink_message_codec`: the codec of a
+    // `header`: the header before `finalize`, each number of which fits its field
+    // (`FitFields header_fields (header_values header)`). `netlink_message_codec`: the codec of a
     // netlink header and the payload after it. `finalized_header bytes type_of message`: the header
     // of the message, with the length of the message and the type of its payload; `bytes` and
-    // `type_of` are those of an inner message. Here the type is `destroys.serialized_type m`, which
-    // is 21. `serialized` and `rejects`: the bytes that the message serializes to are rejected.
-    ensures { (h : NetlinkHeader) (m : Message) → FitFields header_fields (header_values h)
-        → netlink_message_codec.is_writable (record { header = h; payload = InnerMessage m })
+    // `type_of` are those of an inner message. Here the type is `destroys.serialized_type inner`,
+    // which is `SOCK_DESTROY`. `serialized` and `rejects`: the bytes that the message serializes to
+    // are rejected.
+    ensures { (header : NetlinkHeader) (inner : Message)
+        → FitFields header_fields (header_values header)
+        → netlink_message_codec.is_writable
+        (record { header = header; payload = InnerMessage inner })
         → netlink_message_codec.rejects
         (netlink_message_codec.serialized (record {
           header = finalized_header message_codec.serialized destroys.serialized_type
-              (record { header = h; payload = InnerMessage m });
-          payload = InnerMessage m;
+              (record { header = header; payload = InnerMessage inner });
+          payload = InnerMessage inner;
         })) tt
-        (errors.UnknownMessageType (destroys.serialized_type m)) }
+        (errors.UnknownMessageType SOCK_DESTROY) }
 {}
 
 /// The parser of requests to close sockets rejects what `serialize` writes for a
@@ -142,10 +145,10 @@ pub fn finalized_destroy_is_rejected()
 /// its header fits its field. This is about a Rust value, `message`;
 /// [`finalized_destroy_is_rejected`] is about models.
 pub fn finalized_destroy_value_is_rejected()
-    // `destroys.model`: the message that the request contains. `destroys.serialized_type` is 21.
-    // `netlink_message_model destroys.model message`: the header of `message`, and the model of its
-    // payload. `finalized_header`: the header with the length of the message and the type 21.
-    // `rest`: the bytes after the message.
+    // `destroys.model`: the message that the request contains. `destroys.serialized_type` is
+    // `SOCK_DESTROY`. `netlink_message_model destroys.model message`: the header of `message`, and
+    // the model of its payload. `finalized_header`: the header with the length of the message and
+    // this type. `rest`: the bytes after the message.
     ensures { (message : NetlinkMessage SockDiagDestroy) (destroy : SockDiagDestroy) (rest : List ℕ)
         → message.payload ≡ InnerMessage destroy
         → FitFields header_fields (header_values message.header)
@@ -155,14 +158,15 @@ pub fn finalized_destroy_value_is_rejected()
           header = finalized_header message_codec.serialized destroys.serialized_type
               (netlink_message_model destroys.model message);
         })) ++ rest) tt
-        (errors.UnknownMessageType (destroys.serialized_type (destroys.model destroy))) }
+        (errors.UnknownMessageType SOCK_DESTROY) }
 {}
 
 /// Each input has one netlink message of sock_diag(7) at its start, or one decode error. It does
 /// not have both, and the error is not `Memory`.
 pub fn one_message_or_error()
     // `IsBytes b`: each number of the list `b` is below 256. `parses b tt v`: the bytes `b` start
-    // with the message `v`. `rejects b tt e`: they are rejected with the error `e`.
+    // with the message `v`. `rejects b tt e`: they are rejected with the error `e`. `tt`: the codec
+    // has no parameter.
     ensures is_total { (b : List ℕ) → IsBytes b
         → ((v : NetlinkMessageModel Message) × netlink_message_codec.parses b tt v)
         ⊎ ((e : DecodeError) × netlink_message_codec.rejects b tt e) }
@@ -178,15 +182,19 @@ pub fn one_message_or_error()
     ensures error_is_not_memory { (b : List ℕ) → netlink_message_codec.rejects b tt errors.Memory →
         ⊥ }
 {
+    // `netlink_core` states this for the messages of any protocol.
     laws::one_message_or_error::<SockDiagMessage>();
 }
 
 /// Two accepted inputs have equal netlink messages if and only if they are equivalent.
 pub fn equal_messages_iff_equivalent()
+    // `parses b tt v`: the bytes `b` start with the message `v`. `equivalent tt b c`: `b` and `c`
+    // are equivalent, that is, they differ only in ignored bits. `tt`: the codec has no parameter.
     ensures { (b c : List ℕ) (v w : NetlinkMessageModel Message) → IsBytes b → IsBytes c
         → netlink_message_codec.parses b tt v → netlink_message_codec.parses c tt w
         → ((v ≡ w) ↔ netlink_message_codec.equivalent tt b c) }
 {
+    // `netlink_core` states this for the messages of any protocol.
     laws::equal_messages_iff_equivalent::<SockDiagMessage>();
 }
 
@@ -194,13 +202,15 @@ pub fn equal_messages_iff_equivalent()
 /// An input has a canonical form if it is accepted and its value is writable. The canonical form of
 /// a netlink message has its header unchanged.
 pub fn same_message_bytes_iff_equivalent()
-    // `HasCanonicalForm codec tt b form`: the input `b` is accepted, its value is writable, and
-    // `form` are the bytes that this value serializes to.
-    ensures { (b c form other : List ℕ) → IsBytes b → IsBytes c
-        → HasCanonicalForm netlink_message_codec tt b form
-        → HasCanonicalForm netlink_message_codec tt c other
-        → ((form ≡ other) ↔ netlink_message_codec.equivalent tt b c) }
+    // `HasCanonicalForm codec tt bytes form`: the input `bytes` is accepted, its value is writable,
+    // and `form` are the bytes that this value serializes to. `equivalent tt b c`: `b` and `c`
+    // differ only in ignored bits. `tt`: the codec has no parameter.
+    ensures { (bytes others form other_form : List ℕ) → IsBytes bytes → IsBytes others
+        → HasCanonicalForm netlink_message_codec tt bytes form
+        → HasCanonicalForm netlink_message_codec tt others other_form
+        → ((form ≡ other_form) ↔ netlink_message_codec.equivalent tt bytes others) }
 {
+    // `netlink_core` states this for the messages of any protocol.
     laws::same_message_bytes_iff_equivalent::<SockDiagMessage>();
 }
 
@@ -210,56 +220,63 @@ pub fn same_message_bytes_iff_equivalent()
 pub fn finalized_message_round_trips()
     // `finalized_header bytes type_of v`: the header of `v`, with the length of the message and the
     // type of its payload; `bytes` and `type_of` are those of an inner message. Here the type of an
-    // inner message is `messages.serialized_type`, which is 20. `HoldsOfInnerMessage is payload`:
-    // the inner message is in normal form, if there is one.
+    // inner message is `messages.serialized_type`, which is `SOCK_DIAG_BY_FAMILY`.
+    // `HoldsOfInnerMessage is payload`: the inner message is in normal form, if there is one.
     ensures { (v : NetlinkMessageModel Message) → netlink_message_codec.is_in_range v
         → netlink_message_codec.is_writable v
         → (v.header ≡ finalized_header message_codec.serialized messages.serialized_type v)
         → (netlink_message_codec.parses (netlink_message_codec.serialized v) tt v
-        ↔ HoldsOfInnerMessage (message_codec.is_normal 20) v.payload) }
+        ↔ HoldsOfInnerMessage (message_codec.is_normal SOCK_DIAG_BY_FAMILY) v.payload) }
 {
+    // `netlink_core` states this for the messages of any protocol.
     laws::finalized_message_round_trips::<SockDiagMessage>();
 }
 
 /// Each list of items has exactly one dump, given the messages before: the messages after it and
 /// its end.
 pub fn items_have_one_dump()
-    // `DumpOfItems before items after end`: a dump with the messages `before` that reads these
-    // items has the messages `after` and the end `end`.
-    ensures some { (before : List Message) (items : List (Result (Payload Message) DecodeError))
+    // `DumpOfItems (before, items) (after, end)`: a dump with the messages `before` that reads
+    // these items has then the messages `after` and the end `end`. `Item Message`: the payload of a
+    // message, or its error.
+    ensures some { (before : List Message) (items : List (Item Message))
         → (after : List Message) × (end : Result DumpStatus DecodeError)
-        × DumpOfItems before items after end }
-    ensures one { (before a b : List Message) (items : List (Result (Payload Message) DecodeError))
-        (e f : Result DumpStatus DecodeError)
-        → DumpOfItems before items a e → DumpOfItems before items b f → (a ≡ b) × (e ≡ f) }
+        × DumpOfItems (before, items) (after, end) }
+    ensures one { (before after other_after : List Message) (items : List (Item Message))
+        (end other_end : Result DumpStatus DecodeError)
+        → DumpOfItems (before, items) (after, end)
+        → DumpOfItems (before, items) (other_after, other_end)
+        → (after ≡ other_after) × (end ≡ other_end) }
 {}
 
 /// The dump over two concatenated lists of items is the dump over the first list if that list ends
 /// the dump. Otherwise it is continued over the second list.
 pub fn dump_over_concatenation()
-    // `Ok (Reading, None)`: no item of `xs` ends the dump. Then `ys` continues it from the messages
-    // `middle`. Otherwise the items `ys` change nothing.
+    // The dump over the items `first` has the messages `middle` and the end `middle_end`.
+    // `Ok (Reading, None)`: no item of `first` ends the dump. Then `second` continues it from the
+    // messages `middle`. Otherwise the items `second` change nothing.
     ensures { (before after : List Message) (end : Result DumpStatus DecodeError)
-        (xs ys : List (Result (Payload Message) DecodeError))
-        → (DumpOfItems before (xs ++ ys) after end
-        ↔ ((middle : List Message) × (state : Result DumpStatus DecodeError)
-        × DumpOfItems before xs middle state
-        × (((state ≡ Ok (Reading, None)) × DumpOfItems middle ys after end)
-        ⊎ ((state ≢ Ok (Reading, None)) × (after ≡ middle) × (end ≡ state))))) }
+        (first second : List (Item Message))
+        → (DumpOfItems (before, first ++ second) (after, end)
+        ↔ ((middle : List Message) × (middle_end : Result DumpStatus DecodeError)
+        × DumpOfItems (before, first) (middle, middle_end)
+        × (((middle_end ≡ Ok (Reading, None)) × DumpOfItems (middle, second) (after, end))
+        ⊎ ((middle_end ≢ Ok (Reading, None)) × (after ≡ middle) × (end ≡ middle_end))))) }
 {}
 
 /// Two lists of datagrams with the same items have the same dump, from any messages before
 /// (`HaveSameItems`: the items of all datagrams of a list, concatenated in order).
 pub fn same_items_have_one_dump()
-    // `DumpOfDatagrams is before datagrams after end`: a dump with the messages `before` that reads
-    // these datagrams has the messages `after` and the end `end`. `is message item`: the item of a
-    // message; `IsItemOf message_codec` is the item of a `DumpReader`.
+    // `DumpOfDatagrams item_is (before, datagrams) (after, end)`: a dump with the messages `before`
+    // that reads these datagrams has then the messages `after` and the end `end`. `item_is message
+    // item`: the item of a message; `IsItemOf message_codec` is the item of a `DumpReader`.
+    // `IsBytes b`: each number of the list `b` is below 256.
     ensures { (datagrams others : List (List ℕ)) → AllByRecursion IsBytes datagrams
         → HaveSameItems (IsItemOf message_codec) datagrams others
         → (before after : List Message) (end : Result DumpStatus DecodeError)
-        → DumpOfDatagrams (IsItemOf message_codec) before datagrams after end
-        → DumpOfDatagrams (IsItemOf message_codec) before others after end }
+        → DumpOfDatagrams (IsItemOf message_codec) (before, datagrams) (after, end)
+        → DumpOfDatagrams (IsItemOf message_codec) (before, others) (after, end) }
 {
+    // Proof only: a datagram has at most one list of items.
     laws::one_list_of_items::<SockDiagMessage>();
 }
 
@@ -271,9 +288,10 @@ pub fn split_changes_no_dump()
     // `AreSplitsOfSameBytes datagrams others`: both are such splits of the same bytes.
     ensures { (datagrams others : List (List ℕ)) → AreSplitsOfSameBytes datagrams others
         → (before after : List Message) (end : Result DumpStatus DecodeError)
-        → DumpOfDatagrams (IsItemOf message_codec) before datagrams after end
-        → DumpOfDatagrams (IsItemOf message_codec) before others after end }
+        → DumpOfDatagrams (IsItemOf message_codec) (before, datagrams) (after, end)
+        → DumpOfDatagrams (IsItemOf message_codec) (before, others) (after, end) }
 {
+    // Proof only: each datagram has a list of items, and only one.
     laws::datagram_has_items::<SockDiagMessage>();
     laws::one_list_of_items::<SockDiagMessage>();
 }
@@ -281,36 +299,39 @@ pub fn split_changes_no_dump()
 /// The result of feeding a `DumpReader` does not depend on the split into datagrams. `datagrams`
 /// and `others` are two ways to split the same bytes into datagrams, in each of which every
 /// datagram except the last consists of complete messages with all their padding. Each is fed to a
-/// new reader, and no allocation fails (`FeedingAllLeadsTo`).
+/// new reader, and no allocation fails (`NewReaderReaches`).
 ///
 /// - `same`: both readers have the same progress: messages, state, error number, interruption.
 /// - `whole`: feeding all bytes as one datagram leads to this progress, too.
 pub fn split_changes_no_feed()
-    // `FeedingAllLeadsTo item_is old datagrams new`: feeding these datagrams in order to a reader
-    // with the progress `old` leads to the progress `new`, and no allocation fails. `new_dump`: the
-    // progress of a new reader. `IsCompleteSplit datagrams`: every datagram except the last
-    // consists of complete messages with all their padding. `concat datagrams`: all bytes.
+    // `NewReaderReaches item_is datagrams progress`: feeding these datagrams in order to a new
+    // reader leads to this progress, and no allocation fails. `IsCompleteSplit datagrams`: every
+    // datagram except the last consists of complete messages with all their padding.
+    // `concat datagrams`: all bytes.
     ensures same { (datagrams others : List (List ℕ)) → AreSplitsOfSameBytes datagrams others
         → (progress other : DumpProgress Message)
-        → FeedingAllLeadsTo (IsItemOf message_codec) new_dump datagrams progress
-        → FeedingAllLeadsTo (IsItemOf message_codec) new_dump others other → progress ≡ other }
+        → NewReaderReaches (IsItemOf message_codec) datagrams progress
+        → NewReaderReaches (IsItemOf message_codec) others other → progress ≡ other }
     ensures whole { (datagrams : List (List ℕ)) → IsCompleteSplit datagrams
         → (progress : DumpProgress Message)
-        → FeedingAllLeadsTo (IsItemOf message_codec) new_dump datagrams progress
-        → FeedingAllLeadsTo (IsItemOf message_codec) new_dump (concat datagrams ∷ []) progress }
+        → NewReaderReaches (IsItemOf message_codec) datagrams progress
+        → NewReaderReaches (IsItemOf message_codec) (concat datagrams ∷ []) progress }
 {}
 
-/// The result of feeding a `DumpReader` is the same for two lists of datagrams with the same items
-/// (`HaveSameItems`). Each list is fed to a new reader. If no allocation fails, both have the same
-/// messages, state and error number. Whether a dump is interrupted may differ, because an item does
-/// not contain the flags of its message.
+/// A new `DumpReader` has the same messages, state and error number after two lists of datagrams
+/// with the same items (`HaveSameItems`), if no allocation fails. An item is the payload of a
+/// message, or its error. Whether the dump is interrupted may differ, because an item does not
+/// contain the flags of its message.
 pub fn same_items_change_no_feed()
+    // `NewReaderReaches item_is datagrams progress`: feeding these datagrams in order to a new
+    // reader leads to this progress, and no allocation fails. `IsBytes b`: each number of the list
+    // `b` is below 256.
     ensures { (datagrams others : List (List ℕ)) → AllByRecursion IsBytes datagrams
         → AllByRecursion IsBytes others
         → HaveSameItems (IsItemOf message_codec) datagrams others
         → (progress other : DumpProgress Message)
-        → FeedingAllLeadsTo (IsItemOf message_codec) new_dump datagrams progress
-        → FeedingAllLeadsTo (IsItemOf message_codec) new_dump others other
+        → NewReaderReaches (IsItemOf message_codec) datagrams progress
+        → NewReaderReaches (IsItemOf message_codec) others other
         → (progress.messages ≡ other.messages) × (progress.state ≡ other.state)
         × (progress.error_number ≡ other.error_number) }
 {}
@@ -318,23 +339,24 @@ pub fn same_items_change_no_feed()
 /// The result of feeding a `LossyDump` does not depend on the split into datagrams. `datagrams` and
 /// `others` are two ways to split the same bytes into datagrams, in each of which every datagram
 /// except the last consists of complete messages with all their padding. Each is fed to a new
-/// reader, and no allocation fails (`FeedingAllLeadsTo`).
+/// reader, and no allocation fails (`NewReaderReaches`).
 ///
 /// - `same`: both readers have the same progress: entries, state, error number, interruption.
 /// - `whole`: feeding all bytes as one datagram leads to this progress, too.
 pub fn split_changes_no_lossy_feed()
-    // As for `split_changes_no_feed`, with the items of a `LossyDump`:
-    // `HasLossyEntry message_codec` relates a message to its item, in which an inner message is an
-    // entry.
+    // `NewReaderReaches item_is datagrams progress`: feeding these datagrams in order to a new
+    // reader leads to this progress, and no allocation fails. `HasLossyEntry message_codec`: the
+    // item of a message in a `LossyDump`, in which an inner message is its value or its decode
+    // error. `concat datagrams`: all bytes.
     ensures same { (datagrams others : List (List ℕ)) → AreSplitsOfSameBytes datagrams others
         → (progress other : DumpProgress (Result Message DecodeError))
-        → FeedingAllLeadsTo (HasLossyEntry message_codec) new_dump datagrams progress
-        → FeedingAllLeadsTo (HasLossyEntry message_codec) new_dump others other
+        → NewReaderReaches (HasLossyEntry message_codec) datagrams progress
+        → NewReaderReaches (HasLossyEntry message_codec) others other
         → progress ≡ other }
     ensures whole { (datagrams : List (List ℕ)) → IsCompleteSplit datagrams
         → (progress : DumpProgress (Result Message DecodeError))
-        → FeedingAllLeadsTo (HasLossyEntry message_codec) new_dump datagrams progress
-        → FeedingAllLeadsTo (HasLossyEntry message_codec) new_dump (concat datagrams ∷ [])
+        → NewReaderReaches (HasLossyEntry message_codec) datagrams progress
+        → NewReaderReaches (HasLossyEntry message_codec) (concat datagrams ∷ [])
         progress }
 {}
 
@@ -343,12 +365,16 @@ pub fn split_changes_no_lossy_feed()
 /// entries, state and error number. Whether a dump is interrupted may differ, because an item does
 /// not contain the flags of its message.
 pub fn same_items_change_no_lossy_feed()
+    // `NewReaderReaches item_is datagrams progress`: feeding these datagrams in order to a new
+    // reader leads to this progress, and no allocation fails. `HasLossyEntry message_codec`: the
+    // item of a message in a `LossyDump`. The messages of its progress are its entries. `IsBytes
+    // b`: each number of the list `b` is below 256.
     ensures { (datagrams others : List (List ℕ)) → AllByRecursion IsBytes datagrams
         → AllByRecursion IsBytes others
         → HaveSameItems (HasLossyEntry message_codec) datagrams others
         → (progress other : DumpProgress (Result Message DecodeError))
-        → FeedingAllLeadsTo (HasLossyEntry message_codec) new_dump datagrams progress
-        → FeedingAllLeadsTo (HasLossyEntry message_codec) new_dump others other
+        → NewReaderReaches (HasLossyEntry message_codec) datagrams progress
+        → NewReaderReaches (HasLossyEntry message_codec) others other
         → (progress.messages ≡ other.messages) × (progress.state ≡ other.state)
         × (progress.error_number ≡ other.error_number) }
 {}
@@ -357,20 +383,20 @@ pub fn same_items_change_no_lossy_feed()
 /// [`DumpReader`](crate::DumpReader) and ends in the same way. If a `LossyDump` ends with an error,
 /// it is the error of bytes that are not a message.
 pub fn lossy_dump_keeps_messages()
-    // `DumpOfDatagrams is before datagrams after end`: as for `same_items_have_one_dump`; with
-    // `IsItemOf message_codec` it is the dump of a `DumpReader`, and with
-    // `HasLossyEntry message_codec` the dump of a `LossyDump`. `map (λ m. Ok m)`: messages as
-    // entries of a `LossyDump`. `Ok end`: no decode error ends the dump; `end` is its state, which
-    // is `Reading` if no message ends it, and its error number.
+    // `DumpOfDatagrams item_is (before, datagrams) (after, end)`: a dump with the messages `before`
+    // that reads these datagrams has then the messages `after` and the end `end`. With `IsItemOf
+    // message_codec` it is the dump of a `DumpReader`, with `HasLossyEntry message_codec` that of a
+    // `LossyDump`. `as_lossy_entries`: messages as entries of a `LossyDump`. `Ok end`: no decode
+    // error ends the dump; `end` is its state, which is `Reading` if no message ends it, and its
+    // error number.
     ensures kept { (datagram : List ℕ) (before after : List Message) (end : DumpStatus)
-        → DumpOfDatagrams (IsItemOf message_codec) before (datagram ∷ []) after (Ok end)
-        → DumpOfDatagrams (HasLossyEntry message_codec) (map (λ (m : Message). Ok m) before)
-        (datagram ∷ [])
-        (map (λ (m : Message). Ok m) after) (Ok end) }
+        → DumpOfDatagrams (IsItemOf message_codec) (before, datagram ∷ []) (after, Ok end)
+        → DumpOfDatagrams (HasLossyEntry message_codec)
+        (as_lossy_entries before, datagram ∷ []) (as_lossy_entries after, Ok end) }
     // `IsMessageError rest error`: the bytes `rest` do not start with a message, with this error.
     ensures error { (datagram : List ℕ) (before after : List (Result Message DecodeError))
         (error : DecodeError)
-        → DumpOfDatagrams (HasLossyEntry message_codec) before (datagram ∷ []) after (Err error)
+        → DumpOfDatagrams (HasLossyEntry message_codec) (before, datagram ∷ []) (after, Err error)
         → (rest : List ℕ) × IsMessageError rest error }
 {}
 
@@ -398,41 +424,43 @@ pub fn copied_views<'a>(walk: &BorrowedPayloads<'a>) -> Result<BorrowedPayloads<
 }
 
 /// `==` of two borrowed replies about UNIX sockets is true if and only if their models are equal.
-pub fn equal_unix_views(v: &UnixResponseView<'_>, w: &UnixResponseView<'_>) -> bool
+pub fn equal_unix_views(left: &UnixResponseView<'_>, right: &UnixResponseView<'_>) -> bool
     // `view_model`: the header, and what each attribute decodes to, in order.
-    ensures { IsTrue result ↔ (view_model v.now ≡ view_model w.now) }
+    ensures { IsTrue result ↔ (view_model left.now ≡ view_model right.now) }
 {
-    v == w
+    left == right
 }
 
 /// `==` of two borrowed replies about IPv4 or IPv6 sockets is true if and only if their models are
 /// equal.
-pub fn equal_inet_views(v: &InetResponseView<'_>, w: &InetResponseView<'_>) -> bool
-    ensures { IsTrue result ↔ (view_model v.now ≡ view_model w.now) }
+pub fn equal_inet_views(left: &InetResponseView<'_>, right: &InetResponseView<'_>) -> bool
+    // `view_model`: the header, and what each attribute decodes to, in order.
+    ensures { IsTrue result ↔ (view_model left.now ≡ view_model right.now) }
 {
-    v == w
+    left == right
 }
 
 /// `==` of two borrowed payloads is true if and only if their models are equal.
 #[tactic(auto, using(crate::specs::laws::EqualMessage::view_equal))]
-pub fn equal_payload_views(v: &BorrowedPayload<'_>, w: &BorrowedPayload<'_>) -> bool
+pub fn equal_payload_views(left: &BorrowedPayload<'_>, right: &BorrowedPayload<'_>) -> bool
     // `payload_view_model`: the payload, with the model of its inner message or with its bytes.
-    ensures { IsTrue result ↔ (payload_view_model v.now ≡ payload_view_model w.now) }
+    ensures { IsTrue result ↔ (payload_view_model left.now ≡ payload_view_model right.now) }
 {
-    v == w
+    left == right
 }
 
 /// `==` of two borrowed messages is true if and only if their models are equal.
 #[tactic(auto, using(crate::specs::laws::EqualMessage::view_equal))]
-pub fn equal_message_views(v: &SockDiagView<'_>, w: &SockDiagView<'_>) -> bool
+pub fn equal_message_views(left: &SockDiagView<'_>, right: &SockDiagView<'_>) -> bool
     // `message_view_model`: the kind of the message, and the model of its reply.
-    ensures { IsTrue result ↔ (message_view_model v.now ≡ message_view_model w.now) }
+    ensures { IsTrue result ↔ (message_view_model left.now ≡ message_view_model right.now) }
 {
-    v == w
+    left == right
 }
 
 /// The clone of a borrowed reply about a UNIX socket has the same model, and cloning does not fail.
 pub fn copied_unix_view<'a>(view: &UnixResponseView<'a>) -> Result<UnixResponseView<'a>, AllocError>
+    // `view_model`: the header, and what each attribute decodes to, in order.
     ensures ok { IsOk result }
     ensures same { IfOk result (λ copy. view_model copy ≡ view_model view.now) }
 {
@@ -442,6 +470,7 @@ pub fn copied_unix_view<'a>(view: &UnixResponseView<'a>) -> Result<UnixResponseV
 /// The clone of a borrowed reply about an IPv4 or IPv6 socket has the same model, and cloning does
 /// not fail.
 pub fn copied_inet_view<'a>(view: &InetResponseView<'a>) -> Result<InetResponseView<'a>, AllocError>
+    // `view_model`: the header, and what each attribute decodes to, in order.
     ensures ok { IsOk result }
     ensures same { IfOk result (λ copy. view_model copy ≡ view_model view.now) }
 {
@@ -490,6 +519,8 @@ pub fn owned_inet_view(
     view: &InetResponseView<'_>,
     alloc: Global,
 ) -> Result<InetResponse, AllocError>
+    // `⟦<InetResponse as Emitable>⟧.bytes reply`: the bytes that the owned reply serializes to.
+    // `.writable reply`: it is writable. The right sides are those of the borrowed reply.
     ensures bytes { IfOk result (λ reply.
         ⟦<InetResponse as Emitable>⟧.bytes reply
         ≡ response_bytes inet_response_spec (view_model view.now)) }

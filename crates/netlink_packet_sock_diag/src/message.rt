@@ -37,32 +37,28 @@ impl SockDiagMessage {
     pub fn is_inet_request(&self) -> bool
         // `message_model`: the kind of the message and the model of its content. `kind_of`: this
         // kind, one of `inet_request`, `inet_response`, `unix_request` and `unix_response`.
-        ensures { IsTrue result
-            ↔ (kind_of (message_model self.now) ≡ inet_request) }
+        ensures { IsTrue result ↔ (kind_of (message_model self.now) ≡ inet_request) }
     {
         matches!(self, SockDiagMessage::InetRequest(_))
     }
 
     /// Returns whether the message is a reply describing an IPv4 or IPv6 socket.
     pub fn is_inet_response(&self) -> bool
-        ensures { IsTrue result
-            ↔ (kind_of (message_model self.now) ≡ inet_response) }
+        ensures { IsTrue result ↔ (kind_of (message_model self.now) ≡ inet_response) }
     {
         matches!(self, SockDiagMessage::InetResponse(_))
     }
 
     /// Returns whether the message is a request for UNIX sockets.
     pub fn is_unix_request(&self) -> bool
-        ensures { IsTrue result
-            ↔ (kind_of (message_model self.now) ≡ unix_request) }
+        ensures { IsTrue result ↔ (kind_of (message_model self.now) ≡ unix_request) }
     {
         matches!(self, SockDiagMessage::UnixRequest(_))
     }
 
     /// Returns whether the message is a reply describing a UNIX socket.
     pub fn is_unix_response(&self) -> bool
-        ensures { IsTrue result
-            ↔ (kind_of (message_model self.now) ≡ unix_response) }
+        ensures { IsTrue result ↔ (kind_of (message_model self.now) ≡ unix_response) }
     {
         matches!(self, SockDiagMessage::UnixResponse(_))
     }
@@ -70,7 +66,7 @@ impl SockDiagMessage {
     /// Returns the message type under which the message is serialized and parsed:
     /// `SOCK_DIAG_BY_FAMILY`, 20.
     pub fn message_type(&self) -> u16
-        ensures { result ≡ 20 }
+        ensures { result ≡ SOCK_DIAG_BY_FAMILY }
     {
         SOCK_DIAG_BY_FAMILY
     }
@@ -82,6 +78,7 @@ impl SockDiagMessage {
         ensures of_request { (kind_of (message_model self.now) ≡ inet_request)
             ⊎ (kind_of (message_model self.now) ≡ unix_request) → IsOk result }
     {
+        // `clone` returns a `Result` for every type. For a request it is always `Ok`.
         Ok(match self {
             SockDiagMessage::InetRequest(request) => {
                 SockDiagMessage::InetRequest(request.clone()?)
@@ -104,28 +101,30 @@ impl SockDiagMessage {
         payload: &[u8],
         message_type: u16,
     ) -> Result<SockDiagMessage, DecodeError>
+        // `message_codec.parses b t m`: the bytes `b` parse under the message type `t` as the
+        // message `m`. `message_codec.rejects b t e`: they are rejected with the error `e`.
         ensures value { IfOk result
-            (λ m. message_codec.parses payload.now message_type (message_model m)) }
-        ensures error { IfErr result (λ e. e ≢ Memory
-            → message_codec.rejects payload.now message_type e) }
-        // `Memory` is returned only for bytes that have a message `m`. No message counts as one
-        // that needs no memory, so the last condition always holds.
-        ensures memory_needed { IfErr result (λ e. e ≡ Memory
-            → (m : Message) × message_codec.parses payload.now message_type m
-            × ¬ message_codec.needs_no_memory m) }
+            (λ message. message_codec.parses payload.now message_type (message_model message)) }
+        ensures error { IfErr result (λ error. error ≢ Memory
+            → message_codec.rejects payload.now message_type error) }
+        // `Memory` is returned only for bytes that have a message. No message counts as one that
+        // needs no memory, so the last condition always holds.
+        ensures memory_needed { IfErr result (λ error. error ≡ Memory
+            → (message : Message) × message_codec.parses payload.now message_type message
+            × ¬ message_codec.needs_no_memory message) }
     {
         Ok(SockDiagView::parse(payload, message_type)?.to_owned(alloc)?)
     }
 
     // Returns `true` if the bytes under the message type are a reply about a UNIX socket, `false`
-    // if they are one about an IPv4 or IPv6 socket, and the error if they are neither. It looks at
-    // the first byte only.
+    // if they are one about an IPv4 or IPv6 socket, and the error if they are neither. It checks
+    // only that there are two bytes, the message type, and the first byte, which is the family.
     #[inline(always)]
     fn holds_unix_reply(payload: &[u8], message_type: u16) -> Result<bool, DecodeError>
         // `response_kind payload t`: the kind of reply of a payload under the message type `t`, by
         // its first byte, or the error if it has none.
-        ensures kind { IfOk result (λ unix. response_kind payload.now message_type
-            ≡ Ok (if unix then unix_response else inet_response)) }
+        ensures kind { IfOk result (λ is_unix. response_kind payload.now message_type
+            ≡ Ok (if is_unix then unix_response else inet_response)) }
         ensures error { IfErr result (λ error. response_kind payload.now message_type ≡ Err error) }
     {
         if payload.len() < 2 {
@@ -236,6 +235,8 @@ impl Wire for SockDiagMessage {
         }
     }
 
+    // `Emitable` defines `bytes`, `writable` and `in_range` by the codec, so the three hold by
+    // definition.
     ghost bytes_by_codec = { λ v. refl };
 
     ghost writable_by_codec = { λ v. (λ h. h, λ h. h) };
@@ -272,6 +273,7 @@ impl NetlinkDeserializable for SockDiagMessage {
 }
 
 impl From<SockDiagMessage> for NetlinkPayload<SockDiagMessage> {
+    // `payload`: what `from` returns for the message.
     ghost from_gives = { λ message payload. payload ≡ InnerMessage message };
 
     fn from(message: SockDiagMessage) -> Self {
@@ -340,6 +342,7 @@ impl NetlinkDeserializable for SockDiagDestroy {
 }
 
 impl From<SockDiagDestroy> for NetlinkPayload<SockDiagDestroy> {
+    // `payload`: what `from` returns for the request.
     ghost from_gives = { λ destroy payload. payload ≡ InnerMessage destroy };
 
     fn from(destroy: SockDiagDestroy) -> Self {

@@ -5,18 +5,14 @@ use Rattle.netlink_packet_sock_diag.specs.laws.EqualMessage.{view_equal}
 use Rattle.netlink_packet_sock_diag.specs.Message.{Message}
 use Rattle.sock_diag_replies.specs.laws.EqualResponse.{response_test_decides}
 use Rattle.sock_diag_replies.specs.ViewModel.{view_model}
-use Rattle.sock_diag_families.specs.contracts.netlink.response.NetlinkResponseHeaderExact.TheImpl.Laws.{
-  exact-law as exact_netlink,
-}
-use Rattle.sock_diag_families.specs.contracts.packet.response.PacketResponseHeaderExact.TheImpl.Laws.{
-  exact-law as exact_packet,
-}
-use Rattle.sock_diag_families.specs.contracts.vsock.response.VsockResponseHeaderExact.TheImpl.Laws.{
-  exact-law as exact_vsock,
-}
-use Rattle.sock_diag_families.specs.contracts.xdp.response.XdpResponseHeaderExact.TheImpl.Laws.{
-  exact-law as exact_xdp,
-}
+use Rattle.sock_diag_families.specs.contracts.netlink.response.NetlinkResponseHeaderExact as
+    netlink_equality
+use Rattle.sock_diag_families.specs.contracts.packet.response.PacketResponseHeaderExact as
+    packet_equality
+use Rattle.sock_diag_families.specs.contracts.vsock.response.VsockResponseHeaderExact as
+    vsock_equality
+use Rattle.sock_diag_families.specs.contracts.xdp.response.XdpResponseHeaderExact as
+    xdp_equality
 use Rattle.sock_diag_any.specs.AnyMessage.{AnyMessage, ExtensionFamily, extension_codec_of}
 use Rattle.sock_diag_any.specs.AnyMessage.{any_view_model, of_port, of_family, netlink, packet}
 use Rattle.sock_diag_any.specs.AnyMessage.{vsock, xdp}
@@ -69,14 +65,18 @@ pub any_equal : (v w : AnySockDiagView)
 any_equal (view.SockDiag a) (view.SockDiag x) = equal_by_port_message _ _ _ (view_equal a x)
 any_equal (view.Netlink a) (view.Netlink x) =
     equal_by_reply netlink _ _ _
-    (response_test_decides _ [] tt exact_netlink.0 (view_model a) (view_model x))
+    (response_test_decides _ [] tt netlink_equality.TheImpl.Laws.exact-law.0
+    (view_model a) (view_model x))
 any_equal (view.Packet a) (view.Packet x) =
     equal_by_reply packet _ _ _
-    (response_test_decides _ [] tt exact_packet.0 (view_model a) (view_model x))
+    (response_test_decides _ [] tt packet_equality.TheImpl.Laws.exact-law.0
+    (view_model a) (view_model x))
 any_equal (view.Vsock a) (view.Vsock x) =
     equal_by_reply vsock _ _ _
-    (response_test_decides _ [] tt exact_vsock.0 (view_model a) (view_model x))
+    (response_test_decides _ [] tt vsock_equality.TheImpl.Laws.exact-law.0
+    (view_model a) (view_model x))
 any_equal (view.Xdp a) (view.Xdp x) =
     equal_by_reply xdp _ _ _
-    (response_test_decides _ [] tt exact_xdp.0 (view_model a) (view_model x))
+    (response_test_decides _ [] tt xdp_equality.TheImpl.Laws.exact-law.0
+    (view_model a) (view_model x))
 any_equal v w = false_decides (λ e. let families = ap family_in e in cc)

@@ -30,9 +30,10 @@ extension_codec_of packet = response_codec (raw_reply_spec packet_header)
 extension_codec_of vsock = response_codec (raw_reply_spec vsock_header)
 extension_codec_of xdp = response_codec (raw_reply_spec xdp_header)
 
--- The family of the bytes `b` of a message of type `t`, if the port does not parse them. There must
--- be at least two bytes, and the type must be SOCK_DIAG_BY_FAMILY. The first byte is the number of
--- the family. In all other cases it is `None`, and the port parses the bytes.
+-- `extension_family_of b t`: the family of the bytes `b` of a message of type `t`, if the port does
+-- not parse them. There must be at least two bytes, the type must be SOCK_DIAG_BY_FAMILY, and the
+-- first byte must be the number of one of the four families. In all other cases it is `None`, and
+-- the port parses the bytes.
 abbrev pub extension_family_of : List ℕ → ℕ → Option ExtensionFamily
 extension_family_of b t =
     if nat_lt (length b) 2 || not (t == c.SOCK_DIAG_BY_FAMILY) then None
@@ -73,8 +74,9 @@ abbrev pub IsRejectedByExtensionFamily : Option ExtensionFamily → List ℕ →
 IsRejectedByExtensionFamily None b t e = message_codec.rejects b t e
 IsRejectedByExtensionFamily (Some family) b t e = (extension_codec_of family).rejects b tt e
 
--- The bytes `b` of a message of type `t` are rejected with the error `e`, by the codec of the
--- family that `extension_family_of` returns.
+-- `IsRejectedAsAnyMessage b t e`: the bytes `b` of a message of type `t` are rejected with the
+-- error `e`, by the codec of the family that `extension_family_of` returns, or by the port's codec
+-- if it returns `None`.
 abbrev pub IsRejectedAsAnyMessage : List ℕ → ℕ → DecodeError → Type 0
 IsRejectedAsAnyMessage b t e = IsRejectedByExtensionFamily (extension_family_of b t) b t e
 

@@ -1,3 +1,4 @@
 pub mod RawReply
 pub mod AnyMessage
+pub mod Getters
 pub mod laws

@@ -4,9 +4,9 @@ use Rattle.netlink_core.specs.Layout.{Layout}
 use Rattle.netlink_core.specs.ValueCodec.{value_codec}
 use Rattle.netlink_core.specs.Response.{ResponseSpec}
 
--- The specification of a reply: the header has `layout` and a size of `layout.least` bytes, after
--- which the attributes start. The set of known attribute types is empty, so each attribute that
--- follows stays raw.
+-- `raw_reply_spec layout`: the format of replies whose header has this layout, and so
+-- `layout.least` bytes, and whose attributes are raw. No attribute type is known (`[]`), so that
+-- each attribute stays raw.
 abbrev pub raw_reply_spec : {Tag Value : Type 0} → Layout (Unit {0}) Tag Value → ResponseSpec
 raw_reply_spec layout =
     record { header = value_codec layout; size = layout.least; attribute_set = [] }

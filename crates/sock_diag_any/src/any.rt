@@ -41,8 +41,8 @@ impl<'a> AnySockDiagView<'a> {
         // `any_view_model view`: the family and the value of the reply.
         // `ParsesAsAnyMessage b t message`: the bytes `b` of a message of type `t` parse as this
         // message.
-        ensures value { IfOk result
-            (λ view. ParsesAsAnyMessage payload.entry.now message_type (any_view_model view)) }
+        ensures value { IfOk result (λ view.
+            ParsesAsAnyMessage payload.entry.now message_type (any_view_model view)) }
         // `IsRejectedAsAnyMessage b t e`: the codec of the family of the bytes rejects them with
         // the error `e`.
         ensures error { IfErr result (IsRejectedAsAnyMessage payload.entry.now message_type) }

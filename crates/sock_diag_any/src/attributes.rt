@@ -1,11 +1,10 @@
 //! Getters for the values of a reply's attributes by kind.
 
-ghost use Rattle.std.specs.Prelude.{◌≡◌, List, Some, option_map};
+ghost use Rattle.std.specs.Prelude.{◌≡◌, List, option_copied};
 ghost use Rattle.netlink_core.specs.Attribute.{Attribute};
-ghost use Rattle.netlink_core.specs.Layout.{parse_record};
-ghost use Rattle.netlink_core.specs.Parse.{number_of_width};
 ghost use Rattle.sock_diag_replies.specs.ViewModel.{view_model};
-ghost use Rattle.sock_diag_families.specs.AttributeGetters.{first_value_of_kind, parse_if_present};
+ghost use Rattle.sock_diag_families.specs.AttributeGetters.{first_value_of_kind};
+ghost use Rattle.sock_diag_any.specs.Getters.{record_of_kind, u32_of_kind};
 
 use crate::{FamilyHeader, RawReplyView};
 use netlink_core::{DecodeError, Record, parse_u32, read_record};
@@ -20,20 +19,17 @@ pub trait RawAttributes {
     /// if the reply has no such attribute.
     fn value_of(&self, kind: u16) -> Option<&[u8]>
         // `first_value_of_kind kind attributes`: the value of the first of these attributes that
-        // has this kind, or `None`. `option_map (λ value. value.now) result`: the bytes that the
-        // result borrows, as a list.
-        ensures { option_map (λ value. value.now) result
-            ≡ first_value_of_kind kind (attributes self.now) };
+        // has this kind, or `None`. `option_copied result`: the bytes that the result borrows, as a
+        // list.
+        ensures { option_copied result ≡ first_value_of_kind kind (attributes self.now) };
 
     /// Parses the value of the first attribute of the kind, whatever its two flag bits, as a
     /// little-endian `u32`. Returns `None` if the reply has no such attribute. A length other than
     /// 4 is `WrongLength` with the kind.
     fn number_of(&self, kind: u16) -> Result<Option<u32>, DecodeError>
-        // `parse_if_present parse found`: what `parse` returns for the value, if one was found, or
-        // else `Ok None`. `number_of_width (Some kind) 4`: a little-endian number of exactly 4
-        // bytes, or `WrongLength` with this kind.
-        ensures { result ≡ parse_if_present (number_of_width (Some kind) 4)
-            (first_value_of_kind kind (attributes self.now)) }
+        // `u32_of_kind kind attributes`: the little-endian `u32` in the first attribute of this
+        // kind, `Ok None` if there is none, or `WrongLength` with this kind.
+        ensures { result ≡ u32_of_kind kind (attributes self.now) }
     {
         match self.value_of(kind) {
             Some(value) => Ok(Some(parse_u32(value).map_err(|error| error.with_kind(kind))?)),
@@ -45,10 +41,9 @@ pub trait RawAttributes {
     /// two flag bits. Returns `None` if the reply has no such attribute, and the error of the
     /// record's parser if it rejects the value, such as `BufferTooSmall`.
     fn record_of<T: Record<Param = ()>>(&self, kind: u16) -> Result<Option<T>, DecodeError>
-        // `parse_record layout tt`: the record of this layout at the start of the bytes, or its
-        // error. `tt` is the parameter: this record has none.
-        ensures { result ≡ parse_if_present (parse_record T.layout tt)
-            (first_value_of_kind kind (attributes self.now)) }
+        // `record_of_kind layout kind attributes`: the record of this layout in the first attribute
+        // of this kind, `Ok None` if there is none, or the error.
+        ensures { result ≡ record_of_kind T.layout kind (attributes self.now) }
     {
         match self.value_of(kind) {
             Some(value) => Ok(Some(read_record(value, ())?)),
@@ -70,11 +65,12 @@ pub(crate) fn value_in<'a, H: FamilyHeader>(
     reply: &RawReplyView<'a, H>,
     kind: u16,
 ) -> Option<&'a [u8]>
-    ensures { option_map (λ value. value.now) result
-        ≡ first_value_of_kind kind (view_model reply.now).nlas }
+    // `first_value_of_kind kind attributes`: the value of the first of these attributes that has
+    // this kind, or `None`. `(view_model reply.now).nlas`: the attributes of the reply.
+    ensures { option_copied result ≡ first_value_of_kind kind (view_model reply.now).nlas }
 {
-    let mut views = reply.attributes();
-    while let Some(nla) = views.next() {
+    let mut nlas = reply.attributes();
+    while let Some(nla) = nlas.next() {
         if nla.0.kind() == kind {
             return Some(nla.0.value());
         }

@@ -10,23 +10,23 @@ use std::alloc::AllocError;
 
 /// Compares two headers of one family by `==`, which is true if and only if all of their fields are
 /// equal.
-pub fn equal_raw_headers<H: FamilyHeader>(v: &RawHeader<H>, w: &RawHeader<H>) -> bool
-    ensures { IsTrue result ↔ (v.now ≡ w.now) }
+pub fn equal_raw_headers<H: FamilyHeader>(left: &RawHeader<H>, right: &RawHeader<H>) -> bool
+    ensures { IsTrue result ↔ (left.now ≡ right.now) }
 {
-    v == w
+    left == right
 }
 
 /// Compares two borrowed replies of one family by `==`, which is true if and only if their headers
 /// are equal and they have equal attributes in the same order: the same type fields, with their
 /// flag bits, and the same bytes in the values. Padding is not compared.
 pub fn equal_raw_reply_views<H: FamilyHeader>(
-    v: &RawReplyView<'_, H>,
-    w: &RawReplyView<'_, H>,
+    left: &RawReplyView<'_, H>,
+    right: &RawReplyView<'_, H>,
 ) -> bool
     // `view_model`: the header, and the raw attributes in order.
-    ensures { IsTrue result ↔ (view_model v.now ≡ view_model w.now) }
+    ensures { IsTrue result ↔ (view_model left.now ≡ view_model right.now) }
 {
-    v == w
+    left == right
 }
 
 /// Compares two borrowed replies of any family by `==`, which is true if and only if their models
@@ -34,11 +34,11 @@ pub fn equal_raw_reply_views<H: FamilyHeader>(
 /// order. Two attributes are equal by their decoded values for IPv4, IPv6 and UNIX sockets, and by
 /// their type fields and bytes for the other families.
 #[tactic(auto, using(crate::proofs::EqualAny::any_equal))]
-pub fn equal_any_views(v: &AnySockDiagView<'_>, w: &AnySockDiagView<'_>) -> bool
+pub fn equal_any_views(left: &AnySockDiagView<'_>, right: &AnySockDiagView<'_>) -> bool
     // `any_view_model`: the family, and the header and the attributes of the reply.
-    ensures { IsTrue result ↔ (any_view_model v.now ≡ any_view_model w.now) }
+    ensures { IsTrue result ↔ (any_view_model left.now ≡ any_view_model right.now) }
 {
-    v == w
+    left == right
 }
 
 /// Copies a borrowed reply of one family by `clone`, which never fails and returns a reply with the

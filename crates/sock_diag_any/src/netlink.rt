@@ -2,14 +2,13 @@
 //! attribute of its kind, whatever the two flag bits of its type field, and returns `None` if the
 //! reply has none.
 
-ghost use Rattle.std.specs.Prelude.{◌≡◌, Some, option_map};
-ghost use Rattle.netlink_core.specs.Layout.{parse_record};
-ghost use Rattle.netlink_core.specs.Parse.{number_of_width};
+ghost use Rattle.std.specs.Prelude.{◌≡◌, option_copied};
 ghost use Rattle.sock_diag_values.specs.MemInfo.{mem_info};
 ghost use Rattle.sock_diag_replies.specs.ViewModel.{view_model};
-ghost use Rattle.sock_diag_families.specs.AttributeGetters.{first_value_of_kind, parse_if_present};
+ghost use Rattle.sock_diag_families.specs.AttributeGetters.{first_value_of_kind};
 ghost use Rattle.sock_diag_families.specs.laws.Record.{netlink_header_sound};
 ghost use Rattle.sock_diag_any.specs.laws.RawReply.{raw_reply_codec_laws};
+ghost use Rattle.sock_diag_any.specs.Getters.{record_of_kind, u32_of_kind};
 
 use crate::attributes::value_in;
 use crate::{FamilyHeader, RawAttributes, RawReplyView};
@@ -35,13 +34,10 @@ impl FamilyHeader for NetlinkResponseHeader {
 /// the reply has none: `u32` fields in the order of `SK_MEMINFO_..` (linux/sock_diag.h). A value of
 /// fewer than 28 bytes, seven fields, is `BufferTooSmall`.
 pub fn memory(reply: &NetlinkResponseView<'_>) -> Result<Option<MemInfo>, DecodeError>
-    // `first_value_of_kind kind attributes`: the value of the first attribute of this kind, or
-    // `None`. `parse_if_present parse found`: what `parse` returns for this value, or `Ok None` if
-    // there is none. `(view_model reply.now).nlas`: the attributes of the reply.
-    // `parse_record mem_info tt`: the record of the layout `mem_info` at the start of the value, or
-    // its error.
-    ensures { result ≡ parse_if_present (parse_record mem_info tt)
-        (first_value_of_kind NETLINK_DIAG_MEMINFO (view_model reply.now).nlas) }
+    // `record_of_kind layout kind attributes`: the record of this layout in the first attribute of
+    // this kind, `Ok None` if there is none, or the error. `(view_model reply.now).nlas`: the
+    // attributes of the reply.
+    ensures { result ≡ record_of_kind mem_info NETLINK_DIAG_MEMINFO (view_model reply.now).nlas }
 {
     reply.record_of(NETLINK_DIAG_MEMINFO)
 }
@@ -50,8 +46,9 @@ pub fn memory(reply: &NetlinkResponseView<'_>) -> Result<Option<MemInfo>, Decode
 /// none. They are the multicast groups that the socket is a member of, one bit for each group. The
 /// lowest bit of the first byte is group 1.
 pub fn groups<'a>(reply: &NetlinkResponseView<'a>) -> Option<&'a [u8]>
-    // `option_map (λ groups. groups.now) result`: the bytes that the result borrows, as a list.
-    ensures { option_map (λ groups. groups.now) result
+    // `first_value_of_kind kind attributes`: the value of the first attribute of this kind, or
+    // `None`. `option_copied result`: the bytes that the result borrows, as a list.
+    ensures { option_copied result
         ≡ first_value_of_kind NETLINK_DIAG_GROUPS (view_model reply.now).nlas }
 {
     value_in(reply, NETLINK_DIAG_GROUPS)
@@ -61,10 +58,9 @@ pub fn groups<'a>(reply: &NetlinkResponseView<'a>) -> Option<&'a [u8]>
 /// `NETLINK_DIAG_FLAGS`, or `None` if the reply has none. A length other than 4 is `WrongLength`
 /// with this kind.
 pub fn flags(reply: &NetlinkResponseView<'_>) -> Result<Option<u32>, DecodeError>
-    // `number_of_width (Some kind) 4`: a little-endian number of exactly 4 bytes, or `WrongLength`
-    // with this kind.
-    ensures { result ≡ parse_if_present (number_of_width (Some NETLINK_DIAG_FLAGS) 4)
-        (first_value_of_kind NETLINK_DIAG_FLAGS (view_model reply.now).nlas) }
+    // `u32_of_kind kind attributes`: the little-endian `u32` in the first attribute of this kind,
+    // or the error.
+    ensures { result ≡ u32_of_kind NETLINK_DIAG_FLAGS (view_model reply.now).nlas }
 {
     reply.number_of(NETLINK_DIAG_FLAGS)
 }

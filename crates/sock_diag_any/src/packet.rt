@@ -2,15 +2,14 @@
 //! attribute of its kind, whatever the two flag bits of its type field, and returns `None` if the
 //! reply has none.
 
-ghost use Rattle.std.specs.Prelude.{◌≡◌, Some, option_map};
-ghost use Rattle.netlink_core.specs.Layout.{parse_record};
-ghost use Rattle.netlink_core.specs.Parse.{number_of_width};
+ghost use Rattle.std.specs.Prelude.{◌≡◌, option_copied};
 ghost use Rattle.sock_diag_values.specs.MemInfo.{mem_info};
 ghost use Rattle.sock_diag_replies.specs.ViewModel.{view_model};
-ghost use Rattle.sock_diag_families.specs.AttributeGetters.{first_value_of_kind, parse_if_present};
-ghost use Rattle.sock_diag_families.specs.PacketAttributes.{packet_info, packet_ring};
+ghost use Rattle.sock_diag_families.specs.AttributeGetters.{first_value_of_kind};
+ghost use Rattle.sock_diag_families.specs.PacketAttributes.{parse_packet_info, parse_packet_ring};
 ghost use Rattle.sock_diag_families.specs.laws.Record.{packet_header_sound};
 ghost use Rattle.sock_diag_any.specs.laws.RawReply.{raw_reply_codec_laws};
+ghost use Rattle.sock_diag_any.specs.Getters.{parsed_of_kind, record_of_kind, u32_of_kind};
 
 use crate::attributes::value_in;
 use crate::{FamilyHeader, RawAttributes, RawReplyView};
@@ -34,13 +33,14 @@ impl FamilyHeader for PacketResponseHeader {
     ghost keeps = { raw_reply_codec_laws packet_header_sound };
 }
 
-// Parses the first attribute of the kind as `struct packet_diag_ring`.
+// Parses the first attribute of the kind as `struct packet_diag_ring`. Returns `None` if the reply
+// has none. A value of fewer than 28 bytes is `BufferTooSmall`.
 fn ring(reply: &PacketResponseView<'_>, kind: u16) -> Result<Option<PacketRing>, DecodeError>
-    // `first_value_of_kind kind attributes`: the value of the first attribute of this kind, or
-    // `None`. `parse_if_present parse found`: what `parse` returns for this value, or `Ok None` if
-    // there is none. `(view_model reply.now).nlas`: the attributes of the reply.
-    ensures { result ≡ parse_if_present (packet_ring kind)
-        (first_value_of_kind kind (view_model reply.now).nlas) }
+    // `parsed_of_kind parse kind attributes`: what `parse` returns for the value of the first
+    // attribute of this kind, or `Ok None` if there is none. `parse_packet_ring kind value`: what
+    // `PacketRing::parse` returns for the value and this kind, which only its error contains.
+    // `(view_model reply.now).nlas`: the attributes of the reply.
+    ensures { result ≡ parsed_of_kind (parse_packet_ring kind) kind (view_model reply.now).nlas }
 {
     match reply.value_of(kind) {
         Some(value) => Ok(Some(PacketRing::parse(value, kind)?)),
@@ -51,9 +51,11 @@ fn ring(reply: &PacketResponseView<'_>, kind: u16) -> Result<Option<PacketRing>,
 /// Returns the settings of the socket, from the first `PACKET_DIAG_INFO`, or `None` if the reply
 /// has none. A value of fewer than 24 bytes is `BufferTooSmall`.
 pub fn info(reply: &PacketResponseView<'_>) -> Result<Option<PacketInfo>, DecodeError>
-    // `packet_info value`: what `PacketInfo::parse` returns for the value.
-    ensures { result ≡ parse_if_present packet_info
-        (first_value_of_kind PACKET_DIAG_INFO (view_model reply.now).nlas) }
+    // `parse_packet_info value`: what `PacketInfo::parse` returns for the value. `parsed_of_kind
+    // parse kind attributes`: what `parse` returns for the value of the first attribute of this
+    // kind, or `Ok None` if there is none.
+    ensures { result ≡ parsed_of_kind parse_packet_info PACKET_DIAG_INFO
+        (view_model reply.now).nlas }
 {
     match reply.value_of(PACKET_DIAG_INFO) {
         Some(value) => Ok(Some(PacketInfo::parse(value)?)),
@@ -66,8 +68,9 @@ pub fn info(reply: &PacketResponseView<'_>) -> Result<Option<PacketInfo>, Decode
 /// that it also receives, and promiscuous or all-multicast mode, which have no address
 /// (`pdmc_type`, `pdmc_alen`). The kernel sends 44 bytes for each, `struct packet_diag_mclist`.
 pub fn addresses<'a>(reply: &PacketResponseView<'a>) -> Option<&'a [u8]>
-    // `option_map (λ value. value.now) result`: the bytes that the result borrows, as a list.
-    ensures { option_map (λ value. value.now) result
+    // `first_value_of_kind kind attributes`: the value of the first attribute of this kind, or
+    // `None`. `option_copied result`: the bytes that the result borrows, as a list.
+    ensures { option_copied result
         ≡ first_value_of_kind PACKET_DIAG_MCLIST (view_model reply.now).nlas }
 {
     value_in(reply, PACKET_DIAG_MCLIST)
@@ -76,9 +79,10 @@ pub fn addresses<'a>(reply: &PacketResponseView<'a>) -> Option<&'a [u8]>
 /// Returns the settings of the receive ring, from the first `PACKET_DIAG_RX_RING`, or `None` if the
 /// reply has none. A value of fewer than 28 bytes is `BufferTooSmall`.
 pub fn receive_ring(reply: &PacketResponseView<'_>) -> Result<Option<PacketRing>, DecodeError>
-    // `packet_ring kind value`: what `PacketRing::parse` returns for the value and this kind.
-    ensures { result ≡ parse_if_present (packet_ring PACKET_DIAG_RX_RING)
-        (first_value_of_kind PACKET_DIAG_RX_RING (view_model reply.now).nlas) }
+    // The kind occurs twice: `parsed_of_kind` finds the first attribute of the kind, and
+    // `parse_packet_ring` parses its value; only its error contains the kind.
+    ensures { result ≡ parsed_of_kind (parse_packet_ring PACKET_DIAG_RX_RING) PACKET_DIAG_RX_RING
+        (view_model reply.now).nlas }
 {
     ring(reply, PACKET_DIAG_RX_RING)
 }
@@ -86,8 +90,10 @@ pub fn receive_ring(reply: &PacketResponseView<'_>) -> Result<Option<PacketRing>
 /// Returns the settings of the transmit ring, from the first `PACKET_DIAG_TX_RING`, or `None` if
 /// the reply has none. A value of fewer than 28 bytes is `BufferTooSmall`.
 pub fn send_ring(reply: &PacketResponseView<'_>) -> Result<Option<PacketRing>, DecodeError>
-    ensures { result ≡ parse_if_present (packet_ring PACKET_DIAG_TX_RING)
-        (first_value_of_kind PACKET_DIAG_TX_RING (view_model reply.now).nlas) }
+    // The kind occurs twice: `parsed_of_kind` finds the first attribute of the kind, and
+    // `parse_packet_ring` parses its value; only its error contains the kind.
+    ensures { result ≡ parsed_of_kind (parse_packet_ring PACKET_DIAG_TX_RING) PACKET_DIAG_TX_RING
+        (view_model reply.now).nlas }
 {
     ring(reply, PACKET_DIAG_TX_RING)
 }
@@ -96,10 +102,9 @@ pub fn send_ring(reply: &PacketResponseView<'_>) -> Result<Option<PacketRing>, D
 /// none: the id of the fanout group in the low 16 bits and its mode in the high 16 bits, which are
 /// not split. A length other than 4 is `WrongLength` with this kind.
 pub fn fanout(reply: &PacketResponseView<'_>) -> Result<Option<u32>, DecodeError>
-    // `number_of_width (Some kind) 4`: a little-endian number of exactly 4 bytes, or `WrongLength`
-    // with this kind.
-    ensures { result ≡ parse_if_present (number_of_width (Some PACKET_DIAG_FANOUT) 4)
-        (first_value_of_kind PACKET_DIAG_FANOUT (view_model reply.now).nlas) }
+    // `u32_of_kind kind attributes`: the little-endian `u32` in the first attribute of this kind,
+    // or the error.
+    ensures { result ≡ u32_of_kind PACKET_DIAG_FANOUT (view_model reply.now).nlas }
 {
     reply.number_of(PACKET_DIAG_FANOUT)
 }
@@ -108,8 +113,9 @@ pub fn fanout(reply: &PacketResponseView<'_>) -> Result<Option<u32>, DecodeError
 /// `PACKET_DIAG_UID`, or `None` if the reply has none. A length other than 4 is `WrongLength` with
 /// this kind.
 pub fn owner(reply: &PacketResponseView<'_>) -> Result<Option<u32>, DecodeError>
-    ensures { result ≡ parse_if_present (number_of_width (Some PACKET_DIAG_UID) 4)
-        (first_value_of_kind PACKET_DIAG_UID (view_model reply.now).nlas) }
+    // `u32_of_kind kind attributes`: the little-endian `u32` in the first attribute of this kind,
+    // or the error.
+    ensures { result ≡ u32_of_kind PACKET_DIAG_UID (view_model reply.now).nlas }
 {
     reply.number_of(PACKET_DIAG_UID)
 }
@@ -118,10 +124,9 @@ pub fn owner(reply: &PacketResponseView<'_>) -> Result<Option<u32>, DecodeError>
 /// the reply has none: `u32` fields in the order of `SK_MEMINFO_..` (linux/sock_diag.h). A value of
 /// fewer than 28 bytes, seven fields, is `BufferTooSmall`.
 pub fn memory(reply: &PacketResponseView<'_>) -> Result<Option<MemInfo>, DecodeError>
-    // `parse_record mem_info tt`: the record of the layout `mem_info` at the start of the value, or
-    // its error.
-    ensures { result ≡ parse_if_present (parse_record mem_info tt)
-        (first_value_of_kind PACKET_DIAG_MEMINFO (view_model reply.now).nlas) }
+    // `record_of_kind layout kind attributes`: the record of this layout in the first attribute of
+    // this kind, or the error.
+    ensures { result ≡ record_of_kind mem_info PACKET_DIAG_MEMINFO (view_model reply.now).nlas }
 {
     reply.record_of(PACKET_DIAG_MEMINFO)
 }
@@ -130,7 +135,9 @@ pub fn memory(reply: &PacketResponseView<'_>) -> Result<Option<MemInfo>, DecodeE
 /// They are the instructions of the attached BPF filter. The kernel sends 8 bytes for each,
 /// `struct sock_filter` (linux/filter.h).
 pub fn filter<'a>(reply: &PacketResponseView<'a>) -> Option<&'a [u8]>
-    ensures { option_map (λ value. value.now) result
+    // `first_value_of_kind kind attributes`: the value of the first attribute of this kind, or
+    // `None`. `option_copied result`: the bytes that the result borrows, as a list.
+    ensures { option_copied result
         ≡ first_value_of_kind PACKET_DIAG_FILTER (view_model reply.now).nlas }
 {
     value_in(reply, PACKET_DIAG_FILTER)

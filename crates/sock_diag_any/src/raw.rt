@@ -37,12 +37,15 @@ impl<H: FamilyHeader> ReplyHeader for RawHeader<H> {
 
     ghost header_model = { λ header. header.0 };
 
+    // Two replies are equal if their headers are, by `==`, and the attributes at each index. `[]`:
+    // no attribute type is known, so the attributes are compared as they are.
     ghost test = { response_test H.PartialEq.eq [] tt };
 
     #[inline(always)]
     fn length() -> usize {
-        let (_, least) = H::name_and_least();
-        least
+        // The ignored part is the name of the record.
+        let (_, header_len) = H::name_and_least();
+        header_len
     }
 
     #[inline(always)]
@@ -57,9 +60,11 @@ impl<H: FamilyHeader> ReplyHeader for RawHeader<H> {
 
     #[inline(always)]
     fn check_len(&self, bytes: &[u8]) -> Result<Option<usize>, DecodeError> {
-        let len = self.0.buffer_len();
-        match check_nlas_len::<RawNla<'_>>(bytes, (u32::MAX as usize).checked_sub(len)) {
-            Ok((_, Some(attributes))) => Ok(Some(len + attributes)),
+        let header_len = self.0.buffer_len();
+        // The limit is what the header leaves of 4,294,967,295 bytes for the attributes. The first
+        // part of the pair, the number of attributes, is not needed.
+        match check_nlas_len::<RawNla<'_>>(bytes, (u32::MAX as usize).checked_sub(header_len)) {
+            Ok((_, Some(attribute_len))) => Ok(Some(header_len + attribute_len)),
             Ok((_, None)) => Ok(None),
             Err(error) => Err(error),
         }
@@ -71,21 +76,22 @@ impl<H: FamilyHeader> ReplyHeader for RawHeader<H> {
 
     #[inline(always)]
     fn len_with(&self, bytes: &[u8]) -> Option<usize> {
-        let len = self.0.buffer_len();
-        if len > u32::MAX as usize {
+        let header_len = self.0.buffer_len();
+        // `views_len` requires that the header by itself is not too long.
+        if header_len > u32::MAX as usize {
             return None;
         }
-        views_len::<RawNla<'_>>(len, bytes)
+        views_len::<RawNla<'_>>(header_len, bytes)
     }
 
     #[inline(always)]
     fn emit_with(&self, bytes: &[u8], buffer: &mut [u8]) {
-        let (front, rest) = buffer.split_at_mut(self.0.buffer_len());
-        self.0.emit(front);
-        emit_views::<RawNla<'_>>(bytes, rest);
+        let (header_buffer, attribute_buffer) = buffer.split_at_mut(self.0.buffer_len());
+        self.0.emit(header_buffer);
+        emit_views::<RawNla<'_>>(bytes, attribute_buffer);
     }
 
-    ghost enough = { λ b h is. (parsed_by_fields H.layout tt b h is).long };
+    ghost complete_header = { λ b h is. (parsed_by_fields H.layout tt b h is).long };
 
     ghost keeps = { H.keeps };
 
@@ -95,5 +101,8 @@ impl<H: FamilyHeader> ReplyHeader for RawHeader<H> {
 impl<'a, H: FamilyHeader> ReplyViews<'a> for RawHeader<H> {
     type View = RawNla<'a>;
 
-    ghost same = { (λ _. (λ h. h, λ h. h), λ _. refl) };
+    // The views have the attribute set of the replies, so both properties hold by definition.
+    ghost accepts_same = { λ _. (λ h. h, λ h. h) };
+
+    ghost counts_same = { λ _. refl };
 }

@@ -2,15 +2,14 @@
 //! attribute of its kind, whatever the two flag bits of its type field, and returns `None` if the
 //! reply has none.
 
-ghost use Rattle.std.specs.Prelude.{◌≡◌, Some};
-ghost use Rattle.netlink_core.specs.Layout.{parse_record};
-ghost use Rattle.netlink_core.specs.Parse.{number_of_width};
+ghost use Rattle.std.specs.Prelude.{◌≡◌};
 ghost use Rattle.sock_diag_values.specs.MemInfo.{mem_info};
 ghost use Rattle.sock_diag_replies.specs.ViewModel.{view_model};
-ghost use Rattle.sock_diag_families.specs.AttributeGetters.{first_value_of_kind, parse_if_present};
-ghost use Rattle.sock_diag_families.specs.XdpAttributes.{xdp_info, xdp_umem, xdp_statistics};
+ghost use Rattle.sock_diag_families.specs.XdpAttributes.{parse_xdp_info, parse_xdp_umem};
+ghost use Rattle.sock_diag_families.specs.XdpAttributes.{parse_xdp_statistics};
 ghost use Rattle.sock_diag_families.specs.laws.Record.{xdp_header_sound};
 ghost use Rattle.sock_diag_any.specs.laws.RawReply.{raw_reply_codec_laws};
+ghost use Rattle.sock_diag_any.specs.Getters.{parsed_of_kind, record_of_kind, u32_of_kind};
 
 use crate::{FamilyHeader, RawAttributes, RawReplyView};
 use netlink_core::DecodeError;
@@ -35,12 +34,10 @@ impl FamilyHeader for XdpResponseHeader {
 /// Returns the interface and the queue that the socket is bound to, from the first `XDP_DIAG_INFO`,
 /// or `None` if the reply has none. A value of fewer than 8 bytes is `BufferTooSmall`.
 pub fn info(reply: &XdpResponseView<'_>) -> Result<Option<XdpInfo>, DecodeError>
-    // `first_value_of_kind kind attributes`: the value of the first attribute of this kind, or
-    // `None`. `parse_if_present parse found`: what `parse` returns for this value, or `Ok None` if
-    // there is none. `(view_model reply.now).nlas`: the attributes of the reply. `xdp_info value`:
-    // what `XdpInfo::parse` returns for the value.
-    ensures { result ≡ parse_if_present xdp_info
-        (first_value_of_kind XDP_DIAG_INFO (view_model reply.now).nlas) }
+    // `parsed_of_kind parse kind attributes`: what `parse` returns for the value of the first
+    // attribute of this kind, or `Ok None` if there is none. `(view_model reply.now).nlas`: the
+    // attributes of the reply. `parse_xdp_info value`: what `XdpInfo::parse` returns for the value.
+    ensures { result ≡ parsed_of_kind parse_xdp_info XDP_DIAG_INFO (view_model reply.now).nlas }
 {
     match reply.value_of(XDP_DIAG_INFO) {
         Some(value) => Ok(Some(XdpInfo::parse(value)?)),
@@ -51,10 +48,9 @@ pub fn info(reply: &XdpResponseView<'_>) -> Result<Option<XdpInfo>, DecodeError>
 /// Returns the user id of the socket's owner: the little-endian `u32` in the first `XDP_DIAG_UID`,
 /// or `None` if the reply has none. A length other than 4 is `WrongLength` with this kind.
 pub fn owner(reply: &XdpResponseView<'_>) -> Result<Option<u32>, DecodeError>
-    // `number_of_width (Some kind) 4`: a little-endian number of exactly 4 bytes, or `WrongLength`
-    // with this kind.
-    ensures { result ≡ parse_if_present (number_of_width (Some XDP_DIAG_UID) 4)
-        (first_value_of_kind XDP_DIAG_UID (view_model reply.now).nlas) }
+    // `u32_of_kind kind attributes`: the little-endian `u32` in the first attribute of this kind,
+    // or the error.
+    ensures { result ≡ u32_of_kind XDP_DIAG_UID (view_model reply.now).nlas }
 {
     reply.number_of(XDP_DIAG_UID)
 }
@@ -63,8 +59,9 @@ pub fn owner(reply: &XdpResponseView<'_>) -> Result<Option<u32>, DecodeError>
 /// `u32` in the first `XDP_DIAG_RX_RING`, or `None` if the reply has none. A length other than 4 is
 /// `WrongLength` with this kind.
 pub fn receive_ring(reply: &XdpResponseView<'_>) -> Result<Option<u32>, DecodeError>
-    ensures { result ≡ parse_if_present (number_of_width (Some XDP_DIAG_RX_RING) 4)
-        (first_value_of_kind XDP_DIAG_RX_RING (view_model reply.now).nlas) }
+    // `u32_of_kind kind attributes`: the little-endian `u32` in the first attribute of this kind,
+    // or the error.
+    ensures { result ≡ u32_of_kind XDP_DIAG_RX_RING (view_model reply.now).nlas }
 {
     reply.number_of(XDP_DIAG_RX_RING)
 }
@@ -73,8 +70,9 @@ pub fn receive_ring(reply: &XdpResponseView<'_>) -> Result<Option<u32>, DecodeEr
 /// `u32` in the first `XDP_DIAG_TX_RING`, or `None` if the reply has none. A length other than 4 is
 /// `WrongLength` with this kind.
 pub fn send_ring(reply: &XdpResponseView<'_>) -> Result<Option<u32>, DecodeError>
-    ensures { result ≡ parse_if_present (number_of_width (Some XDP_DIAG_TX_RING) 4)
-        (first_value_of_kind XDP_DIAG_TX_RING (view_model reply.now).nlas) }
+    // `u32_of_kind kind attributes`: the little-endian `u32` in the first attribute of this kind,
+    // or the error.
+    ensures { result ≡ u32_of_kind XDP_DIAG_TX_RING (view_model reply.now).nlas }
 {
     reply.number_of(XDP_DIAG_TX_RING)
 }
@@ -82,9 +80,10 @@ pub fn send_ring(reply: &XdpResponseView<'_>) -> Result<Option<u32>, DecodeError
 /// Returns the shared memory area of the socket (UMEM), from the first `XDP_DIAG_UMEM`, or `None`
 /// if the reply has none. A value of fewer than 40 bytes is `BufferTooSmall`.
 pub fn shared_memory(reply: &XdpResponseView<'_>) -> Result<Option<XdpUmem>, DecodeError>
-    // `xdp_umem value`: what `XdpUmem::parse` returns for the value.
-    ensures { result ≡ parse_if_present xdp_umem
-        (first_value_of_kind XDP_DIAG_UMEM (view_model reply.now).nlas) }
+    // `parse_xdp_umem value`: what `XdpUmem::parse` returns for the value. `parsed_of_kind parse
+    // kind attributes`: what `parse` returns for the value of the first attribute of this kind, or
+    // `Ok None` if there is none.
+    ensures { result ≡ parsed_of_kind parse_xdp_umem XDP_DIAG_UMEM (view_model reply.now).nlas }
 {
     match reply.value_of(XDP_DIAG_UMEM) {
         Some(value) => Ok(Some(XdpUmem::parse(value)?)),
@@ -96,10 +95,9 @@ pub fn shared_memory(reply: &XdpResponseView<'_>) -> Result<Option<XdpUmem>, Dec
 /// reply has none: `u32` fields in the order of `SK_MEMINFO_..` (linux/sock_diag.h). A value of
 /// fewer than 28 bytes, seven fields, is `BufferTooSmall`.
 pub fn memory(reply: &XdpResponseView<'_>) -> Result<Option<MemInfo>, DecodeError>
-    // `parse_record mem_info tt`: the record of the layout `mem_info` at the start of the value, or
-    // its error.
-    ensures { result ≡ parse_if_present (parse_record mem_info tt)
-        (first_value_of_kind XDP_DIAG_MEMINFO (view_model reply.now).nlas) }
+    // `record_of_kind layout kind attributes`: the record of this layout in the first attribute of
+    // this kind, or the error.
+    ensures { result ≡ record_of_kind mem_info XDP_DIAG_MEMINFO (view_model reply.now).nlas }
 {
     reply.record_of(XDP_DIAG_MEMINFO)
 }
@@ -107,9 +105,11 @@ pub fn memory(reply: &XdpResponseView<'_>) -> Result<Option<MemInfo>, DecodeErro
 /// Returns the counters of the socket, from the first `XDP_DIAG_STATS`, or `None` if the reply has
 /// none. A value of fewer than 48 bytes is `BufferTooSmall`.
 pub fn statistics(reply: &XdpResponseView<'_>) -> Result<Option<XdpStatistics>, DecodeError>
-    // `xdp_statistics value`: what `XdpStatistics::parse` returns for the value.
-    ensures { result ≡ parse_if_present xdp_statistics
-        (first_value_of_kind XDP_DIAG_STATS (view_model reply.now).nlas) }
+    // `parse_xdp_statistics value`: what `XdpStatistics::parse` returns for the value.
+    // `parsed_of_kind parse kind attributes`: what `parse` returns for the value of the first
+    // attribute of this kind, or `Ok None` if there is none.
+    ensures { result ≡ parsed_of_kind parse_xdp_statistics XDP_DIAG_STATS
+        (view_model reply.now).nlas }
 {
     match reply.value_of(XDP_DIAG_STATS) {
         Some(value) => Ok(Some(XdpStatistics::parse(value)?)),

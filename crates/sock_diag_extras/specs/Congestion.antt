@@ -1,6 +1,6 @@
--- Records of the congestion control algorithms of a TCP socket. `value` makes the record of the
--- numbers `w` in its rows, in their order. No record has an array, so `is_shaped` always holds
--- (`⊤`).
+-- Records of the congestion control algorithms of a TCP socket. A row such as `u32 4 field` is a
+-- little-endian `u32` at offset 4. `value` makes the record of the numbers in its rows, in their
+-- order. No record has an array, so `arrays_fit` always holds (`⊤`).
 use Rattle.std.specs.Prelude.{⊤, [], ◌∷◌, slice_index}
 use Rattle.sock_diag_extras.specs.RecordTable.{RecordTable}
 use Rattle.sock_diag_extras.specs.declared.congestion.VegasInfo.{VegasInfo}
@@ -18,13 +18,13 @@ vegas_info = record {
       u32 4 VegasInfo.rtt_count ∷
       u32 8 VegasInfo.rtt ∷
       u32 12 VegasInfo.min_rtt ∷ [];
-  value = λ w. record {
-    enabled = slice_index w 0;
-    rtt_count = slice_index w 1;
-    rtt = slice_index w 2;
-    min_rtt = slice_index w 3;
+  value = λ numbers. record {
+    enabled = slice_index numbers 0;
+    rtt_count = slice_index numbers 1;
+    rtt = slice_index numbers 2;
+    min_rtt = slice_index numbers 3;
   };
-  is_shaped = λ v. ⊤;
+  arrays_fit = λ _. ⊤;
 }
 
 -- `struct tcp_dctcp_info` (linux/inet_diag.h), 16 bytes: `dctcp_enabled`, `dctcp_ce_state`,
@@ -38,14 +38,14 @@ dctcp_info = record {
       u32 4 DctcpInfo.alpha ∷
       u32 8 DctcpInfo.marked_bytes ∷
       u32 12 DctcpInfo.acked_bytes ∷ [];
-  value = λ w. record {
-    enabled = slice_index w 0;
-    ce_state = slice_index w 1;
-    alpha = slice_index w 2;
-    marked_bytes = slice_index w 3;
-    acked_bytes = slice_index w 4;
+  value = λ numbers. record {
+    enabled = slice_index numbers 0;
+    ce_state = slice_index numbers 1;
+    alpha = slice_index numbers 2;
+    marked_bytes = slice_index numbers 3;
+    acked_bytes = slice_index numbers 4;
   };
-  is_shaped = λ v. ⊤;
+  arrays_fit = λ _. ⊤;
 }
 
 -- `struct tcp_bbr_info` (linux/inet_diag.h), 20 bytes: `bbr_bw_lo` and `bbr_bw_hi`, which are the
@@ -58,11 +58,11 @@ bbr_info = record {
       u32 8 BbrInfo.min_rtt ∷
       u32 12 BbrInfo.pacing_gain ∷
       u32 16 BbrInfo.window_gain ∷ [];
-  value = λ w. record {
-    bandwidth = slice_index w 0;
-    min_rtt = slice_index w 1;
-    pacing_gain = slice_index w 2;
-    window_gain = slice_index w 3;
+  value = λ numbers. record {
+    bandwidth = slice_index numbers 0;
+    min_rtt = slice_index numbers 1;
+    pacing_gain = slice_index numbers 2;
+    window_gain = slice_index numbers 3;
   };
-  is_shaped = λ v. ⊤;
+  arrays_fit = λ _. ⊤;
 }

@@ -10,9 +10,9 @@ use Rattle.sock_diag_extras.specs.declared.md5_signature.Md5Signature.{Md5Signat
 use Rattle.netlink_core.specs.Rows.{u8, u16, u8s}
 
 -- `struct tcp_diag_md5sig` (linux/tcp.h), 100 bytes: `tcpm_family`, `tcpm_prefixlen`,
--- `tcpm_keylen`, `tcpm_addr` and `tcpm_key`. `value` makes the record of the numbers `w` in its
--- rows. Counted from 0, numbers 3 to 18 are the address and 19 to 98 the key, one number for each
--- byte.
+-- `tcpm_keylen`, `tcpm_addr` and `tcpm_key`. The row `u8s 4 16 address` is an array of 16 bytes at
+-- offset 4. `value` makes the record of the numbers in its rows. Counted from 0, numbers 3 to 18
+-- are the address and 19 to 98 the key, one number for each byte.
 abbrev pub md5_signature : RecordTable Md5Signature
 md5_signature = record {
   size = 100;
@@ -22,14 +22,14 @@ md5_signature = record {
       u16 2 Md5Signature.key_length ∷
       u8s 4 16 Md5Signature.address ∷
       u8s 20 80 Md5Signature.key ∷ [];
-  value = λ w. record {
-    family = slice_index w 0;
-    prefix_length = slice_index w 1;
-    key_length = slice_index w 2;
-    address = take 16 (drop 3 w);
-    key = take 80 (drop 19 w);
+  value = λ numbers. record {
+    family = slice_index numbers 0;
+    prefix_length = slice_index numbers 1;
+    key_length = slice_index numbers 2;
+    address = take 16 (drop 3 numbers);
+    key = take 80 (drop 19 numbers);
   };
-  is_shaped = λ v. (length v.address ≡ 16) × (length v.key ≡ 80);
+  arrays_fit = λ v. (length v.address ≡ 16) × (length v.key ≡ 80);
 }
 
 -- `peer_ip k`: the IP address of the peers. If the family is AF_INET, it is the IPv4 address with

@@ -31,6 +31,10 @@ mptcp_span_of field.LastDataSent = (84, 4)
 mptcp_span_of field.LastDataRecv = (88, 4)
 mptcp_span_of field.LastAckRecv = (92, 4)
 
+-- the width of a field, in bytes
+abbrev pub mptcp_width_of : MptcpField → ℕ
+mptcp_width_of f = (mptcp_span_of f).1
+
 -- All fields, in order.
 abbrev pub mptcp_fields : List MptcpField
 mptcp_fields =
@@ -41,10 +45,11 @@ mptcp_fields =
     field.BytesReceived ∷ field.BytesAcked ∷ field.SubflowsTotal ∷ field.EndpLaminarMax ∷
     field.LastDataSent ∷ field.LastDataRecv ∷ field.LastAckRecv ∷ []
 
--- `aligned_spans at widths`: the spans of consecutive members of a C struct after its first `at`
--- bytes, numbers of these widths in bytes: each starts at the next multiple of its width
+-- `aligned_spans start widths`: the offset (`.0`) and the width (`.1`) of each of consecutive
+-- members of a C struct, after its first `start` bytes. The members are numbers of these widths in
+-- bytes. Each starts at the next multiple of its width.
 abbrev pub aligned_spans : ℕ → List ℕ → List (ℕ × ℕ)
-aligned_spans at [] = []
-aligned_spans at (width ∷ widths) =
-    let offset = (at + (width - 1)) / width * width in
+aligned_spans start [] = []
+aligned_spans start (width ∷ widths) =
+    let offset = (start + (width - 1)) / width * width in
     (offset, width) ∷ aligned_spans (offset + width) widths

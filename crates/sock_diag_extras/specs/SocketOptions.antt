@@ -7,13 +7,14 @@ use Rattle.sock_diag_extras.specs.declared.options.SocketOptions.{SocketOptions}
 use Rattle.netlink_core.specs.Rows.{u16}
 
 -- `struct inet_diag_sockopt` (linux/inet_diag.h): two bytes of bit fields as one little-endian
--- number. `value` makes the record of the numbers `w` in its rows, of which there is one.
+-- number. `value` makes the record of the number in its only row. The record has no array, so
+-- `arrays_fit` always holds (`⊤`).
 abbrev pub socket_options : RecordTable SocketOptions
 socket_options = record {
   size = 2;
   rows = u16 0 SocketOptions.bits ∷ [];
-  value = λ w. record { bits = slice_index w 0 };
-  is_shaped = λ v. ⊤;
+  value = λ numbers. record { bits = slice_index numbers 0 };
+  arrays_fit = λ _. ⊤;
 }
 
 -- `bit_of option`: the index of the option's bit in `bits`, in the order of the C struct's members.

@@ -1,5 +1,6 @@
--- The fields of a C struct of which a value contains as many bytes as the kernel has. The span of a
--- field is its offset (`.0`) and its width (`.1`), both in bytes.
+-- The fields of a C struct. The value of an attribute may have fewer or more bytes than the struct,
+-- by the version of the kernel. The span of a field is its offset (`.0`) and its width (`.1`), both
+-- in bytes.
 use Rattle.std.specs.Prelude.{ℕ, ◌+◌, List, drop}
 use Rattle.byteorder.specs.Endian.{little_number}
 

@@ -11,8 +11,9 @@ use Rattle.sock_diag_records.specs.declared.constants.TheConstants.{AF_INET, AF_
 -- `struct sockaddr_storage` (linux/socket.h). By the family it starts with one of two structs:
 -- `struct sockaddr_in` (ip(7)) with `sin_port` at 2 and `sin_addr` at 4; or `struct sockaddr_in6`
 -- (ipv6(7)) with `sin6_port` at 2, `sin6_flowinfo` at 4, `sin6_addr` at 8 and `sin6_scope_id` at
--- 24. `value` makes the record of the numbers `w` in its rows. Counted from 0, numbers 2 to 5 are
--- `front`, 6 to 13 are `segments`, 14 is `scope_id`, and 15 to 114 are `rest`.
+-- 24. A row such as `be16s 8 8 segments` is an array of 8 numbers at offset 8, here of 16 bits in
+-- network byte order. `value` makes the record of the numbers in its rows. Counted from 0, numbers
+-- 2 to 5 are `front`, 6 to 13 are `segments`, 14 is `scope_id`, and 15 to 114 are `rest`.
 abbrev pub stored_address : RecordTable StoredAddress
 stored_address = record {
   size = 128;
@@ -23,15 +24,15 @@ stored_address = record {
       be16s 8 8 StoredAddress.segments ∷
       u32 24 StoredAddress.scope_id ∷
       u8s 28 100 StoredAddress.rest ∷ [];
-  value = λ w. record {
-    family = slice_index w 0;
-    port = slice_index w 1;
-    front = take 4 (drop 2 w);
-    segments = take 8 (drop 6 w);
-    scope_id = slice_index w 14;
-    rest = take 100 (drop 15 w);
+  value = λ numbers. record {
+    family = slice_index numbers 0;
+    port = slice_index numbers 1;
+    front = take 4 (drop 2 numbers);
+    segments = take 8 (drop 6 numbers);
+    scope_id = slice_index numbers 14;
+    rest = take 100 (drop 15 numbers);
   };
-  is_shaped = λ v. (length v.front ≡ 4) × (length v.segments ≡ 8) × (length v.rest ≡ 100);
+  arrays_fit = λ v. (length v.front ≡ 4) × (length v.segments ≡ 8) × (length v.rest ≡ 100);
 }
 
 -- `ip_of a`: the IP address. If the family is AF_INET, it is the IPv4 address with the octets

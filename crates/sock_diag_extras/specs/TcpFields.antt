@@ -2,88 +2,98 @@
 -- `LastDataSent` is the member `tcpi_last_data_sent`, and so on.
 use Rattle.std.specs.Prelude.{ℕ, ◌==◌, if◌then◌else◌, List, [], ◌∷◌}
 use Rattle.netlink_core.specs.Table.{Field, byte, number}
+use Rattle.sock_diag_extras.specs.Spans.{end_of_span}
 use Rattle.sock_diag_extras.specs.declared.tcp_info.TcpField.{TcpField}
 use Rattle.sock_diag_extras.specs.declared.tcp_info.TcpField.TheVariants as field
 
--- `span_of f`: the offset of the field `f` (`.0`) and its width (`.1`), both in bytes. Two fields
--- are bytes of bit fields: `Wscale` contains `tcpi_snd_wscale` and `tcpi_rcv_wscale`, and
+-- `tcp_span_of f`: the offset of the field `f` (`.0`) and its width (`.1`), both in bytes. Two
+-- fields are bytes of bit fields: `Wscale` contains `tcpi_snd_wscale` and `tcpi_rcv_wscale`, and
 -- `DeliveryRateAppLimited` contains `tcpi_delivery_rate_app_limited` and
 -- `tcpi_fastopen_client_fail`.
-abbrev pub span_of : TcpField → ℕ × ℕ
-span_of field.State = (0, 1)
-span_of field.CaState = (1, 1)
-span_of field.Retransmits = (2, 1)
-span_of field.Probes = (3, 1)
-span_of field.Backoff = (4, 1)
-span_of field.Options = (5, 1)
-span_of field.Wscale = (6, 1)
-span_of field.DeliveryRateAppLimited = (7, 1)
-span_of field.Rto = (8, 4)
-span_of field.Ato = (12, 4)
-span_of field.SndMss = (16, 4)
-span_of field.RcvMss = (20, 4)
-span_of field.Unacked = (24, 4)
-span_of field.Sacked = (28, 4)
-span_of field.Lost = (32, 4)
-span_of field.Retrans = (36, 4)
-span_of field.Fackets = (40, 4)
-span_of field.LastDataSent = (44, 4)
-span_of field.LastAckSent = (48, 4)
-span_of field.LastDataRecv = (52, 4)
-span_of field.LastAckRecv = (56, 4)
-span_of field.Pmtu = (60, 4)
-span_of field.RcvSsthresh = (64, 4)
-span_of field.Rtt = (68, 4)
-span_of field.Rttvar = (72, 4)
-span_of field.SndSsthresh = (76, 4)
-span_of field.SndCwnd = (80, 4)
-span_of field.Advmss = (84, 4)
-span_of field.Reordering = (88, 4)
-span_of field.RcvRtt = (92, 4)
-span_of field.RcvSpace = (96, 4)
-span_of field.TotalRetrans = (100, 4)
-span_of field.PacingRate = (104, 8)
-span_of field.MaxPacingRate = (112, 8)
-span_of field.BytesAcked = (120, 8)
-span_of field.BytesReceived = (128, 8)
-span_of field.SegsOut = (136, 4)
-span_of field.SegsIn = (140, 4)
-span_of field.NotsentBytes = (144, 4)
-span_of field.MinRtt = (148, 4)
-span_of field.DataSegsIn = (152, 4)
-span_of field.DataSegsOut = (156, 4)
-span_of field.DeliveryRate = (160, 8)
-span_of field.BusyTime = (168, 8)
-span_of field.RwndLimited = (176, 8)
-span_of field.SndbufLimited = (184, 8)
-span_of field.Delivered = (192, 4)
-span_of field.DeliveredCe = (196, 4)
-span_of field.BytesSent = (200, 8)
-span_of field.BytesRetrans = (208, 8)
-span_of field.DsackDups = (216, 4)
-span_of field.ReordSeen = (220, 4)
-span_of field.RcvOoopack = (224, 4)
-span_of field.SndWnd = (228, 4)
-span_of field.RcvWnd = (232, 4)
-span_of field.Rehash = (236, 4)
-span_of field.TotalRto = (240, 2)
-span_of field.TotalRtoRecoveries = (242, 2)
-span_of field.TotalRtoTime = (244, 4)
-span_of field.ReceivedCe = (248, 4)
-span_of field.DeliveredE1Bytes = (252, 4)
-span_of field.DeliveredE0Bytes = (256, 4)
-span_of field.DeliveredCeBytes = (260, 4)
-span_of field.ReceivedE1Bytes = (264, 4)
-span_of field.ReceivedE0Bytes = (268, 4)
-span_of field.ReceivedCeBytes = (272, 4)
-span_of field.AccecnFailMode = (276, 2)
-span_of field.AccecnOptSeen = (278, 2)
+abbrev pub tcp_span_of : TcpField → ℕ × ℕ
+tcp_span_of field.State = (0, 1)
+tcp_span_of field.CaState = (1, 1)
+tcp_span_of field.Retransmits = (2, 1)
+tcp_span_of field.Probes = (3, 1)
+tcp_span_of field.Backoff = (4, 1)
+tcp_span_of field.Options = (5, 1)
+tcp_span_of field.Wscale = (6, 1)
+tcp_span_of field.DeliveryRateAppLimited = (7, 1)
+tcp_span_of field.Rto = (8, 4)
+tcp_span_of field.Ato = (12, 4)
+tcp_span_of field.SndMss = (16, 4)
+tcp_span_of field.RcvMss = (20, 4)
+tcp_span_of field.Unacked = (24, 4)
+tcp_span_of field.Sacked = (28, 4)
+tcp_span_of field.Lost = (32, 4)
+tcp_span_of field.Retrans = (36, 4)
+tcp_span_of field.Fackets = (40, 4)
+tcp_span_of field.LastDataSent = (44, 4)
+tcp_span_of field.LastAckSent = (48, 4)
+tcp_span_of field.LastDataRecv = (52, 4)
+tcp_span_of field.LastAckRecv = (56, 4)
+tcp_span_of field.Pmtu = (60, 4)
+tcp_span_of field.RcvSsthresh = (64, 4)
+tcp_span_of field.Rtt = (68, 4)
+tcp_span_of field.Rttvar = (72, 4)
+tcp_span_of field.SndSsthresh = (76, 4)
+tcp_span_of field.SndCwnd = (80, 4)
+tcp_span_of field.Advmss = (84, 4)
+tcp_span_of field.Reordering = (88, 4)
+tcp_span_of field.RcvRtt = (92, 4)
+tcp_span_of field.RcvSpace = (96, 4)
+tcp_span_of field.TotalRetrans = (100, 4)
+tcp_span_of field.PacingRate = (104, 8)
+tcp_span_of field.MaxPacingRate = (112, 8)
+tcp_span_of field.BytesAcked = (120, 8)
+tcp_span_of field.BytesReceived = (128, 8)
+tcp_span_of field.SegsOut = (136, 4)
+tcp_span_of field.SegsIn = (140, 4)
+tcp_span_of field.NotsentBytes = (144, 4)
+tcp_span_of field.MinRtt = (148, 4)
+tcp_span_of field.DataSegsIn = (152, 4)
+tcp_span_of field.DataSegsOut = (156, 4)
+tcp_span_of field.DeliveryRate = (160, 8)
+tcp_span_of field.BusyTime = (168, 8)
+tcp_span_of field.RwndLimited = (176, 8)
+tcp_span_of field.SndbufLimited = (184, 8)
+tcp_span_of field.Delivered = (192, 4)
+tcp_span_of field.DeliveredCe = (196, 4)
+tcp_span_of field.BytesSent = (200, 8)
+tcp_span_of field.BytesRetrans = (208, 8)
+tcp_span_of field.DsackDups = (216, 4)
+tcp_span_of field.ReordSeen = (220, 4)
+tcp_span_of field.RcvOoopack = (224, 4)
+tcp_span_of field.SndWnd = (228, 4)
+tcp_span_of field.RcvWnd = (232, 4)
+tcp_span_of field.Rehash = (236, 4)
+tcp_span_of field.TotalRto = (240, 2)
+tcp_span_of field.TotalRtoRecoveries = (242, 2)
+tcp_span_of field.TotalRtoTime = (244, 4)
+tcp_span_of field.ReceivedCe = (248, 4)
+tcp_span_of field.DeliveredE1Bytes = (252, 4)
+tcp_span_of field.DeliveredE0Bytes = (256, 4)
+tcp_span_of field.DeliveredCeBytes = (260, 4)
+tcp_span_of field.ReceivedE1Bytes = (264, 4)
+tcp_span_of field.ReceivedE0Bytes = (268, 4)
+tcp_span_of field.ReceivedCeBytes = (272, 4)
+tcp_span_of field.AccecnFailMode = (276, 2)
+tcp_span_of field.AccecnOptSeen = (278, 2)
 
--- `row_of f`: the field `f` as a field of a record's layout (`Field`): `byte` if it is one byte
--- wide, else `number`, which is little-endian.
-abbrev pub row_of : TcpField → Field
-row_of f =
-    if (span_of f).1 == 1 then byte (span_of f).0 else number (span_of f).0 (span_of f).1
+-- the offset of a field, in bytes
+abbrev pub tcp_offset_of : TcpField → ℕ
+tcp_offset_of f = (tcp_span_of f).0
+
+-- the offset of the byte after a field
+abbrev pub tcp_end_of : TcpField → ℕ
+tcp_end_of f = end_of_span (tcp_span_of f)
+
+-- `tcp_layout_field f`: the field `f` as a field of a record's layout (`Field`): `byte` if it is
+-- one byte wide, else `number`, which is little-endian.
+abbrev pub tcp_layout_field : TcpField → Field
+tcp_layout_field f =
+    if (tcp_span_of f).1 == 1 then byte (tcp_span_of f).0
+    else number (tcp_span_of f).0 (tcp_span_of f).1
 
 -- The fields of the port's `TcpInfo`, in order: offsets 0 to 231.
 abbrev pub first_fields : List TcpField

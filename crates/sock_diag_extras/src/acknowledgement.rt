@@ -1,23 +1,21 @@
 //! The payload of an error, of an acknowledgement or of the end of a dump: the error number, the
 //! request that it answers, and the attributes of an extended acknowledgement.
 
-ghost use Rattle.std.specs.Prelude.{◌≡◌, ◌≤◌, ◌<◌, ◌^◌, ◌↔◌, [], length, IfErr, IfOk, IfSome};
-ghost use Rattle.std.specs.Prelude.{IsSome, None, Some, SomeIff, option_map};
+ghost use Rattle.std.specs.Prelude.{◌≡◌, ◌≤◌, ◌<◌, ◌+◌, ◌^◌, ◌↔◌, [], length, IfErr, IfOk};
+ghost use Rattle.std.specs.Prelude.{IfSome, IsSome, Some, SomeIff, option_copied, option_map};
 ghost use Rattle.netlink_core.specs.Attribute.{HasAttributeError};
 ghost use Rattle.netlink_core.specs.AttributeSet.{decode_attribute};
 ghost use Rattle.netlink_core.specs.NetlinkMessage.{leading_error_number};
 ghost use Rattle.netlink_core.specs.Errors.{map_ok};
 ghost use Rattle.netlink_core.specs.Header.{header_fields, header_values};
-ghost use Rattle.netlink_core.specs.Parse.{number_of_width, parse_text};
 ghost use Rattle.netlink_core.specs.Table.{values_of};
-ghost use Rattle.sock_diag_families.specs.AttributeGetters.{parse_if_present};
 ghost use Rattle.sock_diag_extras.specs.Acknowledgement.{HasCompleteRequest};
 ghost use Rattle.sock_diag_extras.specs.Acknowledgement.{ack_attribute_bytes_from};
 ghost use Rattle.sock_diag_extras.specs.Acknowledgement.{error_attribute_bytes};
 ghost use Rattle.sock_diag_extras.specs.Acknowledgement.{acked_request_bytes, acked_request_length};
 ghost use Rattle.sock_diag_extras.specs.Models.{ack_attributes, ack_number, ack_request};
 ghost use Rattle.sock_diag_extras.specs.Models.{nested_bytes};
-ghost use Rattle.sock_diag_extras.specs.Nested.{first_value_in};
+ghost use Rattle.sock_diag_extras.specs.Nested.{first_value_in, nested_text_in, nested_u32_in};
 
 use crate::bytes::suffix_from;
 use crate::constants::{
@@ -40,7 +38,7 @@ pub struct AckView<'a> {
 }
 
 impl<'a> AckView<'a> {
-    /// Returns the parts of an `NLMSG_ERROR` payload (netlink(7)): four bytes of the error number;
+    /// Returns the fields of an `NLMSG_ERROR` payload (netlink(7)): four bytes of the error number;
     /// the request, of which only the 16 bytes of the header are sent if the number is 0 or the
     /// flags have `NLM_F_CAPPED`; its padding to a multiple of 4; and attributes, if the flags have
     /// `NLM_F_ACK_TLVS`.
@@ -48,8 +46,12 @@ impl<'a> AckView<'a> {
     /// Returns `None` if there are fewer than 20 bytes, or if the whole request is sent and its
     /// length field is below 16 or past the end of the bytes.
     pub fn of_error(flags: u16, payload: &'a [u8]) -> Option<AckView<'a>>
+        // `HasCompleteRequest flags payload`: the error number, the header of the request and all
+        // bytes of the request that are sent are within the payload.
         ensures contained { IsSome result ↔ HasCompleteRequest flags payload.entry.now }
-        // leading_error_number: the signed little-endian number in the first four bytes.
+        // `leading_error_number`: the signed little-endian number in the first four bytes.
+        // `acked_request_bytes`: the bytes of the request that are sent. `error_attribute_bytes`:
+        // the bytes after the request and its padding, or none if the flags lack `NLM_F_ACK_TLVS`.
         ensures number { IfSome result (λ ack.
             leading_error_number payload.entry.now ≡ Some (ack_number ack)) }
         ensures request { IfSome result (λ ack.
@@ -62,22 +64,25 @@ impl<'a> AckView<'a> {
         }
         let number = error_number(payload)?;
         let length = request_length(flags, payload);
+        // The request starts after the four bytes of the error number.
         if length < NETLINK_HEADER_LEN || length > payload.len() - 4 {
             return None;
         }
         Some(AckView {
             number,
             request: &payload[4..4 + length],
-            attributes: bytes_after_request(flags, 4 + padded(length), payload),
+            attributes: attribute_bytes_from(flags, 4 + padded(length), payload),
         })
     }
 
-    /// Returns the parts of an `NLMSG_DONE` payload: four bytes of the error number, and
+    /// Returns the fields of an `NLMSG_DONE` payload: four bytes of the error number, and
     /// attributes, if the flags have `NLM_F_ACK_TLVS`. Returns `None` if there are fewer than four
     /// bytes.
     pub fn of_done(flags: u16, payload: &'a [u8]) -> Option<AckView<'a>>
-        // leading_error_number: the signed little-endian number in the first four bytes, or `None`
-        // if there are fewer. So the result is `None` if and only if there are fewer.
+        // `leading_error_number`: the signed little-endian number in the first four bytes, or
+        // `None` if there are fewer. So the result is `None` if and only if there are fewer.
+        // `ack_attribute_bytes_from flags 4`: the bytes after the number, or none if the flags lack
+        // `NLM_F_ACK_TLVS`.
         ensures number { option_map ack_number result ≡ leading_error_number payload.entry.now }
         ensures request { IfSome result (λ ack. ack_request ack ≡ []) }
         ensures attributes { IfSome result (λ ack.
@@ -86,7 +91,7 @@ impl<'a> AckView<'a> {
         Some(AckView {
             number: error_number(payload)?,
             request: &[],
-            attributes: bytes_after_request(flags, 4, payload),
+            attributes: attribute_bytes_from(flags, 4, payload),
         })
     }
 
@@ -110,7 +115,8 @@ impl<'a> AckView<'a> {
     /// bytes of a header, as for the end of a dump.
     pub fn request_header(&self) -> Option<NetlinkHeader>
         // The five fields of the header are the numbers in the first 16 bytes of the request.
-        ensures { SomeIff (option_map header_values result) (16 ≤ length (ack_request self.now))
+        ensures { SomeIff (option_map header_values result)
+            (NETLINK_HEADER_LEN ≤ length (ack_request self.now))
             (values_of header_fields (ack_request self.now)) }
     {
         if self.request.len() < NETLINK_HEADER_LEN {
@@ -134,6 +140,7 @@ impl<'a> AckView<'a> {
 
     /// Returns the attributes `NLMSGERR_ATTR_..`, or their first framing error.
     pub fn attributes(&self) -> Result<AckAttributes<'a>, DecodeError>
+        // `nested_bytes parsed.0`: the bytes of the attributes.
         ensures kept { IfOk result (λ parsed. nested_bytes parsed.0 ≡ ack_attributes self.now) }
         // `decode_attribute []`: no attribute type is known, so every value is accepted, and only
         // the framing can be invalid.
@@ -151,73 +158,78 @@ pub struct AckAttributes<'a>(pub NestedNlas<'a>);
 
 impl<'a> AckAttributes<'a> {
     /// Returns the error message or warning, `NLMSGERR_ATTR_MSG`, without one terminating NUL if it
-    /// has one. Text that is not valid UTF-8 is `NotUtf8`.
+    /// has one, or `Ok(None)` if there is none. Text that is not valid UTF-8 is `NotUtf8`.
     pub fn message(&self) -> Result<Option<&'a str>, DecodeError>
-        ensures { map_ok (option_map (λ text. text.now)) result
-            ≡ parse_if_present parse_text
-            (first_value_in NLMSGERR_ATTR_MSG (nested_bytes self.now.0)) }
+        // `nested_text_in kind bytes`: the bytes of the text in the first attribute of this kind,
+        // `Ok None` if there is none, or the error. `map_ok option_copied result`: the returned
+        // text as a list of bytes, or the error.
+        ensures { map_ok option_copied result
+            ≡ nested_text_in NLMSGERR_ATTR_MSG (nested_bytes self.now.0) }
     {
         self.0.text_of(NLMSGERR_ATTR_MSG)
     }
 
     /// Returns the offset of the invalid attribute in bytes, from the first byte of the request's
-    /// header: the little-endian `u32` in `NLMSGERR_ATTR_OFFS`. A length other than 4 is
-    /// `WrongLength`, without the kind.
+    /// header: the little-endian `u32` in `NLMSGERR_ATTR_OFFS`, or `Ok(None)` if there is none. A
+    /// length other than 4 is `WrongLength`, without the kind.
     pub fn offset(&self) -> Result<Option<u32>, DecodeError>
-        ensures { result
-            ≡ parse_if_present (number_of_width None 4)
-            (first_value_in NLMSGERR_ATTR_OFFS (nested_bytes self.now.0)) }
+        // `nested_u32_in kind bytes`: the little-endian `u32` in the first attribute of this kind,
+        // `Ok None` if there is none, or the error.
+        ensures { result ≡ nested_u32_in NLMSGERR_ATTR_OFFS (nested_bytes self.now.0) }
     {
         self.0.word_of(NLMSGERR_ATTR_OFFS)
     }
 
-    /// Returns the cookie: the bytes of `NLMSGERR_ATTR_COOKIE`. Their format depends on the
-    /// kernel's subsystem.
+    /// Returns the cookie: the bytes of `NLMSGERR_ATTR_COOKIE`, or `None` if there is none. Their
+    /// format depends on the kernel's subsystem.
     pub fn cookie(&self) -> Option<&'a [u8]>
-        ensures { option_map (λ value. value.now) result
+        // `first_value_in kind bytes`: the value of the first attribute of this kind in the bytes,
+        // or `None`. `option_copied result`: the bytes that the result borrows, as a list.
+        ensures { option_copied result
             ≡ first_value_in NLMSGERR_ATTR_COOKIE (nested_bytes self.now.0) }
     {
         self.0.value_of(NLMSGERR_ATTR_COOKIE)
     }
 
-    /// Returns the policy of the rejected attribute, `NLMSGERR_ATTR_POLICY`: the bytes of nested
-    /// attributes.
+    /// Returns the policy of the rejected attribute: the value of `NLMSGERR_ATTR_POLICY`, which is
+    /// the bytes of nested attributes, or `None` if there is none.
     pub fn policy(&self) -> Option<&'a [u8]>
-        ensures { option_map (λ value. value.now) result
+        ensures { option_copied result
             ≡ first_value_in NLMSGERR_ATTR_POLICY (nested_bytes self.now.0) }
     {
         self.0.value_of(NLMSGERR_ATTR_POLICY)
     }
 
     /// Returns the kind of a required attribute that is missing: the little-endian `u32` in
-    /// `NLMSGERR_ATTR_MISS_TYPE`. A length other than 4 is `WrongLength`, without the kind.
+    /// `NLMSGERR_ATTR_MISS_TYPE`, or `Ok(None)` if there is none. A length other than 4 is
+    /// `WrongLength`, without the kind.
     pub fn missing_kind(&self) -> Result<Option<u32>, DecodeError>
-        ensures { result
-            ≡ parse_if_present (number_of_width None 4)
-            (first_value_in NLMSGERR_ATTR_MISS_TYPE (nested_bytes self.now.0)) }
+        ensures { result ≡ nested_u32_in NLMSGERR_ATTR_MISS_TYPE (nested_bytes self.now.0) }
     {
         self.0.word_of(NLMSGERR_ATTR_MISS_TYPE)
     }
 
     /// Returns the offset of the nest in which the attribute is missing, in bytes from the first
-    /// byte of the request's header: the little-endian `u32` in `NLMSGERR_ATTR_MISS_NEST`. The
-    /// kernel does not send it if the attribute is missing in the message itself. A length other
-    /// than 4 is `WrongLength`, without the kind.
+    /// byte of the request's header: the little-endian `u32` in `NLMSGERR_ATTR_MISS_NEST`, or
+    /// `Ok(None)` if there is none. The kernel does not send it if the attribute is missing in the
+    /// message itself. A length other than 4 is `WrongLength`, without the kind.
     pub fn missing_nest(&self) -> Result<Option<u32>, DecodeError>
-        ensures { result
-            ≡ parse_if_present (number_of_width None 4)
-            (first_value_in NLMSGERR_ATTR_MISS_NEST (nested_bytes self.now.0)) }
+        ensures { result ≡ nested_u32_in NLMSGERR_ATTR_MISS_NEST (nested_bytes self.now.0) }
     {
         self.0.word_of(NLMSGERR_ATTR_MISS_NEST)
     }
 }
 
-// Returns the length of the request in an `NLMSG_ERROR` payload, in bytes.
+// Returns the length of the request in an `NLMSG_ERROR` payload, in bytes. The payload must have at
+// least 20 bytes: those of the error number and of a header.
 fn request_length(flags: u16, payload: &[u8]) -> usize
-    requires { 20 ≤ length payload.now }
+    requires { 4 + NETLINK_HEADER_LEN ≤ length payload.now }
     ensures length { result ≡ acked_request_length flags payload.now }
+    // So the sum of this length, its padding and 4 does not overflow.
     ensures small { result < 2 ^ 32 }
 {
+    // With an error number other than 0, and without the flag, the whole request is sent. Its
+    // length field, at offset 4, is the first field of its header.
     if flags & NLM_F_CAPPED == 0 && LittleEndian::read_u32(payload) != 0 {
         LittleEndian::read_u32(&payload[4..]) as usize
     } else {
@@ -225,13 +237,15 @@ fn request_length(flags: u16, payload: &[u8]) -> usize
     }
 }
 
-// Returns the bytes of the attributes, from offset `front` on, or none if the flags lack
+// Returns the bytes of the attributes, which start at the offset, or none if the flags lack
 // `NLM_F_ACK_TLVS`.
-fn bytes_after_request(flags: u16, front: usize, payload: &[u8]) -> &[u8]
-    ensures { result.now ≡ ack_attribute_bytes_from flags front payload.entry.now }
+fn attribute_bytes_from(flags: u16, offset: usize, payload: &[u8]) -> &[u8]
+    // `ack_attribute_bytes_from flags offset payload`: the bytes from the offset on, or none if the
+    // flags lack `NLM_F_ACK_TLVS`.
+    ensures { result.now ≡ ack_attribute_bytes_from flags offset payload.entry.now }
 {
     if flags & NLM_F_ACK_TLVS == 0 {
         return &[];
     }
-    suffix_from(payload, front)
+    suffix_from(payload, offset)
 }

@@ -45,10 +45,11 @@ impl AttributeRecord for VegasInfo {
     }
 
     fn write_fields(&self, buffer: &mut [u8]) {
-        let words = [self.enabled, self.rtt_count, self.rtt, self.min_rtt];
-        LittleEndian::write_u32_into(&words, buffer);
+        let numbers = [self.enabled, self.rtt_count, self.rtt, self.min_rtt];
+        LittleEndian::write_u32_into(&numbers, buffer);
     }
 
+    // Proof only: the record has no array, so the conditions on its layout hold by computation.
     ghost laws = { λ name. record_laws (layout_with_name vegas_info name)
         (plain_sound refl (λ _. refl)
         (λ _. refl) (λ _. tt) (λ _ _. refl)) };
@@ -91,12 +92,13 @@ impl AttributeRecord for DctcpInfo {
     }
 
     fn write_fields(&self, buffer: &mut [u8]) {
-        let (shorts, words) = buffer.split_at_mut(4);
-        LittleEndian::write_u16_into(&[self.enabled, self.ce_state], shorts);
+        let (u16_fields, u32_fields) = buffer.split_at_mut(4);
+        LittleEndian::write_u16_into(&[self.enabled, self.ce_state], u16_fields);
         let numbers = [self.alpha, self.marked_bytes, self.acked_bytes];
-        LittleEndian::write_u32_into(&numbers, words);
+        LittleEndian::write_u32_into(&numbers, u32_fields);
     }
 
+    // Proof only: the record has no array, so the conditions on its layout hold by computation.
     ghost laws = { λ name. record_laws (layout_with_name dctcp_info name)
         (plain_sound refl (λ _. refl)
         (λ _. refl) (λ _. tt) (λ _ _. refl)) };
@@ -137,12 +139,13 @@ impl AttributeRecord for BbrInfo {
     }
 
     fn write_fields(&self, buffer: &mut [u8]) {
-        let (bandwidth, words) = buffer.split_at_mut(8);
+        let (bandwidth, u32_fields) = buffer.split_at_mut(8);
         LittleEndian::write_u64(bandwidth, self.bandwidth);
         let numbers = [self.min_rtt, self.pacing_gain, self.window_gain];
-        LittleEndian::write_u32_into(&numbers, words);
+        LittleEndian::write_u32_into(&numbers, u32_fields);
     }
 
+    // Proof only: the record has no array, so the conditions on its layout hold by computation.
     ghost laws = { λ name. record_laws (layout_with_name bbr_info name)
         (plain_sound refl (λ _. refl)
         (λ _. refl) (λ _. tt) (λ _ _. refl)) };

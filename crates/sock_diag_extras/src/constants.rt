@@ -293,8 +293,9 @@ pub const TCP_NEW_SYN_RECV: u8 = 12;
 /// (`TCP_CLOSE`).
 pub const TCP_BOUND_INACTIVE: u8 = 13;
 
-/// States the numeric value of each constant of this module. Proof only: the contract states the
-/// property.
+/// The constants of this module, and those that it re-exports, have these numeric values. Each
+/// clause lists pairs of a constant and its value, and `PairsAreEqual` states that both numbers of
+/// each pair are equal. Proof only: the contract states the property.
 pub fn extra_constants_have_their_values()
     ensures extra_attributes { PairsAreEqual ((INET_DIAG_ULP_INFO, 19) ∷
         (INET_DIAG_SK_BPF_STORAGES, 20) ∷ (INET_DIAG_CGROUP_ID, 21) ∷

@@ -41,6 +41,7 @@ impl Exact for StoredAddress {
 }
 
 impl Exact for TcpField {
+    // It has too many variants for the search: `==` is proved by a lemma.
     ghost exact = { (tcp_field_equal, Prim.search rules, Prim.search rules) };
 }
 

@@ -7,9 +7,9 @@ ghost use Rattle.sock_diag_values.specs.TcpInfo.{tcp_info};
 ghost use Rattle.sock_diag_extras.specs.Models.{ack_attributes, ack_number, ack_request};
 ghost use Rattle.sock_diag_extras.specs.Models.{mptcp_info_bytes, nested_bytes, tcp_info_bytes};
 ghost use Rattle.sock_diag_extras.specs.MptcpFields.{aligned_spans, mptcp_fields, mptcp_span_of};
-ghost use Rattle.sock_diag_extras.specs.Spans.{end_of_span};
+ghost use Rattle.sock_diag_extras.specs.MptcpFields.{mptcp_width_of};
 ghost use Rattle.sock_diag_extras.specs.TcpFields.{first_fields, later_fields};
-ghost use Rattle.sock_diag_extras.specs.TcpFields.{row_of, span_of};
+ghost use Rattle.sock_diag_extras.specs.TcpFields.{tcp_layout_field, tcp_end_of, tcp_offset_of};
 
 use crate::acknowledgement::{AckAttributes, AckView};
 use crate::mptcp_info::MptcpInfoBytes;
@@ -22,137 +22,150 @@ use std::alloc::AllocError;
 /// States that the first fields are the fields of the port's `TcpInfo`, in order and with the same
 /// offsets and widths (`first`); and that the later fields follow them without gaps (`later`): the
 /// first starts at offset 232, each other one where the one before it ends, and the last ends at
-/// 280.
+/// offset 280.
 pub fn tcp_fields_are_rows()
-    ensures first { map row_of first_fields ≡ tag_fields tcp_info tt }
-    ensures later { map (λ f. (span_of f).0) later_fields ++ 280 ∷ []
-        ≡ 232 ∷ map (λ f. end_of_span (span_of f)) later_fields }
+    // `tag_fields tcp_info tt`: the fields of the layout of `TcpInfo`. `tcp_layout_field f`: the
+    // field `f` as a field of a layout, by its offset and its width.
+    ensures first { map tcp_layout_field first_fields ≡ tag_fields tcp_info tt }
+    // The offsets of the later fields and then 280 are 232 and then the ends of these fields.
+    ensures later { map tcp_offset_of later_fields ++ 280 ∷ []
+        ≡ 232 ∷ map tcp_end_of later_fields }
 {}
 
 /// States that the fields of `struct mptcp_info`, in order, have the offsets at which a C compiler
 /// places numbers of their widths: each starts at the first multiple of its width after the field
 /// before it.
 pub fn mptcp_fields_are_aligned()
-    ensures { map mptcp_span_of mptcp_fields
-        ≡ aligned_spans 0 (map (λ f. (mptcp_span_of f).1) mptcp_fields) }
+    // `aligned_spans 0 widths`: the offsets and widths of consecutive members of these widths, from
+    // offset 0 on. `mptcp_span_of`: the offset and the width of a field. `mptcp_width_of`: its
+    // width.
+    ensures { map mptcp_span_of mptcp_fields ≡ aligned_spans 0 (map mptcp_width_of mptcp_fields) }
 {}
 
-/// States that `==` holds if and only if two values have the same bytes, that a copy has the same
-/// bytes, and that `clone` never fails. The result is `v == w`, and the clone of `v`.
+/// States that `==` of two `TcpInfoBytes` is true if and only if they have the same bytes, that a
+/// clone has the same bytes, and that `clone` never fails. Returns `left == right`, and the clone
+/// of `left`.
 pub fn compared_tcp_info_bytes<'a>(
-    v: &TcpInfoBytes<'a>,
-    w: &TcpInfoBytes<'_>,
+    left: &TcpInfoBytes<'a>,
+    right: &TcpInfoBytes<'_>,
 ) -> (bool, Result<TcpInfoBytes<'a>, AllocError>)
-    ensures equal { IsTrue result.0 ↔ (tcp_info_bytes v.now ≡ tcp_info_bytes w.now) }
+    ensures equal { IsTrue result.0 ↔ (tcp_info_bytes left.now ≡ tcp_info_bytes right.now) }
     ensures ok { IsOk result.1 }
-    ensures same { IfOk result.1 (λ copy. tcp_info_bytes copy ≡ tcp_info_bytes v.now) }
+    ensures same { IfOk result.1 (λ copy. tcp_info_bytes copy ≡ tcp_info_bytes left.now) }
 {
-    (v == w, v.clone())
+    (left == right, left.clone())
 }
 
-/// States that `==` holds if and only if two values have the same bytes, that a copy has the same
-/// bytes, and that `clone` never fails. The result is `v == w`, and the clone of `v`.
+/// States that `==` of two `MptcpInfoBytes` is true if and only if they have the same bytes, that a
+/// clone has the same bytes, and that `clone` never fails. Returns `left == right`, and the clone
+/// of `left`.
 pub fn compared_mptcp_info_bytes<'a>(
-    v: &MptcpInfoBytes<'a>,
-    w: &MptcpInfoBytes<'_>,
+    left: &MptcpInfoBytes<'a>,
+    right: &MptcpInfoBytes<'_>,
 ) -> (bool, Result<MptcpInfoBytes<'a>, AllocError>)
-    ensures equal { IsTrue result.0 ↔ (mptcp_info_bytes v.now ≡ mptcp_info_bytes w.now) }
+    ensures equal { IsTrue result.0 ↔ (mptcp_info_bytes left.now ≡ mptcp_info_bytes right.now) }
     ensures ok { IsOk result.1 }
-    ensures same { IfOk result.1 (λ copy. mptcp_info_bytes copy ≡ mptcp_info_bytes v.now) }
+    ensures same { IfOk result.1 (λ copy. mptcp_info_bytes copy ≡ mptcp_info_bytes left.now) }
 {
-    (v == w, v.clone())
+    (left == right, left.clone())
 }
 
-/// States that `==` holds if and only if two values have the same bytes, that a copy has the same
-/// bytes, and that `clone` never fails. The result is `v == w`, and the clone of `v`.
+/// States that `==` of two `NestedNlas` is true if and only if they have the same bytes, that a
+/// clone has the same bytes, and that `clone` never fails. Returns `left == right`, and the clone
+/// of `left`.
 pub fn compared_nested_nlas<'a>(
-    v: &NestedNlas<'a>,
-    w: &NestedNlas<'_>,
+    left: &NestedNlas<'a>,
+    right: &NestedNlas<'_>,
 ) -> (bool, Result<NestedNlas<'a>, AllocError>)
-    ensures equal { IsTrue result.0 ↔ (nested_bytes v.now ≡ nested_bytes w.now) }
+    ensures equal { IsTrue result.0 ↔ (nested_bytes left.now ≡ nested_bytes right.now) }
     ensures ok { IsOk result.1 }
-    ensures same { IfOk result.1 (λ copy. nested_bytes copy ≡ nested_bytes v.now) }
+    ensures same { IfOk result.1 (λ copy. nested_bytes copy ≡ nested_bytes left.now) }
 {
-    (v == w, v.clone())
+    (left == right, left.clone())
 }
 
-/// States that `==` holds if and only if two values have the same bytes, that a copy has the same
-/// bytes, and that `clone` never fails. The result is `v == w`, and the clone of `v`.
+/// States that `==` of two `AckAttributes` is true if and only if they have the same bytes, that a
+/// clone has the same bytes, and that `clone` never fails. Returns `left == right`, and the clone
+/// of `left`.
 pub fn compared_ack_attributes<'a>(
-    v: &AckAttributes<'a>,
-    w: &AckAttributes<'_>,
+    left: &AckAttributes<'a>,
+    right: &AckAttributes<'_>,
 ) -> (bool, Result<AckAttributes<'a>, AllocError>)
-    ensures equal { IsTrue result.0 ↔ (nested_bytes v.now.0 ≡ nested_bytes w.now.0) }
+    ensures equal { IsTrue result.0 ↔ (nested_bytes left.now.0 ≡ nested_bytes right.now.0) }
     ensures ok { IsOk result.1 }
-    ensures same { IfOk result.1 (λ copy. nested_bytes copy.0 ≡ nested_bytes v.now.0) }
+    ensures same { IfOk result.1 (λ copy. nested_bytes copy.0 ≡ nested_bytes left.now.0) }
 {
-    (v == w, v.clone())
+    (left == right, left.clone())
 }
 
-/// States that `==` holds if and only if two values have the same bytes, that a copy has the same
-/// bytes, and that `clone` never fails. The result is `v == w`, and the clone of `v`.
+/// States that `==` of two `BpfStorage` is true if and only if they have the same bytes, that a
+/// clone has the same bytes, and that `clone` never fails. Returns `left == right`, and the clone
+/// of `left`.
 pub fn compared_bpf_storages<'a>(
-    v: &BpfStorage<'a>,
-    w: &BpfStorage<'_>,
+    left: &BpfStorage<'a>,
+    right: &BpfStorage<'_>,
 ) -> (bool, Result<BpfStorage<'a>, AllocError>)
-    ensures equal { IsTrue result.0 ↔ (nested_bytes v.now.0 ≡ nested_bytes w.now.0) }
+    ensures equal { IsTrue result.0 ↔ (nested_bytes left.now.0 ≡ nested_bytes right.now.0) }
     ensures ok { IsOk result.1 }
-    ensures same { IfOk result.1 (λ copy. nested_bytes copy.0 ≡ nested_bytes v.now.0) }
+    ensures same { IfOk result.1 (λ copy. nested_bytes copy.0 ≡ nested_bytes left.now.0) }
 {
-    (v == w, v.clone())
+    (left == right, left.clone())
 }
 
-/// States that `==` holds if and only if two values have the same bytes, that a copy has the same
-/// bytes, and that `clone` never fails. The result is `v == w`, and the clone of `v`.
+/// States that `==` of two `UlpInfo` is true if and only if they have the same bytes, that a clone
+/// has the same bytes, and that `clone` never fails. Returns `left == right`, and the clone of
+/// `left`.
 pub fn compared_ulp_infos<'a>(
-    v: &UlpInfo<'a>,
-    w: &UlpInfo<'_>,
+    left: &UlpInfo<'a>,
+    right: &UlpInfo<'_>,
 ) -> (bool, Result<UlpInfo<'a>, AllocError>)
-    ensures equal { IsTrue result.0 ↔ (nested_bytes v.now.0 ≡ nested_bytes w.now.0) }
+    ensures equal { IsTrue result.0 ↔ (nested_bytes left.now.0 ≡ nested_bytes right.now.0) }
     ensures ok { IsOk result.1 }
-    ensures same { IfOk result.1 (λ copy. nested_bytes copy.0 ≡ nested_bytes v.now.0) }
+    ensures same { IfOk result.1 (λ copy. nested_bytes copy.0 ≡ nested_bytes left.now.0) }
 {
-    (v == w, v.clone())
+    (left == right, left.clone())
 }
 
-/// States that `==` holds if and only if two values have the same bytes, that a copy has the same
-/// bytes, and that `clone` never fails. The result is `v == w`, and the clone of `v`.
+/// States that `==` of two `TlsInfo` is true if and only if they have the same bytes, that a clone
+/// has the same bytes, and that `clone` never fails. Returns `left == right`, and the clone of
+/// `left`.
 pub fn compared_tls_infos<'a>(
-    v: &TlsInfo<'a>,
-    w: &TlsInfo<'_>,
+    left: &TlsInfo<'a>,
+    right: &TlsInfo<'_>,
 ) -> (bool, Result<TlsInfo<'a>, AllocError>)
-    ensures equal { IsTrue result.0 ↔ (nested_bytes v.now.0 ≡ nested_bytes w.now.0) }
+    ensures equal { IsTrue result.0 ↔ (nested_bytes left.now.0 ≡ nested_bytes right.now.0) }
     ensures ok { IsOk result.1 }
-    ensures same { IfOk result.1 (λ copy. nested_bytes copy.0 ≡ nested_bytes v.now.0) }
+    ensures same { IfOk result.1 (λ copy. nested_bytes copy.0 ≡ nested_bytes left.now.0) }
 {
-    (v == w, v.clone())
+    (left == right, left.clone())
 }
 
-/// States that `==` holds if and only if two values have the same bytes, that a copy has the same
-/// bytes, and that `clone` never fails. The result is `v == w`, and the clone of `v`.
+/// States that `==` of two `SubflowInfo` is true if and only if they have the same bytes, that a
+/// clone has the same bytes, and that `clone` never fails. Returns `left == right`, and the clone
+/// of `left`.
 pub fn compared_subflow_infos<'a>(
-    v: &SubflowInfo<'a>,
-    w: &SubflowInfo<'_>,
+    left: &SubflowInfo<'a>,
+    right: &SubflowInfo<'_>,
 ) -> (bool, Result<SubflowInfo<'a>, AllocError>)
-    ensures equal { IsTrue result.0 ↔ (nested_bytes v.now.0 ≡ nested_bytes w.now.0) }
+    ensures equal { IsTrue result.0 ↔ (nested_bytes left.now.0 ≡ nested_bytes right.now.0) }
     ensures ok { IsOk result.1 }
-    ensures same { IfOk result.1 (λ copy. nested_bytes copy.0 ≡ nested_bytes v.now.0) }
+    ensures same { IfOk result.1 (λ copy. nested_bytes copy.0 ≡ nested_bytes left.now.0) }
 {
-    (v == w, v.clone())
+    (left == right, left.clone())
 }
 
-/// States that `==` holds if and only if two acknowledgements have the same number, request and
-/// bytes of attributes.
-pub fn equal_ack_views(v: &AckView<'_>, w: &AckView<'_>) -> bool
-    ensures { IsTrue result ↔ ((ack_number v.now ≡ ack_number w.now)
-        × (ack_request v.now ≡ ack_request w.now)
-        × (ack_attributes v.now ≡ ack_attributes w.now)) }
+/// States that `==` of two acknowledgements is true if and only if they have the same number,
+/// request and bytes of attributes.
+pub fn equal_ack_views(left: &AckView<'_>, right: &AckView<'_>) -> bool
+    ensures { IsTrue result ↔ ((ack_number left.now ≡ ack_number right.now)
+        × (ack_request left.now ≡ ack_request right.now)
+        × (ack_attributes left.now ≡ ack_attributes right.now)) }
 {
-    v == w
+    left == right
 }
 
-/// States that a copy has the same number, request and bytes of attributes, and that `clone` never
-/// fails.
+/// States that the clone of an acknowledgement has the same number, request and bytes of
+/// attributes, and that `clone` never fails.
 pub fn copied_ack_view<'a>(view: &AckView<'a>) -> Result<AckView<'a>, AllocError>
     ensures ok { IsOk result }
     ensures number { IfOk result (λ copy. ack_number copy ≡ ack_number view.now) }

@@ -43,26 +43,27 @@ impl AttributeRecord for Md5Signature {
         100
     }
 
-    fn from_fields(row: &[u8]) -> Self {
+    fn from_fields(bytes: &[u8]) -> Self {
         Md5Signature {
-            family: row[0],
-            prefix_length: row[1],
-            key_length: LittleEndian::read_u16(&row[2..]),
-            address: array_at(row, 4),
-            key: array_at(row, 20),
+            family: bytes[0],
+            prefix_length: bytes[1],
+            key_length: LittleEndian::read_u16(&bytes[2..]),
+            address: array_at(bytes, 4),
+            key: array_at(bytes, 20),
         }
     }
 
-    fn write_fields(&self, row: &mut [u8]) {
-        let (front, rest) = row.split_at_mut(2);
-        let (key_length, rest) = rest.split_at_mut(2);
-        let (address, key) = rest.split_at_mut(16);
-        front.copy_from_slice(&[self.family, self.prefix_length]);
+    fn write_fields(&self, buffer: &mut [u8]) {
+        let (family_and_prefix, after_prefix) = buffer.split_at_mut(2);
+        let (key_length, after_key_length) = after_prefix.split_at_mut(2);
+        let (address, key) = after_key_length.split_at_mut(16);
+        family_and_prefix.copy_from_slice(&[self.family, self.prefix_length]);
         LittleEndian::write_u16_into(&[self.key_length], key_length);
         address.copy_from_slice(&self.address);
         key.copy_from_slice(&self.key);
     }
 
+    // Proof only: the first 16 and 80 numbers of the two arrays are all of their elements.
     ghost laws = { λ name. record_laws (layout_with_name md5_signature name) (plain_sound refl
         (λ _. refl) (λ _. refl) (λ _. (refl, refl)) (λ v shaped.
         let address = first_numbers_are_all 16 v.address shaped.0 in

@@ -6,7 +6,7 @@ ghost use Rattle.sock_diag_extras.specs.Models.{mptcp_info_bytes};
 use crate::bytes::{number_at, suffix_from};
 
 /// The size of `struct mptcp_info` in Linux 6.18, in bytes.
-const WHOLE: usize = 96;
+const LINUX_MPTCP_INFO_LEN: usize = 96;
 
 /// A field of `struct mptcp_info` of `linux/mptcp.h`, as Linux 6.18 defines it: 96 bytes,
 /// little-endian. The number after `at` is the offset in bytes.
@@ -135,6 +135,8 @@ impl<'a> MptcpInfoBytes<'a> {
     /// Returns the value of the field, a little-endian number. Returns `None` if the bytes end
     /// before the end of the field.
     pub fn get(&self, field: MptcpField) -> Option<u64>
+        // `end_of_span span`: the offset of the byte after the field. `number_in_span span bytes`:
+        // the number at this offset and of this width.
         ensures { SomeIff result
             (end_of_span (mptcp_span_of field) ≤ length (mptcp_info_bytes self.now))
             (number_in_span (mptcp_span_of field) (mptcp_info_bytes self.now)) }
@@ -146,8 +148,8 @@ impl<'a> MptcpInfoBytes<'a> {
     /// Returns the bytes from offset 96 on, after the fields that [`MptcpField`] lists. There are
     /// none if the value has at most 96 bytes.
     pub fn rest(&self) -> &'a [u8]
-        ensures { result.now ≡ drop 96 (mptcp_info_bytes self.now) }
+        ensures { result.now ≡ drop LINUX_MPTCP_INFO_LEN (mptcp_info_bytes self.now) }
     {
-        suffix_from(self.bytes, WHOLE)
+        suffix_from(self.bytes, LINUX_MPTCP_INFO_LEN)
     }
 }

@@ -1,15 +1,15 @@
 //! Attributes that are nested in the value of another attribute or follow a header, with getters by
 //! kind.
 
-ghost use Rattle.std.specs.Prelude.{◌≡◌, ◌≤◌, ℕ, List, [], IfErr, IfOk, None, Some, option_map};
+ghost use Rattle.std.specs.Prelude.{◌≡◌, ◌≤◌, ℕ, List, [], IfErr, IfOk, Some, option_copied};
+ghost use Rattle.std.specs.Prelude.{option_map};
 ghost use Rattle.netlink_core.specs.Attribute.{HasAttributeError};
 ghost use Rattle.netlink_core.specs.AttributeSet.{decode_attribute};
 ghost use Rattle.netlink_core.specs.Errors.{map_ok};
-ghost use Rattle.netlink_core.specs.Parse.{number_of_width, parse_text};
 ghost use Rattle.netlink_core.specs.Walk.{unread_bytes};
 ghost use Rattle.attribute_lists.specs.AttributesIn.{HasNoAttributeError};
-ghost use Rattle.sock_diag_families.specs.AttributeGetters.{parse_if_present};
-ghost use Rattle.sock_diag_extras.specs.Nested.{first_value_in, nested_number_in};
+ghost use Rattle.sock_diag_extras.specs.Nested.{first_value_in, nested_number_in, nested_text_in};
+ghost use Rattle.sock_diag_extras.specs.Nested.{nested_u32_in};
 
 use attribute_lists::{check_nlas, next_view};
 use byteorder::{ByteOrder, LittleEndian};
@@ -31,16 +31,18 @@ impl<'a> NestedNlas<'a> {
     /// Borrows the attributes in the bytes. Returns the first framing error, if there is one. The
     /// values are not parsed.
     pub fn parse(bytes: &'a [u8]) -> Result<NestedNlas<'a>, DecodeError>
+        // `nested_bytes nested`: the bytes of the attributes.
         ensures kept { IfOk result (λ nested. nested_bytes nested ≡ bytes.entry.now) }
         // `decode_attribute []`: no attribute type is known, so every value is accepted.
         ensures error { IfErr result (HasAttributeError (decode_attribute []) bytes.entry.now) }
     {
-        let _count = check_nlas::<RawNla>(bytes)?;
+        check_nlas::<RawNla>(bytes)?;
         Ok(NestedNlas { bytes })
     }
 
     /// Returns an iterator over all of the attributes, in order.
     pub fn walk(&self) -> NlasIterator<'a>
+        // `unread_bytes iterator`: the bytes that the iterator has not read yet.
         ensures { unread_bytes result ≡ nested_bytes self.now }
     {
         NlasIterator::new(self.bytes)
@@ -48,11 +50,12 @@ impl<'a> NestedNlas<'a> {
 
     /// Returns the value of the first attribute of the kind, or `None` if there is none.
     pub fn value_of(&self, kind: u16) -> Option<&'a [u8]>
-        ensures { option_map (λ value. value.now) result
-            ≡ first_value_in kind (nested_bytes self.now) }
+        // `first_value_in kind bytes`: the value of the first attribute of this kind in the bytes,
+        // or `None`. `option_copied result`: the bytes that the result borrows, as a list.
+        ensures { option_copied result ≡ first_value_in kind (nested_bytes self.now) }
     {
-        let mut walk = self.walk();
-        while let Some(nla) = next_view::<RawNla>(&mut walk) {
+        let mut nlas = self.walk();
+        while let Some(nla) = next_view::<RawNla>(&mut nlas) {
             if nla.0.kind() == kind {
                 return Some(nla.0.value());
             }
@@ -64,8 +67,10 @@ impl<'a> NestedNlas<'a> {
     /// it has one. Returns `Ok(None)` if there is no such attribute. Text that is not valid UTF-8
     /// is `NotUtf8`; `value_of` returns its bytes.
     pub fn text_of(&self, kind: u16) -> Result<Option<&'a str>, DecodeError>
-        ensures { map_ok (option_map (λ text. text.now)) result
-            ≡ parse_if_present parse_text (first_value_in kind (nested_bytes self.now)) }
+        // `nested_text_in kind bytes`: the bytes of the text in the first attribute of this kind,
+        // `Ok None` if there is none, or the error. `map_ok option_copied result`: the returned
+        // text as a list of bytes, or the error.
+        ensures { map_ok option_copied result ≡ nested_text_in kind (nested_bytes self.now) }
     {
         match self.value_of(kind) {
             Some(value) => Ok(Some(parse_str(value)?)),
@@ -77,8 +82,9 @@ impl<'a> NestedNlas<'a> {
     /// `Ok(None)` if there is no such attribute. A length other than 4 is `WrongLength`, without
     /// the kind.
     pub fn word_of(&self, kind: u16) -> Result<Option<u32>, DecodeError>
-        ensures { result ≡ parse_if_present (number_of_width None 4)
-            (first_value_in kind (nested_bytes self.now)) }
+        // `nested_u32_in kind bytes`: the little-endian `u32` in the first attribute of this kind,
+        // `Ok None` if there is none, or the error.
+        ensures { result ≡ nested_u32_in kind (nested_bytes self.now) }
     {
         match self.value_of(kind) {
             Some(value) => Ok(Some(parse_u32(value)?)),
@@ -92,6 +98,8 @@ impl<'a> NestedNlas<'a> {
     pub fn number_of(&self, kind: u16, width: usize) -> Result<Option<u64>, DecodeError>
         requires one { 1 ≤ width }
         requires eight { width ≤ 8 }
+        // `nested_number_in (kind, width) bytes`: the little-endian number in the first attribute
+        // of this kind, whose value has `width` bytes, `Ok None` if there is none, or the error.
         ensures { result ≡ nested_number_in (kind, width) (nested_bytes self.now) }
     {
         match self.value_of(kind) {
@@ -109,7 +117,9 @@ impl<'a> NestedNlas<'a> {
     /// `Ok(None)` if there is no such attribute, and the first framing error in its value, if there
     /// is one.
     pub fn nested_of(&self, kind: u16) -> Result<Option<NestedNlas<'a>>, DecodeError>
-        ensures kept { IfOk result (λ found. option_map (λ nested. nested_bytes nested) found
+        // `first_value_in kind bytes`: the value of the first attribute of this kind in the bytes,
+        // or `None`. The result has its bytes (`nested_bytes`), or is `None` too.
+        ensures kept { IfOk result (λ found. option_map nested_bytes found
             ≡ first_value_in kind (nested_bytes self.now)) }
         // `value`: the value of the attribute, in which the framing error is.
         ensures error { IfErr result (λ e. (value : List ℕ)

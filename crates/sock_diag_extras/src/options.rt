@@ -62,6 +62,7 @@ impl AttributeRecord for SocketOptions {
         LittleEndian::write_u16(buffer, self.bits);
     }
 
+    // Proof only: the record has no array, so the conditions on its layout hold by computation.
     ghost laws = { λ name. record_laws (layout_with_name socket_options name) (plain_sound refl
         (λ _. refl) (λ _. refl) (λ _. tt) (λ _ _. refl)) };
 }
@@ -71,8 +72,10 @@ impl SocketOptions {
 
     /// Returns whether the option is set: whether `bits` has the bit of the option.
     pub fn has(&self, option: SocketOption) -> bool
+        // `bit_of option`: the index of the option's bit.
         ensures { IsTrue result ↔ IsBitSet self.now.bits (bit_of option) }
     {
+        // Each value is 2 to the power of the index of the option's bit.
         let bit = match option {
             SocketOption::RecvErr => 1,
             SocketOption::IsIcsk => 2,

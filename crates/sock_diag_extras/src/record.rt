@@ -1,4 +1,4 @@
-//! Records without a name in errors: parsing returns `None` if there are too few bytes.
+//! Records that are parsed without an error: parsing returns `None` if there are too few bytes.
 
 ghost use Rattle.std.specs.Prelude.{◌≡◌, ◌≤◌, ◌++◌, drop, length, SomeIff};
 ghost use Rattle.std.specs.Result.{result_ok};
@@ -20,16 +20,18 @@ pub trait AttributeRecord: Sized {
     /// Parses the record at the start of the bytes, of which there must be at least `size()`. The
     /// bytes after the record are ignored.
     fn from_fields(bytes: &[u8]) -> Self
+        // `parse_by_table layout bytes`: the record at the start of the bytes.
         requires { layout.size ≤ length bytes.now }
         ensures { result ≡ parse_by_table layout bytes.now };
 
     /// Serializes the record to a buffer of `size()` bytes. The previous content of the buffer does
     /// not matter.
     fn write_fields(&self, buffer: &mut [u8])
+        // `bytes_by_table layout value`: the bytes of the record.
         requires { length buffer.old ≡ layout.size }
         ensures { buffer.new ≡ bytes_by_table layout self.now };
 
-    // Proof only: the layout keeps the laws of records, for any name in errors.
+    // Proof only: the layout keeps the laws of records, whatever name its errors have.
     ghost laws: { (name : RecordName) → RecordLaws (layout_with_name layout name) };
 }
 
@@ -37,9 +39,12 @@ pub trait AttributeRecord: Sized {
 /// record has. The bytes that follow are ignored.
 #[inline(always)]
 pub fn read_attribute_record<T: AttributeRecord>(value: &[u8]) -> Option<T>
+    // `parse_by_table layout bytes`: the record at the start of the bytes.
     ensures value { SomeIff result (T.layout.size ≤ length value.now)
         (parse_by_table T.layout value.now) }
-    // It is also what the layout returns, whatever name its errors have: `None` for an error.
+    // The result is what `parse_record` of `netlink_core` returns for this layout, with `None` in
+    // place of its error (`result_ok`). A layout there has a name, which only the error contains,
+    // so this holds for any name.
     ensures by_layout { (name : RecordName)
         → result ≡ result_ok (parse_record (layout_with_name T.layout name) tt value.now) }
 {
@@ -52,6 +57,7 @@ pub fn read_attribute_record<T: AttributeRecord>(value: &[u8]) -> Option<T>
 /// Serializes the record to the start of the buffer, which must be at least as long as the record.
 /// The bytes after it are unchanged.
 pub fn write_attribute_record<T: AttributeRecord>(value: &T, buffer: &mut [u8])
+    // `bytes_by_table layout value`: the bytes of the record.
     requires { T.layout.size ≤ length buffer.old }
     ensures { buffer.new ≡ bytes_by_table T.layout value.now ++ drop T.layout.size buffer.old }
 {

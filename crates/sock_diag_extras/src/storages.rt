@@ -1,13 +1,11 @@
 //! Local storage of BPF programs for a socket: INET_DIAG_SK_BPF_STORAGES.
 
-ghost use Rattle.std.specs.Prelude.{◌≡◌, ◌≢◌, [], IfErr, IfOk, MatchOption, None, option_map};
+ghost use Rattle.std.specs.Prelude.{◌≡◌, ◌≢◌, [], IfErr, IfOk, MatchOption, option_copied};
 ghost use Rattle.netlink_core.specs.Attribute.{HasAttributeError, attribute_kind};
 ghost use Rattle.netlink_core.specs.AttributeSet.{decode_attribute};
-ghost use Rattle.netlink_core.specs.Parse.{number_of_width};
 ghost use Rattle.netlink_core.specs.Walk.{buffered_attribute};
-ghost use Rattle.sock_diag_families.specs.AttributeGetters.{parse_if_present};
 ghost use Rattle.sock_diag_extras.specs.Models.{nested_bytes};
-ghost use Rattle.sock_diag_extras.specs.Nested.{first_value_in};
+ghost use Rattle.sock_diag_extras.specs.Nested.{first_value_in, nested_u32_in};
 
 use crate::constants::{
     SK_DIAG_BPF_STORAGE, SK_DIAG_BPF_STORAGE_MAP_ID, SK_DIAG_BPF_STORAGE_MAP_VALUE,
@@ -26,6 +24,9 @@ impl<'a> BpfStorage<'a> {
     /// of the attribute is not `SK_DIAG_BPF_STORAGE` (1). Otherwise returns the first framing error
     /// in the value, if there is one.
     pub fn parse(nla: &NlaBuffer<'a>) -> Result<Option<BpfStorage<'a>>, DecodeError>
+        // `buffered_attribute nla`: the attribute in the buffer. `attribute_kind attribute`: its
+        // kind, the type field without the two flag bits. `nested_bytes storage.0`: the bytes of
+        // the nested attributes, here the value of the attribute.
         ensures kept { IfOk result (λ found. MatchOption found
             (attribute_kind (buffered_attribute nla.now) ≢ SK_DIAG_BPF_STORAGE)
             (λ storage. (attribute_kind (buffered_attribute nla.now) ≡ SK_DIAG_BPF_STORAGE)
@@ -45,9 +46,9 @@ impl<'a> BpfStorage<'a> {
     /// `SK_DIAG_BPF_STORAGE_MAP_ID`, or `Ok(None)` if there is none. A length other than 4 is
     /// `WrongLength`, without the kind.
     pub fn map_id(&self) -> Result<Option<u32>, DecodeError>
-        ensures { result
-            ≡ parse_if_present (number_of_width None 4)
-            (first_value_in SK_DIAG_BPF_STORAGE_MAP_ID (nested_bytes self.now.0)) }
+        // `nested_u32_in kind bytes`: the little-endian `u32` in the first attribute of this kind
+        // in the bytes, `Ok None` if there is none, or the error.
+        ensures { result ≡ nested_u32_in SK_DIAG_BPF_STORAGE_MAP_ID (nested_bytes self.now.0) }
     {
         self.0.word_of(SK_DIAG_BPF_STORAGE_MAP_ID)
     }
@@ -55,7 +56,9 @@ impl<'a> BpfStorage<'a> {
     /// Returns the bytes that the map stores for the socket: the value of the first
     /// `SK_DIAG_BPF_STORAGE_MAP_VALUE`, or `None` if there is none.
     pub fn map_value(&self) -> Option<&'a [u8]>
-        ensures { option_map (λ value. value.now) result
+        // `first_value_in kind bytes`: the value of the first attribute of this kind in the bytes,
+        // or `None`. `option_copied result`: the bytes that the result borrows, as a list.
+        ensures { option_copied result
             ≡ first_value_in SK_DIAG_BPF_STORAGE_MAP_VALUE (nested_bytes self.now.0) }
     {
         self.0.value_of(SK_DIAG_BPF_STORAGE_MAP_VALUE)

@@ -49,25 +49,25 @@ impl AttributeRecord for StoredAddress {
         128
     }
 
-    fn from_fields(row: &[u8]) -> Self {
-        let [port] = u16s_be_at::<1>(row, 2);
-        let [scope_id] = u32s_at::<1>(row, 24);
+    fn from_fields(bytes: &[u8]) -> Self {
+        let [port] = u16s_be_at::<1>(bytes, 2);
+        let [scope_id] = u32s_at::<1>(bytes, 24);
         StoredAddress {
-            family: LittleEndian::read_u16(row),
+            family: LittleEndian::read_u16(bytes),
             port,
-            front: array_at(row, 4),
-            segments: u16s_be_at(row, 8),
+            front: array_at(bytes, 4),
+            segments: u16s_be_at(bytes, 8),
             scope_id,
-            rest: array_at(row, 28),
+            rest: array_at(bytes, 28),
         }
     }
 
-    fn write_fields(&self, row: &mut [u8]) {
-        let (family, behind) = row.split_at_mut(2);
-        let (port, behind) = behind.split_at_mut(2);
-        let (front, behind) = behind.split_at_mut(4);
-        let (segments, behind) = behind.split_at_mut(16);
-        let (scope_id, rest) = behind.split_at_mut(4);
+    fn write_fields(&self, buffer: &mut [u8]) {
+        let (family, after_family) = buffer.split_at_mut(2);
+        let (port, after_port) = after_family.split_at_mut(2);
+        let (front, after_front) = after_port.split_at_mut(4);
+        let (segments, after_segments) = after_front.split_at_mut(16);
+        let (scope_id, rest) = after_segments.split_at_mut(4);
         LittleEndian::write_u16_into(&[self.family], family);
         BigEndian::write_u16_into(&[self.port], port);
         front.copy_from_slice(&self.front);
@@ -76,6 +76,7 @@ impl AttributeRecord for StoredAddress {
         rest.copy_from_slice(&self.rest);
     }
 
+    // Proof only: the first 4, 8 and 100 numbers of the three arrays are all of their elements.
     ghost laws = { λ name. record_laws (layout_with_name stored_address name) (plain_sound refl
         (λ _. refl) (λ _. refl) (λ _. (refl, refl, refl)) (λ v shaped.
         let front = first_numbers_are_all 4 v.front shaped.0 in

@@ -10,7 +10,7 @@ use crate::bytes::{number_at, suffix_from};
 use sock_diag_values::inet::TcpInfo;
 
 /// The size of `struct tcp_info` in Linux 6.18, in bytes.
-const WHOLE: usize = 280;
+const LINUX_TCP_INFO_LEN: usize = 280;
 
 /// A field of `struct tcp_info` of `linux/tcp.h`, as Linux 6.18 defines it: 280 bytes,
 /// little-endian. The number after `at` is the offset in bytes. [`TcpInfo`] documents the fields
@@ -166,11 +166,11 @@ pub enum TcpField {
 }
 
 impl TcpField {
-    ghost use Rattle.sock_diag_extras.specs.TcpFields.{span_of};
+    ghost use Rattle.sock_diag_extras.specs.TcpFields.{tcp_span_of};
 
     /// Returns the offset of the field and its width, both in bytes.
     pub fn span(self) -> (usize, usize)
-        ensures { result ≡ span_of self }
+        ensures { result ≡ tcp_span_of self }
     {
         match self {
             TcpField::State => (0, 1),
@@ -254,7 +254,7 @@ pub struct TcpInfoBytes<'a> {
 
 impl<'a> TcpInfoBytes<'a> {
     ghost use Rattle.sock_diag_extras.specs.Spans.{end_of_span, number_in_span};
-    ghost use Rattle.sock_diag_extras.specs.TcpFields.{span_of};
+    ghost use Rattle.sock_diag_extras.specs.TcpFields.{tcp_span_of};
 
     /// Borrows the bytes of the value. Any number of bytes is accepted.
     pub fn new(value: &'a [u8]) -> TcpInfoBytes<'a>
@@ -273,8 +273,11 @@ impl<'a> TcpInfoBytes<'a> {
     /// Returns the value of the field, a little-endian number. Returns `None` if the bytes end
     /// before the end of the field.
     pub fn get(&self, field: TcpField) -> Option<u64>
-        ensures { SomeIff result (end_of_span (span_of field) ≤ length (tcp_info_bytes self.now))
-            (number_in_span (span_of field) (tcp_info_bytes self.now)) }
+        // `end_of_span span`: the offset of the byte after the field. `number_in_span span bytes`:
+        // the number at this offset and of this width.
+        ensures { SomeIff result
+            (end_of_span (tcp_span_of field) ≤ length (tcp_info_bytes self.now))
+            (number_in_span (tcp_span_of field) (tcp_info_bytes self.now)) }
     {
         let (offset, width) = field.span();
         number_at(self.bytes, offset, width)
@@ -283,6 +286,8 @@ impl<'a> TcpInfoBytes<'a> {
     /// Returns the record that the port parses from the first 232 bytes. Returns `None` if there
     /// are fewer bytes.
     pub fn whole(&self) -> Option<TcpInfo>
+        // `parse_record tcp_info tt`: the record of the layout `tcp_info`, or its error.
+        // `result_ok`: `None` for an error.
         ensures { result ≡ result_ok (parse_record tcp_info tt (tcp_info_bytes self.now)) }
     {
         TcpInfo::parse(self.bytes).ok()
@@ -291,8 +296,8 @@ impl<'a> TcpInfoBytes<'a> {
     /// Returns the bytes from offset 280 on, after the fields that [`TcpField`] lists. There are
     /// none if the value has at most 280 bytes.
     pub fn rest(&self) -> &'a [u8]
-        ensures { result.now ≡ drop 280 (tcp_info_bytes self.now) }
+        ensures { result.now ≡ drop LINUX_TCP_INFO_LEN (tcp_info_bytes self.now) }
     {
-        suffix_from(self.bytes, WHOLE)
+        suffix_from(self.bytes, LINUX_TCP_INFO_LEN)
     }
 }

@@ -1,14 +1,12 @@
 //! The upper layer protocol of a TCP connection: INET_DIAG_ULP_INFO.
 
 ghost use Rattle.std.specs.Prelude.{◌≡◌, ◌↔◌, ℕ, List, [], IfErr, IfOk, IsSome, IsTrue, Some};
-ghost use Rattle.std.specs.Prelude.{option_map};
+ghost use Rattle.std.specs.Prelude.{option_copied, option_map};
 ghost use Rattle.netlink_core.specs.Attribute.{HasAttributeError};
 ghost use Rattle.netlink_core.specs.AttributeSet.{decode_attribute};
 ghost use Rattle.netlink_core.specs.Errors.{map_ok};
-ghost use Rattle.netlink_core.specs.Parse.{parse_text};
-ghost use Rattle.sock_diag_families.specs.AttributeGetters.{parse_if_present};
 ghost use Rattle.sock_diag_extras.specs.Models.{nested_bytes};
-ghost use Rattle.sock_diag_extras.specs.Nested.{first_value_in, nested_number_in};
+ghost use Rattle.sock_diag_extras.specs.Nested.{first_value_in, nested_number_in, nested_text_in};
 
 use crate::constants::{
     INET_ULP_INFO_MPTCP, INET_ULP_INFO_NAME, INET_ULP_INFO_TLS, MPTCP_SUBFLOW_ATTR_FLAGS,
@@ -30,8 +28,8 @@ pub struct UlpInfo<'a>(pub NestedNlas<'a>);
 impl<'a> UlpInfo<'a> {
     /// Borrows the attributes in the value. Returns the first framing error, if there is one.
     pub fn parse(value: &'a [u8]) -> Result<UlpInfo<'a>, DecodeError>
-        // `decode_attribute []`: no attribute type is known, so every value is accepted, and only
-        // the framing can be invalid.
+        // `nested_bytes info.0`: the bytes of the attributes. `decode_attribute []`: no attribute
+        // type is known, so every value is accepted, and only the framing can be invalid.
         ensures kept { IfOk result (λ info. nested_bytes info.0 ≡ value.entry.now) }
         ensures error { IfErr result (HasAttributeError (decode_attribute []) value.entry.now) }
     {
@@ -42,9 +40,11 @@ impl<'a> UlpInfo<'a> {
     /// without one terminating NUL if it has one. Returns `Ok(None)` if there is none. A name that
     /// is not valid UTF-8 is `NotUtf8`.
     pub fn name(&self) -> Result<Option<&'a str>, DecodeError>
-        ensures { map_ok (option_map (λ text. text.now)) result
-            ≡ parse_if_present parse_text
-            (first_value_in INET_ULP_INFO_NAME (nested_bytes self.now.0)) }
+        // `nested_text_in kind bytes`: the bytes of the text in the first attribute of this kind,
+        // `Ok None` if there is none, or the error. `map_ok option_copied result`: the returned
+        // text as a list of bytes, or the error.
+        ensures { map_ok option_copied result
+            ≡ nested_text_in INET_ULP_INFO_NAME (nested_bytes self.now.0) }
     {
         self.0.text_of(INET_ULP_INFO_NAME)
     }
@@ -53,6 +53,8 @@ impl<'a> UlpInfo<'a> {
     /// `INET_ULP_INFO_TLS`, or `Ok(None)` if there is none. Returns the first framing error in its
     /// value, if there is one.
     pub fn tls(&self) -> Result<Option<TlsInfo<'a>>, DecodeError>
+        // `first_value_in kind bytes`: the value of the first attribute of this kind in the bytes,
+        // or `None`. The result has its bytes (`nested_bytes`), or is `None` too.
         ensures kept { IfOk result (λ found. option_map (λ tls. nested_bytes tls.0) found
             ≡ first_value_in INET_ULP_INFO_TLS (nested_bytes self.now.0)) }
         // `value`: the value of the attribute, in which the framing error is.
@@ -70,6 +72,8 @@ impl<'a> UlpInfo<'a> {
     /// the first `INET_ULP_INFO_MPTCP`, or `Ok(None)` if there is none. Returns the first framing
     /// error in its value, if there is one.
     pub fn mptcp(&self) -> Result<Option<SubflowInfo<'a>>, DecodeError>
+        // `first_value_in kind bytes`: the value of the first attribute of this kind in the bytes,
+        // or `None`. The result has its bytes (`nested_bytes`), or is `None` too.
         ensures kept { IfOk result (λ found. option_map (λ subflow. nested_bytes subflow.0) found
             ≡ first_value_in INET_ULP_INFO_MPTCP (nested_bytes self.now.0)) }
         // `value`: the value of the attribute, in which the framing error is.
@@ -125,6 +129,9 @@ impl TlsInfo<'_> {
     /// or `Ok(None)` if there is none. A length of the attribute's value other than the field's
     /// (`row`) is `WrongLength`, with the kind.
     pub fn get(&self, field: TlsField) -> Result<Option<u64>, DecodeError>
+        // `tls_row field`: what `row` returns. `nested_number_in (kind, width) bytes`: the
+        // little-endian number in the first attribute of this kind, whose value has `width` bytes,
+        // `Ok None` if there is none, or the error.
         ensures { result ≡ nested_number_in (tls_row field) (nested_bytes self.now.0) }
     {
         let (kind, width) = field.row();
@@ -133,6 +140,8 @@ impl TlsInfo<'_> {
 
     /// Returns whether files are sent without a copy: whether `TLS_INFO_ZC_RO_TX` is present.
     pub fn sends_without_copy(&self) -> bool
+        // `first_value_in kind bytes`: the value of the first attribute of this kind in the bytes,
+        // or `None`. It may be empty.
         ensures { IsTrue result
             ↔ IsSome (first_value_in TLS_INFO_ZC_RO_TX (nested_bytes self.now.0)) }
     {
@@ -142,6 +151,8 @@ impl TlsInfo<'_> {
     /// Returns whether received records are expected to have no padding: whether
     /// `TLS_INFO_RX_NO_PAD` is present.
     pub fn expects_no_padding(&self) -> bool
+        // `first_value_in kind bytes`: the value of the first attribute of this kind in the bytes,
+        // or `None`. It may be empty.
         ensures { IsTrue result
             ↔ IsSome (first_value_in TLS_INFO_RX_NO_PAD (nested_bytes self.now.0)) }
     {
@@ -211,6 +222,9 @@ impl SubflowInfo<'_> {
     /// or `Ok(None)` if there is none. A length of the attribute's value other than the field's
     /// (`row`) is `WrongLength`, with the kind.
     pub fn get(&self, field: SubflowField) -> Result<Option<u64>, DecodeError>
+        // `subflow_row field`: what `row` returns. `nested_number_in (kind, width) bytes`: the
+        // little-endian number in the first attribute of this kind, whose value has `width` bytes,
+        // `Ok None` if there is none, or the error.
         ensures { result ≡ nested_number_in (subflow_row field) (nested_bytes self.now.0) }
     {
         let (kind, width) = field.row();

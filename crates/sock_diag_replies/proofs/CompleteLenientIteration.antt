@@ -1,5 +1,5 @@
 -- A `LenientNlas` that is iterated to its end yields the items of its bytes.
-use Rattle.std.proofs.Common.{Result, Ok, Err, IsOk, None, ◌≡◌, ◌≢◌, List, [], ◌∷◌, ℕ, inl, inr}
+use Rattle.std.proofs.Common.{Result, Ok, Err, IsOk, ◌≡◌, ◌≢◌, List, [], ◌∷◌, ℕ, inl, inr}
 use Rattle.std.proofs.Common.{sym, subst, refl, ap, ◌∙◌}
 use Rattle.std.specs.Prelude.{map}
 use Rattle.std.specs.Iterator.{Drains}
@@ -14,7 +14,7 @@ use Rattle.attribute_lists.proofs.FirstAttribute.{no_attribute_is_found}
 use Rattle.attribute_lists.proofs.Finding.{no_framing_error_in_attributes, first_attribute_decodes}
 use Rattle.sock_diag_replies.specs.Lenient.{YieldsLenientItem, HasLenientItems, RejectionModel}
 use Rattle.sock_diag_replies.specs.Lenient.{HasLenientItemsBy, lenient_item_by, lenient_item_of}
-use Rattle.sock_diag_replies.specs.Lenient.{lenient_item_model}
+use Rattle.sock_diag_replies.specs.Lenient.{framing_rejection, lenient_item_model}
 use Rattle.sock_diag_replies.specs.declared.lenient.LenientNlas.{LenientNlas}
 use Rattle.sock_diag_replies.specs.declared.lenient.LenientError.{LenientError}
 
@@ -50,7 +50,7 @@ module _ {V : Type 0} (decode : Attribute → Result V DecodeError) where
       (item : Result V RejectionModel)
       (later : Items)
       → bytes ≢ [] → IsFramingError bytes e
-      → item ≡ Err (record { attribute = None; error = e }) → later ≡ []
+      → item ≡ Err (framing_rejection e) → later ≡ []
       → HasLenientItemsBy decode bytes (item ∷ later)
   framing_error_is_last bytes e item later some error same none =
       ([], inr (e, (bytes, refl, some, error), λ z. same z ∷ none z))
@@ -90,17 +90,17 @@ module _ {V : Type 0} (F : AttributeSet) (view_model : V → AttributeValue F) w
       ([], inl (subst (λ (w : LenientNlas V). unread_bytes w.walk ≡ []) (sym h.1.1) h.1.2.0, refl))
   drained_items_are_all walk (g ∷ given) h =
       let rest = h.1.1.0 in
-      let behind : Drains (YieldsLenientItem F view_model) rest given =
+      let later_drain : Drains (YieldsLenientItem F view_model) rest given =
       (h.0, (h.1.0, h.1.1.2, h.1.2)) in
       elim h.1.1.1 [
         | inl front ↦ subst (λ (item : Result (AttributeValue F) RejectionModel).
             HasLenientItems F (unread_bytes walk.walk)
             (item ∷ map (lenient_item_model F view_model) given)) (sym front.2)
             (items_from_first (decode_attribute F) _ _ front.0 _ front.1
-            (drained_items_are_all rest given behind))
+            (drained_items_are_all rest given later_drain))
         | inr stop ↦ framing_error_is_last (decode_attribute F) _ stop.0 _ _ stop.1 stop.2 stop.4
             (ap (map (lenient_item_model F view_model))
-            (no_items_of_empty_bytes rest given behind stop.3))
+            (no_items_of_empty_bytes rest given later_drain stop.3))
       ]
 
   -- In bytes without an error, each item is the value of its attribute.
@@ -115,7 +115,7 @@ module _ {V : Type 0} (F : AttributeSet) (view_model : V → AttributeValue F) w
       rw (none, no_attribute_is_found) refl
   drained_items_are_values walk (g ∷ given) clean h =
       let rest = h.1.1.0 in
-      let behind : Drains (YieldsLenientItem F view_model) rest given =
+      let later_drain : Drains (YieldsLenientItem F view_model) rest given =
       (h.0, (h.1.0, h.1.1.2, h.1.2)) in
       elim h.1.1.1 [
         | inl front ↦
@@ -125,7 +125,7 @@ module _ {V : Type 0} (F : AttributeSet) (view_model : V → AttributeValue F) w
             let first = value_first (decode_attribute F) _ _ front.0 good.0 front.1 good.2 in
             let later = drained_items_are_values rest given
             (rest_has_no_error (decode_attribute F) _ _ front.0 good.0 front.1
-            good.2 clean) behind in
+            good.2 clean) later_drain in
             (λ z. good.1 z ∷ later z) ∙ sym (ap (map Ok) first)
         | inr stop ↦ absurd (no_framing_error_in_attributes
             (decode_attribute F) _ stop.0 clean stop.1 stop.2)

@@ -9,7 +9,8 @@ use Rattle.netlink_core.specs.AttributeSet.{AttributeSet, AttributeValue}
 use Rattle.netlink_core.specs.laws.Prefix.{one_attribute_framing_error, prefix_or_error_apart}
 use Rattle.netlink_core.proofs.Iterating.{StartsWithAttribute-nonempty, attribute_prefix_of_start}
 use Rattle.netlink_core.proofs.Splitting.{one_first_attribute}
-use Rattle.sock_diag_replies.specs.Lenient.{HasLenientItems, RejectionModel, lenient_item_of}
+use Rattle.sock_diag_replies.specs.Lenient.{HasLenientItems, RejectionModel, framing_rejection}
+use Rattle.sock_diag_replies.specs.Lenient.{lenient_item_of}
 
 -- The bytes are these attributes, and then nothing (None) or bytes with a framing error.
 abbrev EndsWith : List ℕ → List Attribute → Option DecodeError → Type 0
@@ -69,7 +70,7 @@ module _ (F : AttributeSet) where
       → List (Result (AttributeValue F) RejectionModel)
   items_of attributes None = map (lenient_item_of F) attributes
   items_of attributes (Some e) =
-      map (lenient_item_of F) attributes ++ Err (record { attribute = None; error = e }) ∷ []
+      map (lenient_item_of F) attributes ++ Err (framing_rejection e) ∷ []
 
   split_of_items : (bytes : List ℕ) (items : List (Result (AttributeValue F) RejectionModel))
       → HasLenientItems F bytes items

@@ -28,9 +28,9 @@ pub owned_error : {T : Type 0} (R : ResponseSpec) (F : AttributeSet)
     → (b : List ℕ) (error : DecodeError) → (response_codec R).rejects b tt error
     → (result : Result T DecodeError) → IsErrAnd result (λ e. e ≡ error)
     → IfErr result (λ e. e ≢ Memory → (owned_codec R F).rejects b tt e)
-owned_error R F faults b error refused result is =
+owned_error R F same_errors b error refused result is =
     let p = err_from_is_err_and result is in
-    rw (p.1, p.2) (λ named. error_with_second_set R F faults b error refused)
+    rw (p.1, p.2) (λ named. error_with_second_set R F same_errors b error refused)
 
 module _ {H : Type 0} {of : Ghosts H} (F : AttributeSet) (view : ReplyView H of)
     (clean : (b : List ℕ) → HasNoAttributeError (decode_attribute of.reply.attribute_set) b
@@ -55,13 +55,13 @@ module _ {H : Type 0} {of : Ghosts H} (F : AttributeSet) (view : ReplyView H of)
       → (header : of.reply.header.Value) (nlas : List (AttributeValue F)) → header ≡ view.head.0
       → OnOk owned (nlas ≡ decoded_in (decode_attribute F) (bytes_after_header view))
       → (owned_codec of.reply F).parses b tt (record { header = header; nlas = nlas })
-  owned_value good test header nlas same told =
-      rw (same, on_no_error owned is_error good test told)
+  owned_value good test header nlas same owned_values =
+      rw (same, on_no_error owned is_error good test owned_values)
       (parsed_with_second_set of.reply F clean _ _
       view.head view.clean kept in_range)
 
   -- if an allocation fails, the bytes have a reply, which needs to allocate
-  pub owned_wanted : is_error ≡ true → is_error ≡ is_err owned
+  pub owned_memory_needed : is_error ≡ true → is_error ≡ is_err owned
       → ((owned_codec of.reply F).needs_no_memory (record {
         header = view.head.0;
         nlas = decoded_in (decode_attribute F) (bytes_after_header view);
@@ -69,8 +69,8 @@ module _ {H : Type 0} {of : Ghosts H} (F : AttributeSet) (view : ReplyView H of)
       → IsOk owned)
       → (v : (owned_codec of.reply F).Value) × (owned_codec of.reply F).parses b tt v
       × ¬ (owned_codec of.reply F).needs_no_memory v
-  owned_wanted bad test spare = (
+  owned_memory_needed bad test succeeds_without_memory = (
     _,
     parsed_with_second_set of.reply F clean _ _ view.head view.clean kept in_range,
-    λ is_spare. error_is_no_value owned is_error bad test (spare is_spare),
+    λ no_memory. error_is_no_value owned is_error bad test (succeeds_without_memory no_memory),
   )

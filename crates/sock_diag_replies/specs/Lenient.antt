@@ -10,7 +10,7 @@ use Rattle.netlink_core.specs.Walk.{buffered_attribute}
 use Rattle.sock_diag_replies.specs.LenientModel.{unread_lenient_bytes}
 use Rattle.sock_diag_replies.specs.declared.lenient.LenientNlas.{LenientNlas}
 use Rattle.sock_diag_replies.specs.declared.lenient.LenientError.{LenientError}
-use Rattle.sock_diag_replies.specs.declared.lenient.LenientError.TheVariants as refused
+use Rattle.sock_diag_replies.specs.declared.lenient.LenientError.TheVariants as lenient_error
 
 -- The model of a `LenientError`: the rejected attribute, or None for a framing error (bytes that do
 -- not start with an attribute); and the error.
@@ -18,22 +18,26 @@ pub record RejectionModel : Type 0 where
   pub attribute : Option Attribute
   pub error : DecodeError
 
+-- `attribute_rejection a e`: the attribute `a` is rejected with the error `e`.
+abbrev pub attribute_rejection : Attribute → DecodeError → RejectionModel
+attribute_rejection a e = record { attribute = Some a; error = e }
+
+-- `framing_rejection e`: bytes do not start with an attribute, with the framing error `e`.
+abbrev pub framing_rejection : DecodeError → RejectionModel
+framing_rejection e = record { attribute = None; error = e }
+
 -- The model of a rejected attribute, or of a framing error.
 abbrev pub rejection_model : LenientError → RejectionModel
-rejection_model (refused.Attribute nla e) = record {
-  attribute = Some (buffered_attribute nla);
-  error = e;
-}
-rejection_model (refused.Framing e) = record { attribute = None; error = e }
+rejection_model (lenient_error.Attribute nla e) = attribute_rejection (buffered_attribute nla) e
+rejection_model (lenient_error.Framing e) = framing_rejection e
 
--- `lenient_item_by decode a`: the item for the attribute `a`, by the function `decode`, which
--- decodes an attribute or rejects it: `Ok` and the value that it decodes to, or `Err` and the
--- attribute with its error. `result_map_both f g r`: `Ok (f v)` if `r` is `Ok v`, and `Err (g e)`
--- if `r` is `Err e`.
+-- `lenient_item_by decode a`: the item for the attribute `a`. It is `Ok` of the value that the
+-- function `decode` decodes `a` to, or `Err` of the attribute and of the error with which `decode`
+-- rejects it. `result_map_both f g r`: `Ok (f v)` if `r` is `Ok v`, and `Err (g e)` if `r` is `Err
+-- e`.
 abbrev pub lenient_item_by : {V : Type 0} → (Attribute → Result V DecodeError) → Attribute
     → Result V RejectionModel
-lenient_item_by decode a = result_map_both (λ value. value) (λ e.
-    record { attribute = Some a; error = e }) (decode a)
+lenient_item_by decode a = result_map_both (λ value. value) (attribute_rejection a) (decode a)
 
 -- `lenient_item_of F a`: the item for the attribute `a`, by the set `F` of known attribute types
 abbrev pub lenient_item_of : (F : AttributeSet) → Attribute
@@ -50,19 +54,19 @@ lenient_item_model F view_model item = result_map_both view_model rejection_mode
 -- `StartsWithLenientItem F left item later`: `item` is the first item of the bytes `left`, and
 -- `later` are the bytes after it. Either `left` starts with an attribute: `item` is the item of
 -- this attribute, and `later` are the bytes after its padding. Or `left` is not empty and starts
--- with a framing error: `item` is this error, without an attribute, and `later` is empty.
+-- with a framing error: `item` is this error, and `later` is empty.
 abbrev pub StartsWithLenientItem : (F : AttributeSet) → List ℕ
     → Result (AttributeValue F) RejectionModel → List ℕ
     → Type 0
 StartsWithLenientItem F left item later =
     ((a : Attribute) × StartsWithAttribute left a later × (item ≡ lenient_item_of F a))
     ⊎ ((e : DecodeError) × (left ≢ []) × IsFramingError left e × (later ≡ [])
-    × (item ≡ Err (record { attribute = None; error = e })))
+    × (item ≡ Err (framing_rejection e)))
 
--- `YieldsLenientItem F view_model old given new`: what a call of `next` does: `old` is the iterator
--- before it, `given` what it returns, and `new` the iterator after it. It returns None if no bytes
--- are left. Otherwise it returns the first item of the bytes left, and leaves the bytes after the
--- item. `view_model` maps a view to the value that it decodes to.
+-- `YieldsLenientItem F view_model old given new`: a call of `next` on the iterator `old` returns
+-- `given` and leaves the iterator `new`. It returns None if no bytes are left. Otherwise it returns
+-- the first item of the bytes left, and leaves the bytes after the item. `F` is the set of known
+-- attribute types, and `view_model` maps a view to the value that it decodes to.
 abbrev pub YieldsLenientItem : {V : Type 0} (F : AttributeSet) → (V → AttributeValue F)
     → LenientNlas V
     → Option (Result V LenientError) → LenientNlas V → Type 0
@@ -73,17 +77,16 @@ YieldsLenientItem F view_model old given new =
 
 -- `HasLenientItemsBy decode bytes items`: `items` are all items of the bytes, in order, by the
 -- function `decode`, which decodes an attribute or rejects it. Either the bytes consist of
--- attributes (`SplitsIntoAttributes`): `items` has one item for each. Or there are attributes, or
--- none, and then bytes with the framing error `e` (`SplitsUntilError`): `items` has one item for
--- each attribute, and last `e` without an attribute.
+-- attributes: they split into attributes, and no bytes are left (`[]`). Then `items` has one item
+-- for each. Or there are attributes, or none, and then bytes with the framing error `e`
+-- (`SplitsUntilError`). Then `items` has one item for each attribute, and last the framing error.
 abbrev pub HasLenientItemsBy : {V : Type 0} → (Attribute → Result V DecodeError) → List ℕ
     → List (Result V RejectionModel)
     → Type 0
 HasLenientItemsBy decode bytes items = (attributes : List Attribute) × (
     (SplitsIntoAttributes bytes attributes [] × (items ≡ map (lenient_item_by decode) attributes))
     ⊎ ((e : DecodeError) × SplitsUntilError IsFramingError bytes attributes e
-    × (items ≡ map (lenient_item_by decode) attributes
-    ++ Err (record { attribute = None; error = e }) ∷ [])))
+    × (items ≡ map (lenient_item_by decode) attributes ++ Err (framing_rejection e) ∷ [])))
 
 -- `HasLenientItems F bytes items`: `items` are all items of the bytes, in order, by the set `F` of
 -- known attribute types

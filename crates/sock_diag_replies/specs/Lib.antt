@@ -1,8 +1,10 @@
 pub mod UnixResponseSpec
 pub mod UnixGetters
 pub mod InetResponseSpec
+pub mod ReplyFormat
 pub mod ResponseModel
 pub mod ViewModel
 pub mod Lenient
 pub mod LenientModel
 pub mod laws
+pub mod private

@@ -5,8 +5,8 @@ use Rattle.netlink_core.specs.Response.{ResponseSpec}
 use Rattle.sock_diag_records.specs.UnixResponseHeader.{unix_response_header}
 use Rattle.sock_diag_attributes.specs.UnixAttributes.{unix_attribute_set}
 
--- the codec of the header, its size in bytes, and the set of the attributes (`UNIX_DIAG_..`) after
--- it
+-- the format of these replies: the codec of the header, its size in bytes, and the set of the
+-- attributes (`UNIX_DIAG_..`) after it
 abbrev pub unix_response_spec : ResponseSpec
 unix_response_spec =
     record {

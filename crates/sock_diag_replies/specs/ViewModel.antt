@@ -17,8 +17,10 @@ view_bytes view = view.bytes.now
 abbrev pub bytes_after_header : {H : Type 0} {of : Ghosts H} → ReplyView H of → List ℕ
 bytes_after_header {of = of} view = drop of.reply.size (view_bytes view)
 
--- the header that the bytes start with, and what each attribute after it decodes to, in order;
--- `view.head.0` is the header by the invariant `head` of `ReplyView`
+-- `view_model view`: the header that the bytes start with, and what each attribute after it decodes
+-- to, in order. `view.head.0` is the header by the invariant `head` of `ReplyView`. `reply_after
+-- format header bytes`: the reply with this header and what the attributes in these bytes decode
+-- to.
 abbrev pub view_model : {H : Type 0} {of : Ghosts H} → ReplyView H of → ReplyValue of.reply
 view_model {of = of} view = reply_after of.reply view.head.0 (bytes_after_header view)
 

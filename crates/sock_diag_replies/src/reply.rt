@@ -9,8 +9,10 @@ ghost use Rattle.netlink_core.specs.Attribute.{HasAttributeError};
 ghost use Rattle.netlink_core.specs.Bytes.{HoldsAtStart};
 ghost use Rattle.netlink_core.specs.declared.error.DecodeError.TheVariants.{Memory};
 ghost use Rattle.netlink_core.specs.AttributeSet.{AttributeValue, decode_attribute};
-ghost use Rattle.netlink_core.specs.AttributeSet.{encode_attribute, IsInRangeIn};
+ghost use Rattle.netlink_core.specs.AttributeSet.{IsInRangeIn};
 ghost use Rattle.netlink_core.specs.private.Response.{header_and_attributes, HasWritableLengths};
+ghost use Rattle.sock_diag_replies.specs.private.SerializedAttributes.{canonical_attributes};
+ghost use Rattle.sock_diag_replies.specs.private.SerializedAttributes.{serialized_attributes};
 
 use attribute_lists::{
     check_nlas_len, emit_values, emit_views, next_view, values_len, values_len_within, views_len,
@@ -21,7 +23,7 @@ use netlink_core::{DecodeError, Emitable, FamilyNla, FamilyView, NlasIterator};
 /// path.
 #[cold]
 #[inline(never)]
-pub(crate) fn without_memory<T: Drop>(_begun: T) -> DecodeError
+pub(crate) fn memory_error_after_dropping<T: Drop>(_partial_list: T) -> DecodeError
     ensures { result ≡ Memory }
 {
     DecodeError::Memory
@@ -42,15 +44,17 @@ pub fn same_views<'a, V: FamilyView<'a> + Drop>(left: &'a [u8], right: &'a [u8])
         → result ≡ pointwise test (decoded_in (decode_attribute V.attribute_set) left.entry.now)
         (decoded_in (decode_attribute V.attribute_set) right.entry.now) }
 {
-    let mut walk = NlasIterator::new(left);
-    let mut others = NlasIterator::new(right);
-    while let Some(view) = next_view::<V>(&mut walk) {
-        match next_view::<V>(&mut others) {
+    let mut left_nlas = NlasIterator::new(left);
+    let mut right_nlas = NlasIterator::new(right);
+    while let Some(view) = next_view::<V>(&mut left_nlas) {
+        match next_view::<V>(&mut right_nlas) {
             Some(other) if view == other => {}
+            // Two attributes differ, or `right` has fewer.
             _ => return false,
         }
     }
-    next_view::<V>(&mut others).is_none()
+    // All attributes of `left` were compared. `right` must not have more.
+    next_view::<V>(&mut right_nlas).is_none()
 }
 
 /// Returns the length of the serialized header and attributes. Returns `None` if the value of an
@@ -58,27 +62,32 @@ pub fn same_views<'a, V: FamilyView<'a> + Drop>(left: &'a [u8], right: &'a [u8])
 /// header must be writable.
 pub(crate) fn reply_len<H: Emitable, T: FamilyNla>(header: &H, nlas: &[T]) -> Option<usize>
     requires { H.writable header.now }
-    // `attributes`: what the attributes serialize as. `HasWritableLengths header attributes`: each
-    // value has at most 65,531 bytes, and the whole has at most 4,294,967,295.
-    // `header_and_attributes header attributes`: the bytes of the header, and then of each
-    // attribute with its padding. `SomeIff result p n`: `Some n` if `p` holds, else `None`.
-    ensures { let attributes = map (encode_attribute T.attribute_set) (map T.model nlas.now) in
+    // `serialized_attributes set values`: what the values of the attribute set serialize as.
+    // `HasWritableLengths header attributes`: each value has at most 65,531 bytes, and the whole
+    // has at most 4,294,967,295. `header_and_attributes header attributes`: the bytes of the
+    // header, and then of each attribute with its padding. `SomeIff result p n`: `Some n` if `p`
+    // holds, else `None`.
+    ensures { let attributes = serialized_attributes T.attribute_set (map T.model nlas.now) in
         SomeIff result (HasWritableLengths (H.bytes header.now) attributes)
         (length (header_and_attributes (H.bytes header.now) attributes)) }
 {
-    let len = header.buffer_len();
-    let room = (u32::MAX as usize).checked_sub(len)?;
-    Some(len + values_len_within(nlas, room)?)
+    let header_len = header.buffer_len();
+    // What the header leaves of 4,294,967,295 bytes.
+    let room = (u32::MAX as usize).checked_sub(header_len)?;
+    Some(header_len + values_len_within(nlas, room)?)
 }
 
 /// Returns the length of the serialized header and attributes, which must be writable.
 pub(crate) fn fitting_reply_len<H: Emitable, T: FamilyNla>(header: &H, nlas: &[T]) -> usize
     requires header { H.writable header.now }
+    // `serialized_attributes set values`: what the values of the attribute set serialize as.
+    // `HasWritableLengths header attributes`: each value has at most 65,531 bytes, and the whole
+    // has at most 4,294,967,295. `header_and_attributes header attributes`: the bytes of the
+    // header, and then of each attribute with its padding.
     requires fits { HasWritableLengths (H.bytes header.now)
-        (map (encode_attribute T.attribute_set) (map T.model nlas.now)) }
-    ensures { result ≡ length
-        (header_and_attributes (H.bytes header.now)
-        (map (encode_attribute T.attribute_set) (map T.model nlas.now))) }
+        (serialized_attributes T.attribute_set (map T.model nlas.now)) }
+    ensures { result ≡ length (header_and_attributes (H.bytes header.now)
+        (serialized_attributes T.attribute_set (map T.model nlas.now))) }
 {
     header.buffer_len() + values_len(nlas)
 }
@@ -87,25 +96,33 @@ pub(crate) fn fitting_reply_len<H: Emitable, T: FamilyNla>(header: &H, nlas: &[T
 /// unchanged. Both must be writable, and the buffer must have at least their length.
 pub(crate) fn emit_reply<H: Emitable, T: FamilyNla>(header: &H, nlas: &[T], buffer: &mut [u8])
     requires header { H.writable header.now }
+    // `serialized_attributes set values`: what the values of the attribute set serialize as.
+    // `HasWritableLengths header attributes`: each value has at most 65,531 bytes, and the whole
+    // has at most 4,294,967,295. `header_and_attributes header attributes`: the bytes of the
+    // header, and then of each attribute with its padding.
     requires fits { HasWritableLengths (H.bytes header.now)
-        (map (encode_attribute T.attribute_set) (map T.model nlas.now)) }
+        (serialized_attributes T.attribute_set (map T.model nlas.now)) }
     requires room { length (header_and_attributes (H.bytes header.now)
-        (map (encode_attribute T.attribute_set) (map T.model nlas.now))) ≤ length buffer.old }
+        (serialized_attributes T.attribute_set (map T.model nlas.now))) ≤ length buffer.old }
+    // `HoldsAtStart serialized old new`: the buffer `new` is `serialized` and then the bytes of
+    // `old` from this offset on.
     ensures written { HoldsAtStart (header_and_attributes (H.bytes header.now)
-        (map (encode_attribute T.attribute_set)
-        (map T.model nlas.now))) buffer.old buffer.new }
+        (serialized_attributes T.attribute_set (map T.model nlas.now))) buffer.old buffer.new }
+    // Each number of the header and of the attributes fits its field, which follows from their Rust
+    // types. This is stated because `Emitable::emit` states it of a reply.
     ensures header_in_range { H.in_range header.now }
     ensures attributes_in_range { AllByRecursion (IsInRangeIn T.attribute_set)
         (map T.model nlas.now) }
 {
-    let (front, rest) = buffer.split_at_mut(header.buffer_len());
-    header.emit(front);
-    emit_values(nlas, rest);
+    let (header_buffer, attribute_buffer) = buffer.split_at_mut(header.buffer_len());
+    header.emit(header_buffer);
+    emit_values(nlas, attribute_buffer);
 }
 
 /// Checks each attribute after the header, or returns the first error. Returns the length that the
 /// header and the attributes have in canonical form, or `None` if the value of an attribute then
-/// has more than 65,531 bytes, or if the whole has more than 4,294,967,295 bytes.
+/// has more than 65,531 bytes, or if the whole has more than 4,294,967,295 bytes. The header must
+/// be writable.
 #[inline(always)]
 pub(crate) fn check_reply_len<'a, H: Emitable, V: FamilyView<'a> + Drop>(
     header: &H,
@@ -114,17 +131,21 @@ pub(crate) fn check_reply_len<'a, H: Emitable, V: FamilyView<'a> + Drop>(
     requires { H.writable header.now }
     ensures clean { OnOk result (HasNoAttributeError
         (decode_attribute V.attribute_set) bytes.entry.now) }
-    // `attributes`: what the attributes in the bytes serialize as in canonical form.
-    ensures len { let attributes = map (encode_attribute V.attribute_set)
-        (decoded_in (decode_attribute V.attribute_set) bytes.entry.now) in
+    // `canonical_attributes set bytes`: the attributes in the bytes, each decoded by the attribute
+    // set and serialized again. `HasWritableLengths header attributes`: each value has at most
+    // 65,531 bytes, and the whole has at most 4,294,967,295. `header_and_attributes header
+    // attributes`: the bytes of the header, and then of each attribute with its padding.
+    ensures len { let attributes = canonical_attributes V.attribute_set bytes.entry.now in
         IfOk result (λ len. SomeIff len (HasWritableLengths (H.bytes header.now) attributes)
         (length (header_and_attributes (H.bytes header.now) attributes))) }
     ensures error { IfErr result (HasAttributeError
         (decode_attribute V.attribute_set) bytes.entry.now) }
 {
-    let len = header.buffer_len();
-    match check_nlas_len::<V>(bytes, (u32::MAX as usize).checked_sub(len)) {
-        Ok((_, Some(attributes))) => Ok(Some(len + attributes)),
+    let header_len = header.buffer_len();
+    // The limit is what the header leaves of 4,294,967,295 bytes for the attributes. The first part
+    // of the pair, the number of attributes, is not needed.
+    match check_nlas_len::<V>(bytes, (u32::MAX as usize).checked_sub(header_len)) {
+        Ok((_, Some(attribute_len))) => Ok(Some(header_len + attribute_len)),
         Ok((_, None)) => Ok(None),
         Err(error) => Err(error),
     }
@@ -139,20 +160,21 @@ pub(crate) fn reply_view_len<'a, H: Emitable, V: FamilyView<'a> + Drop>(
 ) -> Option<usize>
     requires header { H.writable header.now }
     requires clean { HasNoAttributeError (decode_attribute V.attribute_set) bytes.now }
-    ensures fits { IsSome result
-        ↔ HasWritableLengths (H.bytes header.now)
-        (map (encode_attribute V.attribute_set)
-        (decoded_in (decode_attribute V.attribute_set) bytes.entry.now)) }
-    ensures len { IfSome result (λ len. len
-        ≡ length (header_and_attributes (H.bytes header.now)
-        (map (encode_attribute V.attribute_set)
-        (decoded_in (decode_attribute V.attribute_set) bytes.entry.now)))) }
+    // `canonical_attributes set bytes`: the attributes in the bytes, each decoded by the attribute
+    // set and serialized again. `HasWritableLengths header attributes`: each value has at most
+    // 65,531 bytes, and the whole has at most 4,294,967,295. `header_and_attributes header
+    // attributes`: the bytes of the header, and then of each attribute with its padding.
+    ensures fits { IsSome result ↔ HasWritableLengths (H.bytes header.now)
+        (canonical_attributes V.attribute_set bytes.entry.now) }
+    ensures len { IfSome result (λ len. len ≡ length (header_and_attributes (H.bytes header.now)
+        (canonical_attributes V.attribute_set bytes.entry.now))) }
 {
-    let len = header.buffer_len();
-    if len > u32::MAX as usize {
+    let header_len = header.buffer_len();
+    // `views_len` requires that the header by itself is not too long.
+    if header_len > u32::MAX as usize {
         return None;
     }
-    views_len::<V>(len, bytes)
+    views_len::<V>(header_len, bytes)
 }
 
 /// Writes the header and the attributes in `bytes`, in canonical form, at the start of `buffer`.
@@ -165,18 +187,20 @@ pub(crate) fn emit_reply_view<'a, H: Emitable, V: FamilyView<'a> + Drop>(
 )
     requires header { H.writable header.now }
     requires clean { HasNoAttributeError (decode_attribute V.attribute_set) bytes.now }
+    // `canonical_attributes set bytes`: the attributes in the bytes, each decoded by the attribute
+    // set and serialized again. `HasWritableLengths header attributes`: each value has at most
+    // 65,531 bytes, and the whole has at most 4,294,967,295.
     requires fits { HasWritableLengths (H.bytes header.now)
-        (map (encode_attribute V.attribute_set)
-        (decoded_in (decode_attribute V.attribute_set) bytes.now)) }
+        (canonical_attributes V.attribute_set bytes.now) }
     requires room { length (header_and_attributes (H.bytes header.now)
-        (map (encode_attribute V.attribute_set)
-        (decoded_in (decode_attribute V.attribute_set) bytes.now)))
-        ≤ length buffer.old }
+        (canonical_attributes V.attribute_set bytes.now)) ≤ length buffer.old }
+    // `HoldsAtStart serialized old new`: the buffer `new` is `serialized` and then the bytes of
+    // `old` from this offset on. `header_and_attributes header attributes`: the bytes of the
+    // header, and then of each attribute with its padding.
     ensures { HoldsAtStart (header_and_attributes (H.bytes header.now)
-        (map (encode_attribute V.attribute_set) (decoded_in
-        (decode_attribute V.attribute_set) bytes.entry.now))) buffer.old buffer.new }
+        (canonical_attributes V.attribute_set bytes.entry.now)) buffer.old buffer.new }
 {
-    let (front, rest) = buffer.split_at_mut(header.buffer_len());
-    header.emit(front);
-    emit_views::<V>(bytes, rest);
+    let (header_buffer, attribute_buffer) = buffer.split_at_mut(header.buffer_len());
+    header.emit(header_buffer);
+    emit_views::<V>(bytes, attribute_buffer);
 }

@@ -10,8 +10,9 @@ ghost use Rattle.netlink_core.specs.AttributeSet.{decode_attribute, encode_attri
 ghost use Rattle.netlink_core.specs.AttributeSet.{NeedsNoMemoryIn};
 ghost use Rattle.netlink_core.specs.Response.{response_bytes, response_codec};
 ghost use Rattle.attribute_lists.specs.AttributesIn.{HasNoAttributeError, reply_after, decoded_in};
+ghost use Rattle.sock_diag_replies.specs.ReplyFormat.{with_attribute_set};
 
-use crate::reply::{emit_reply, fitting_reply_len, reply_len, without_memory};
+use crate::reply::{emit_reply, fitting_reply_len, memory_error_after_dropping, reply_len};
 use crate::view::{ReplyHeader, ReplyView};
 use attribute_lists::{copy_nlas, own_nlas};
 use netlink_core::{
@@ -38,11 +39,12 @@ pub trait ReplyOwned: ReplyHeader + Exact + Emitable {
     /// The name of the owned reply, as `Debug` prints it.
     const REPLY: &'static str;
 
-    // `==` is true if and only if the models of the headers are equal. A header serializes to the
-    // bytes of its model, and is always writable. The model of a header in range is in range.
+    // `==` is true if and only if the models of the headers are equal.
     ghost eq_is_model: { (v w : Self) → IsTrue (Self.PartialEq.eq v w)
         ↔ (Self.ReplyHeader.header_model v ≡ Self.ReplyHeader.header_model w) };
 
+    // A header serializes to the bytes of its model, is always writable, and has a model in range
+    // if it is in range.
     ghost bytes_by_codec: { (header : Self) → Self.Emitable.bytes header
         ≡ Self.ReplyHeader.reply.header.bytes (Self.ReplyHeader.header_model header) };
 
@@ -51,24 +53,37 @@ pub trait ReplyOwned: ReplyHeader + Exact + Emitable {
     ghost in_range_by_codec: { (header : Self) → Self.Emitable.in_range header
         → Self.ReplyHeader.reply.header.is_in_range (Self.ReplyHeader.header_model header) };
 
-    // How the attribute set of the owned attributes relates to the reply's attribute set: bytes
-    // with an error have the same error, bytes without an error have none, the number of values is
-    // the same, and the values serialize to the same attributes. The codec over the owned
-    // attributes satisfies the codec laws.
-    ghost same: { let set = Self.Nla.FamilyNla.attribute_set in
+    // The next four members relate the attribute set of the borrowed attributes (`view_set`) to
+    // that of the owned attributes (`set`). An error of bytes by `view_set` is their error by
+    // `set`.
+    ghost same_errors: { let set = Self.Nla.FamilyNla.attribute_set in
         let view_set = Self.ReplyHeader.reply.attribute_set in
-        ((b : List ℕ) (e : DecodeError)
-        → HasAttributeError (decode_attribute view_set) b e
-        → HasAttributeError (decode_attribute set) b e)
-        × ((b : List ℕ) → HasNoAttributeError (decode_attribute view_set) b
-        → HasNoAttributeError (decode_attribute set) b)
-        × ((b : List ℕ) → length (decoded_in (decode_attribute view_set) b)
-        ≡ length (decoded_in (decode_attribute set) b))
-        × ((b : List ℕ) → map (encode_attribute view_set) (decoded_in (decode_attribute view_set) b)
-        ≡ map (encode_attribute set) (decoded_in (decode_attribute set) b)) };
+        (bytes : List ℕ) (error : DecodeError)
+        → HasAttributeError (decode_attribute view_set) bytes error
+        → HasAttributeError (decode_attribute set) bytes error };
 
+    // Bytes that have no error by `view_set` have none by `set`.
+    ghost both_accept: { let set = Self.Nla.FamilyNla.attribute_set in
+        let view_set = Self.ReplyHeader.reply.attribute_set in
+        (bytes : List ℕ) → HasNoAttributeError (decode_attribute view_set) bytes
+        → HasNoAttributeError (decode_attribute set) bytes };
+
+    // Both find the same number of values in any bytes.
+    ghost same_count: { let set = Self.Nla.FamilyNla.attribute_set in
+        let view_set = Self.ReplyHeader.reply.attribute_set in
+        (bytes : List ℕ) → length (decoded_in (decode_attribute view_set) bytes)
+        ≡ length (decoded_in (decode_attribute set) bytes) };
+
+    // The values that both find in any bytes serialize to the same attributes.
+    ghost same_attributes: { let set = Self.Nla.FamilyNla.attribute_set in
+        let view_set = Self.ReplyHeader.reply.attribute_set in
+        (bytes : List ℕ)
+        → map (encode_attribute view_set) (decoded_in (decode_attribute view_set) bytes)
+        ≡ map (encode_attribute set) (decoded_in (decode_attribute set) bytes) };
+
+    // The codec over the owned attributes satisfies the codec laws.
     ghost keeps: { KeepsCodecLaws (response_codec
-        (record (Self.ReplyHeader.reply) { attribute_set = Self.Nla.FamilyNla.attribute_set })) };
+        (with_attribute_set Self.ReplyHeader.reply Self.Nla.FamilyNla.attribute_set)) };
 }
 
 impl<H: ReplyOwned + Debug, N: Debug> Debug for Reply<H, N> {
@@ -90,16 +105,15 @@ impl<H: ReplyOwned> Reply<H, H::Nla> {
         // and the model `of` of each of its attributes, in order.
         ensures equal { IfOk result (λ copy.
             response_model H.header_model H.Nla.FamilyNla.model copy
-            ≡ response_model H.header_model H.Nla.FamilyNla.model
-            self.now) }
+            ≡ response_model H.header_model H.Nla.FamilyNla.model self.now) }
         // `needs_no_memory`: the reply needs no memory, that is, it has at most eight attributes,
-        // and none of them needs memory. `response_codec reply`: the codec of the replies of this
-        // format. `record (H.reply) { .. }`: the format of the replies, with the attribute set of
-        // the owned attributes.
-        ensures needs_no_memory { (response_codec
-            (record (H.reply) { attribute_set = H.Nla.FamilyNla.attribute_set })).needs_no_memory
-            (response_model H.header_model H.Nla.FamilyNla.model self.now)
-            → IsOk result }
+        // and none of them needs memory. `response_codec format`: the codec of the replies of this
+        // format. `with_attribute_set H.reply set`: the format of the replies, with the attribute
+        // set of the owned attributes.
+        ensures needs_no_memory { let set = H.Nla.FamilyNla.attribute_set in
+            let format = with_attribute_set H.reply set in
+            (response_codec format).needs_no_memory
+            (response_model H.header_model H.Nla.FamilyNla.model self.now) → IsOk result }
     {
         let nlas = copy_nlas(alloc, self.nlas.as_slice())?;
         Ok(Reply {
@@ -120,14 +134,15 @@ impl<H, N> Readable for Reply<H, N> {
 macro_rules! read_reply {
     ($alloc:expr, $bytes:expr) => {{
         let view = ReplyView::<H>::parse($bytes)?;
-        // An empty list that is not passed by reference is moved once less. For a family with a
-        // large kind this branch would move the lists that have attributes once more.
+        // The branches differ only in speed. A list that is not passed by reference is moved once
+        // less. So an empty list has a branch of its own. It has none in a family with a large
+        // kind, since there this branch would move the lists that have attributes once more.
         let nlas = match H::Nla::LARGE_KIND {
             None if view.is_empty() => SmallVec::new($alloc),
             _ => {
                 let mut nlas = SmallVec::new($alloc);
                 if view.own_into($alloc, &mut nlas).is_err() {
-                    return Err(without_memory(nlas));
+                    return Err(memory_error_after_dropping(nlas));
                 }
                 nlas
             }
@@ -156,6 +171,7 @@ impl<H: ReplyOwned> ReplyView<'_, H> {
     // Returns whether there is no attribute.
     #[inline(always)]
     fn is_empty(&self) -> bool
+        // Only this direction is stated, since callers need no other.
         ensures { IsTrue result → decoded_in (decode_attribute H.Nla.FamilyNla.attribute_set)
             (bytes_after_header self.now) ≡ [] }
     {
@@ -171,6 +187,7 @@ impl<H: ReplyOwned> ReplyView<'_, H> {
         ensures equal { OnOk result (map H.Nla.FamilyNla.model nlas.new.items
             ≡ decoded_in (decode_attribute H.Nla.FamilyNla.attribute_set)
             (bytes_after_header self.now)) }
+        // `NeedsNoMemoryIn set v`: the value `v` needs no memory.
         ensures needs_no_memory { let set = H.Nla.FamilyNla.attribute_set in
             let values = decoded_in (decode_attribute set) (bytes_after_header self.now) in
             nlas.old.capacity ≡ 8
@@ -190,20 +207,18 @@ impl<H: ReplyOwned> ReplyView<'_, H> {
         // `reply_after reply header bytes`: the reply with this header and what the attributes in
         // these bytes decode to. Here they are the header of the view,
         // `(view_model self.now).header`, and its bytes after the header,
-        // `bytes_after_header self.now`. `record (H.reply) { .. }`: the format of the replies, with
-        // the attribute set of the owned attributes.
-        ensures equal { IfOk result (λ reply.
-            response_model H.header_model H.Nla.FamilyNla.model reply
-            ≡ reply_after (record (H.reply) { attribute_set = H.Nla.FamilyNla.attribute_set })
-            (view_model self.now).header
-            (bytes_after_header self.now)) }
+        // `bytes_after_header self.now`. `with_attribute_set H.reply set`: the format of the
+        // replies, with the attribute set of the owned attributes.
+        ensures equal { let format = with_attribute_set H.reply H.Nla.FamilyNla.attribute_set in
+            IfOk result (λ reply. response_model H.header_model H.Nla.FamilyNla.model reply
+            ≡ reply_after format (view_model self.now).header (bytes_after_header self.now)) }
         // `needs_no_memory`: the reply needs no memory, that is, it has at most eight attributes,
         // and none of them needs memory.
-        ensures needs_no_memory { (response_codec
-            (record (H.reply) { attribute_set = H.Nla.FamilyNla.attribute_set })).needs_no_memory
-            (reply_after (record (H.reply) { attribute_set = H.Nla.FamilyNla.attribute_set })
-            (view_model self.now).header
-            (bytes_after_header self.now)) → IsOk result }
+        ensures needs_no_memory { let set = H.Nla.FamilyNla.attribute_set in
+            let format = with_attribute_set H.reply set in
+            (response_codec format).needs_no_memory
+            (reply_after format (view_model self.now).header (bytes_after_header self.now))
+            → IsOk result }
     {
         let mut nlas = SmallVec::new(alloc);
         self.own_into(alloc, &mut nlas)?;
@@ -218,12 +233,13 @@ impl<H: ReplyOwned> ReplyView<'_, H> {
     /// not moved there.
     #[inline(always)]
     pub fn to_boxed(&self, alloc: Global) -> Result<Box<Reply<H, H::Nla>>, AllocError>
-        // As for `to_owned`. `reply.value`: the reply in the box.
-        ensures { IfOk result (λ reply. response_model H.header_model H.Nla.FamilyNla.model
-            reply.value
-            ≡ reply_after (record (H.reply) { attribute_set = H.Nla.FamilyNla.attribute_set })
-            (view_model self.now).header
-            (bytes_after_header self.now)) }
+        // `format`: the format of the replies, with the attribute set of the owned attributes.
+        // `reply_after format header bytes`: the reply with this header and what the attributes in
+        // these bytes decode to. Here they are the header of the view and its bytes after the
+        // header. `reply.value`: the reply in the box.
+        ensures { let format = with_attribute_set H.reply H.Nla.FamilyNla.attribute_set in
+            IfOk result (λ reply. response_model H.header_model H.Nla.FamilyNla.model reply.value
+            ≡ reply_after format (view_model self.now).header (bytes_after_header self.now)) }
     {
         let empty = Reply {
             header: self.header(),
@@ -241,15 +257,15 @@ impl<H: ReplyOwned> Emitable for Reply<H, H::Nla> {
     // `response_bytes reply v`: the bytes of the reply `v`, its header and its attributes with
     // their padding. `is_writable v`: it is writable. `is_in_range v`: each number fits its field.
     ghost bytes = { λ v. response_bytes
-        (record (H.reply) { attribute_set = H.Nla.FamilyNla.attribute_set })
+        (with_attribute_set H.reply H.Nla.FamilyNla.attribute_set)
         (response_model H.header_model H.Nla.FamilyNla.model v) };
 
     ghost writable = { λ v. (response_codec
-        (record (H.reply) { attribute_set = H.Nla.FamilyNla.attribute_set })).is_writable
+        (with_attribute_set H.reply H.Nla.FamilyNla.attribute_set)).is_writable
         (response_model H.header_model H.Nla.FamilyNla.model v) };
 
     ghost in_range = { λ v. (response_codec
-        (record (H.reply) { attribute_set = H.Nla.FamilyNla.attribute_set })).is_in_range
+        (with_attribute_set H.reply H.Nla.FamilyNla.attribute_set)).is_in_range
         (response_model H.header_model H.Nla.FamilyNla.model v) };
 
     fn is_writable(&self) -> bool {
@@ -276,12 +292,15 @@ impl<H: ReplyOwned> HasCodec for Reply<H, H::Nla> {
     type Param = ();
 
     ghost codec = { response_codec
-        (record (H.reply) { attribute_set = H.Nla.FamilyNla.attribute_set }) };
+        (with_attribute_set H.reply H.Nla.FamilyNla.attribute_set) };
 
     ghost model = { response_model H.header_model H.Nla.FamilyNla.model };
 
+    // A reply is not a message.
     ghost serialized_type = { λ _. 0 };
 
+    // `==` of two replies is true if and only if their models are equal, since this holds of their
+    // headers and of their attributes.
     ghost eq_is_model = { responses_equal H.header_model H.Nla.FamilyNla.model
         H.ReplyOwned.eq_is_model
         H.Nla.FamilyNla.eq_is_model };
@@ -310,6 +329,8 @@ impl<H: ReplyOwned> Wire for Reply<H, H::Nla> {
         Ok(write_reply(alloc, &header, attributes, len)?)
     }
 
+    // `Emitable` defines `bytes`, `writable` and `in_range` by the codec, so the three hold by
+    // definition.
     ghost bytes_by_codec = { λ _. refl };
 
     ghost writable_by_codec = { λ _. (λ h. h, λ h. h) };
@@ -317,7 +338,8 @@ impl<H: ReplyOwned> Wire for Reply<H, H::Nla> {
     ghost in_range_by_codec = { λ _ h. h };
 }
 
-// Returns the canonical form of the header and the attributes after it, which has this length.
+// Returns the canonical form of the header and the attributes after it, in `bytes`. `len` must be
+// its length. The attributes must have no error, and the reply must be writable.
 fn write_reply<H: ReplyHeader>(
     alloc: Global,
     header: &H,

@@ -6,7 +6,7 @@ ghost use Rattle.std.specs.Cmp.{partial_equiv_from_equiv};
 ghost use Rattle.std.specs.Iterator.{Drains, UpTo, YieldsFirstBy, YieldsThen, at_most};
 ghost use Rattle.std.specs.Iterator.SizeHint.{IsWithinCount};
 ghost use Rattle.netlink_core.specs.Bytes.{HoldsAtStart};
-ghost use Rattle.netlink_core.specs.declared.error.DecodeError.{DecodeError as Fault};
+ghost use Rattle.netlink_core.specs.declared.error.DecodeError.{DecodeError};
 ghost use Rattle.netlink_core.specs.declared.error.DecodeError.TheVariants.{Memory};
 ghost use Rattle.netlink_core.specs.Attribute.{HasAttributeError};
 ghost use Rattle.netlink_core.specs.Codec.{KeepsCodecLaws};
@@ -16,6 +16,7 @@ ghost use Rattle.netlink_core.specs.Response.{response_codec};
 ghost use Rattle.netlink_core.specs.Walk.{unread_bytes};
 ghost use Rattle.netlink_core.specs.laws.Equality.{equivalence};
 ghost use Rattle.attribute_lists.specs.AttributesIn.{HasNoAttributeError, reply_after, decoded_in};
+ghost use Rattle.sock_diag_replies.specs.ReplyFormat.{with_attribute_set};
 ghost use Rattle.sock_diag_replies.specs.laws.OneValue.{result_has_one_value};
 
 use attribute_lists::{CheckedNlas, next_view};
@@ -85,6 +86,8 @@ pub trait ReplyHeader: Drop + Sized {
     fn is_same(&self, left: &[u8], other: &Self, right: &[u8]) -> bool
         requires left { HasNoAttributeError (decode_attribute reply.attribute_set) left.now }
         requires right { HasNoAttributeError (decode_attribute reply.attribute_set) right.now }
+        // `test v w`: whether the replies `v` and `w` are equal. `reply_after reply header bytes`:
+        // the reply with this header and the attributes in these bytes.
         ensures { result ≡ test
             (reply_after reply (header_model self.now) left.now)
             (reply_after reply (header_model other.now) right.now) };
@@ -93,6 +96,8 @@ pub trait ReplyHeader: Drop + Sized {
     /// Returns `None` if the reply is not writable. `bytes` must not contain a decode error.
     fn len_with(&self, bytes: &[u8]) -> Option<usize>
         requires { HasNoAttributeError (decode_attribute reply.attribute_set) bytes.now }
+        // `v`: the reply with this header and the attributes in `bytes`. The result is `Some` of
+        // the length of its bytes if it is writable, else `None`.
         ensures { let v = reply_after reply (header_model self.now) bytes.now in
             SomeIff result ((response_codec reply).is_writable v)
             (length (response_bytes reply v)) };
@@ -102,6 +107,8 @@ pub trait ReplyHeader: Drop + Sized {
     /// reply must be writable, and the buffer must have at least its length.
     fn emit_with(&self, bytes: &[u8], buffer: &mut [u8])
         requires clean { HasNoAttributeError (decode_attribute reply.attribute_set) bytes.now }
+        // `reply_after reply header bytes`: the reply with this header and the attributes in these
+        // bytes. `response_bytes reply v`: what the reply `v` serializes to.
         requires fits { (response_codec reply).is_writable
             (reply_after reply (header_model self.now) bytes.now) }
         requires room { length (response_bytes reply
@@ -112,13 +119,14 @@ pub trait ReplyHeader: Drop + Sized {
         ensures { HoldsAtStart (response_bytes reply (reply_after reply
             (header_model self.now) bytes.now)) buffer.old buffer.new };
 
-    // Bytes with a valid header have at least `size` bytes. The codec of the replies satisfies the
-    // codec laws. The comparison is true if and only if the replies are equal.
-    ghost enough: { (b : List ℕ) (h : reply.header.Value) → reply.header.parses tt b ≡ Ok h
-        → reply.size ≤ length b };
+    // Bytes with a valid header have at least `size` bytes.
+    ghost complete_header: { (bytes : List ℕ) (header : reply.header.Value)
+        → reply.header.parses tt bytes ≡ Ok header → reply.size ≤ length bytes };
 
+    // The codec of the replies satisfies the codec laws.
     ghost keeps: { KeepsCodecLaws (response_codec reply) };
 
+    // The comparison is true if and only if the replies are equal.
     ghost compared: { (v w : ReplyValue reply) → IsTrue (test v w) ↔ (v ≡ w) };
 }
 
@@ -127,14 +135,17 @@ pub trait ReplyViews<'a>: ReplyHeader {
     /// A borrowed attribute.
     type View: FamilyView<'a> + Drop;
 
-    // The attribute set of the views accepts the same bytes as the reply's attribute set, and has
-    // the same number of values in them.
-    ghost same: { let view_set = Self.View.FamilyView.attribute_set in
+    // The attribute set of the views accepts the same bytes as the reply's attribute set.
+    ghost accepts_same: { let view_set = Self.View.FamilyView.attribute_set in
         let set = Self.ReplyHeader.reply.attribute_set in
-        ((b : List ℕ) → HasNoAttributeError (decode_attribute view_set) b
-        ↔ HasNoAttributeError (decode_attribute set) b)
-        × ((b : List ℕ) → length (decoded_in (decode_attribute view_set) b)
-        ≡ length (decoded_in (decode_attribute set) b)) };
+        (bytes : List ℕ) → HasNoAttributeError (decode_attribute view_set) bytes
+        ↔ HasNoAttributeError (decode_attribute set) bytes };
+
+    // The two sets have the same number of values in any bytes.
+    ghost counts_same: { let view_set = Self.View.FamilyView.attribute_set in
+        let set = Self.ReplyHeader.reply.attribute_set in
+        (bytes : List ℕ) → length (decoded_in (decode_attribute view_set) bytes)
+        ≡ length (decoded_in (decode_attribute set) bytes) };
 }
 
 /// A borrowed reply: bytes that have been checked completely.
@@ -145,7 +156,8 @@ pub struct ReplyView<'a, H: ReplyHeader> {
     header: PhantomData<H>,
     // The bytes are at least as long as a header.
     ghost long: { H.reply.size ≤ length bytes.now },
-    // The model of the header at the start of the bytes, and that they parse as it.
+    // The model of the header at the start of the bytes, and that they parse as it. `by`: there is
+    // at most one such model.
     ghost head: { (h : H.reply.header.Value)
         × (H.reply.header.parses tt bytes.now ≡ Ok h) } by { result_has_one_value
             (H.reply.header.parses tt bytes.now) },
@@ -160,6 +172,7 @@ pub struct ReplyView<'a, H: ReplyHeader> {
 impl<H: ReplyHeader> Copy for ReplyView<'_, H> {}
 
 impl<H: ReplyHeader> Clone for ReplyView<'_, H> {
+    // A clone is the same view. Cloning never fails.
     ghost is_clone = { λ view copy. copy ≡ view };
 
     ghost is_infallible = { λ _. ⊤ };
@@ -195,6 +208,7 @@ impl<'a, H: ReplyHeader> ReplyView<'a, H> {
         ensures error { IfErr result ((response_codec H.reply).rejects bytes.entry.now tt) }
         ensures not_memory { IfErr result (λ error. error ≢ Memory) }
     {
+        // The header is only checked here. `header` parses it again.
         let _header = H::read_header(bytes)?;
         let count = H::check(&bytes[H::length()..])?;
         Ok(ReplyView {
@@ -217,6 +231,7 @@ impl<'a, H: ReplyHeader> ReplyView<'a, H> {
     pub fn header(&self) -> H
         ensures { H.header_model result ≡ (view_model self.now).header }
     {
+        // `parse` has accepted these bytes, so the header is valid.
         let Ok(header) = H::read_header(self.bytes) else {
             unreachable!();
         };
@@ -225,7 +240,7 @@ impl<'a, H: ReplyHeader> ReplyView<'a, H> {
 
     // Returns the bytes after the header.
     pub(crate) fn attribute_bytes(&self) -> &'a [u8]
-        ensures part { result.now ≡ bytes_after_header self.now }
+        ensures after_header { result.now ≡ bytes_after_header self.now }
         // These bytes have no error, because the view was checked.
         ensures clean { HasNoAttributeError (decode_attribute H.reply.attribute_set) result.now }
     {
@@ -246,33 +261,35 @@ impl<'a, H: ReplyViews<'a>> ReplyView<'a, H> {
     /// [`ReplyView::parse`] rejects the bytes with the same error.
     #[inline(always)]
     pub fn walk(bytes: &'a [u8]) -> Result<(H, CheckedNlas<'a, H::View>), DecodeError>
-        ensures header { IfOk result (λ parts.
-            H.reply.header.parses tt bytes.entry.now ≡ Ok (H.header_model parts.0)) }
-        // `parts.0` is the header, and `parts.1` the iterator. It starts at the bytes after the
-        // header: these are `unchecked_bytes`, the bytes that it has neither read nor checked yet.
-        ensures left { IfOk result (λ parts.
-            unchecked_bytes parts.1 ≡ drop H.reply.size bytes.entry.now) }
+        // `found.0` is the header, and `found.1` the iterator.
+        ensures header { IfOk result (λ found.
+            H.reply.header.parses tt bytes.entry.now ≡ Ok (H.header_model found.0)) }
+        // The iterator starts at the bytes after the header: these are `unchecked_bytes`, the bytes
+        // that it has neither read nor checked yet.
+        ensures left { IfOk result (λ found.
+            unchecked_bytes found.1 ≡ drop H.reply.size bytes.entry.now) }
+        // `reply`: the codec of these replies, with the attributes as `H::View` decodes them.
         // If the iterator yields exactly the attributes `nlas`, without an error, and then `None`,
         // the bytes parse as the header and these attributes. `gives`: what one call of `next`
         // does. `Drains gives iterator items`: calling `next` until it returns `None` yields
         // exactly these items.
         ensures value { let reply = response_codec
-            (record (H.reply) { attribute_set = H.View.FamilyView.attribute_set }) in
+            (with_attribute_set H.reply H.View.FamilyView.attribute_set) in
             let gives = ⟦<CheckedNlas<'a, H::View> as Iterator>⟧.next_gives in
-            IfOk result (λ parts. (nlas : List H.View)
-            → Drains gives parts.1 (map (λ (nla : H.View). Ok nla) nlas)
+            IfOk result (λ found. (nlas : List H.View)
+            → Drains gives found.1 (map (λ (nla : H.View). Ok nla) nlas)
             → reply.parses bytes.entry.now tt (record {
-              header = H.header_model parts.0;
+              header = H.header_model found.0;
               nlas = map H.View.FamilyView.model nlas;
             })) }
         // If the iterator yields the attributes `nlas`, and then the error `e`, the bytes are
         // rejected with `e`. `YieldsThen gives iterator items item last`: `next` yields these items
         // and then this item, after which the iterator is `last`.
         ensures refused { let reply = response_codec
-            (record (H.reply) { attribute_set = H.View.FamilyView.attribute_set }) in
+            (with_attribute_set H.reply H.View.FamilyView.attribute_set) in
             let gives = ⟦<CheckedNlas<'a, H::View> as Iterator>⟧.next_gives in
-            IfOk result (λ parts. (nlas : List H.View) (e : Fault) (last : CheckedNlas H.View)
-            → YieldsThen gives parts.1 (map (λ (nla : H.View). Ok nla) nlas) (Some (Err e)) last
+            IfOk result (λ found. (nlas : List H.View) (e : DecodeError) (last : CheckedNlas H.View)
+            → YieldsThen gives found.1 (map (λ (nla : H.View). Ok nla) nlas) (Some (Err e)) last
             → reply.rejects bytes.entry.now tt e) }
         ensures error { IfErr result (λ error.
             H.reply.header.parses tt bytes.entry.now ≡ Err error) }
@@ -305,6 +322,7 @@ impl<H: ReplyHeader> PartialEq for ReplyView<'_, H> {
 
     ghost eq = { λ v w. H.test (view_model v) (view_model w) };
 
+    // `==` is an equivalence, since it compares the models (`compared`).
     ghost laws = { partial_equiv_from_equiv (equivalence _ view_model (λ v w. H.compared _ _)) };
 
     fn eq(&self, other: &Self) -> bool {
@@ -319,6 +337,7 @@ impl<H: ReplyHeader> PartialEq for ReplyView<'_, H> {
 impl<H: ReplyHeader> Eq for ReplyView<'_, H> {
     ghost use Rattle.sock_diag_replies.specs.ViewModel.{view_model};
 
+    // `==` is an equivalence, since it compares the models (`compared`).
     ghost laws = { equivalence _ view_model (λ v w. H.compared _ _) };
 }
 
@@ -335,6 +354,7 @@ impl<H: ReplyHeader> Emitable for ReplyView<'_, H> {
     }
 
     fn buffer_len(&self) -> usize {
+        // The caller has to ensure that the reply is writable.
         let Some(len) = self.writable_len() else {
             unreachable!();
         };
@@ -412,19 +432,18 @@ impl<'a, H: ReplyViews<'a>> Iterator for AttributeViews<'a, H> {
 
     /// Returns the exact number of attributes that were not yielded yet.
     fn size_hint(&self) -> (usize, Option<usize>)
-        // `left`: the attributes that were not yielded yet. The first two clauses are those of the
-        // trait: the lower bound is at most their number (`IsWithinCount bound count`), and the
-        // upper bound, if there is one, is at least their number (`UpTo count bound`).
+        // `left`: the attributes that were not yielded yet. Both bounds are their number.
+        ensures exact { let left = decoded_in (decode_attribute H.View.FamilyView.attribute_set)
+            (unread_attributes self.now) in
+            result ≡ (length left, Some (length left)) }
+        // The clauses of the trait follow from `exact`: the lower bound is at most this number
+        // (`IsWithinCount`), and the upper one, if there is one, at least this number (`UpTo`).
         ensures lower { let left = decoded_in (decode_attribute H.View.FamilyView.attribute_set)
             (unread_attributes self.now) in
             IsWithinCount result.0 (at_most (length left)) }
         ensures upper { let left = decoded_in (decode_attribute H.View.FamilyView.attribute_set)
             (unread_attributes self.now) in
             IfSome result.1 (UpTo (at_most (length left))) }
-        // Both bounds are the number of these attributes.
-        ensures exact { let left = decoded_in (decode_attribute H.View.FamilyView.attribute_set)
-            (unread_attributes self.now) in
-            result ≡ (length left, Some (length left)) }
     {
         (self.count, Some(self.count))
     }

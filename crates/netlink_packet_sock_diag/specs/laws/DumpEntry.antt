@@ -83,18 +83,18 @@ module _ (C : Codec ℕ) where
 module _ (C : Codec ℕ) (laws : KeepsCodecLaws C) where
   pub messages_determine_items : DeterminesItems C.parses C.rejects (IsItemOf C)
   messages_determine_items = record {
-    carries = λ message h payload head is. (h, (head, is));
-    refused = λ message h e head other refused. inr (h, head, other, refused);
-    some_item = λ message in_range whole. item_of C laws.is_total message in_range;
+    payload_is_item = λ message h payload head is. (h, (head, is));
+    error_is_item = λ message h e head other refused. inr (h, head, other, refused);
+    has_item = λ message in_range whole. item_of C laws.is_total message in_range;
   }
 
   pub entries_determine_items : DeterminesItems
       (λ b t entry. MatchResult entry (C.parses b t) (C.rejects b t))
       (λ b t e. ⊥) (HasLossyEntry C)
   entries_determine_items = record {
-    carries = λ message h payload head is. (h, head, is);
-    refused = λ message h e head other never. absurd never;
-    some_item = λ message in_range whole.
+    payload_is_item = λ message h payload head is. (h, head, is);
+    error_is_item = λ message h e head other never. absurd never;
+    has_item = λ message in_range whole.
         let item = item_of C laws.is_total message in_range in
         (entry_of_item item.0, is_entry C message item.0 whole item.1);
   }

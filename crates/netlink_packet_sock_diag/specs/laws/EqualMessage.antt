@@ -27,7 +27,7 @@ use Rattle.netlink_packet_sock_diag.specs.contracts.message.SockDiagMessageParti
   ghosts,
 }
 use Rattle.netlink_packet_sock_diag.specs.Message.{codec_of_message_kind, Message, message_of}
-use Rattle.netlink_packet_sock_diag.specs.Message.{apply_by_kind}
+use Rattle.netlink_packet_sock_diag.specs.Message.{kind_of}
 use Rattle.sock_diag_records.specs.ResponseKind.{MessageKind, inet_request, inet_response}
 use Rattle.sock_diag_records.specs.ResponseKind.{unix_request, unix_response}
 use Rattle.netlink_packet_sock_diag.specs.MessageModel.{message_model}
@@ -77,7 +77,7 @@ message_equal (message.UnixRequest a) (message.UnixRequest x) =
 message_equal (message.UnixResponse a) (message.UnixResponse x) =
     content_test_decides unix_response _ _ _
     (responses_equal (λ h. h) unix.unix_nla_model exact_unix.0 same_unix a.value x.value)
-message_equal v w = false_decides (λ e. let kinds = ap (apply_by_kind (λ kind v. kind)) e in cc)
+message_equal v w = false_decides (λ e. let kinds = ap kind_of e in cc)
 
 -- `==` of borrowed messages is true if and only if their models are equal
 pub view_equal : (v w : SockDiagView) → IsTrue (views.eq v w)
@@ -86,4 +86,4 @@ view_equal (view.InetResponse a) (view.InetResponse x) =
     content_test_decides inet_response _ _ _ (inet_test_decides (view_model a) (view_model x))
 view_equal (view.UnixResponse a) (view.UnixResponse x) =
     content_test_decides unix_response _ _ _ (unix_test_decides (view_model a) (view_model x))
-view_equal v w = false_decides (λ e. let kinds = ap (apply_by_kind (λ kind v. kind)) e in cc)
+view_equal v w = false_decides (λ e. let kinds = ap kind_of e in cc)

@@ -22,7 +22,7 @@ use Rattle.sock_diag_replies.specs.UnixResponseSpec.{unix_response_spec}
 use Rattle.sock_diag_replies.specs.laws.InetResponseSpec.{inet_response_laws}
 use Rattle.sock_diag_replies.specs.laws.UnixResponseSpec.{unix_response_laws}
 use Rattle.netlink_packet_sock_diag.specs.Message.{codec_of_message_kind, Message, message_of}
-use Rattle.netlink_packet_sock_diag.specs.Message.{apply_by_kind, message_codec}
+use Rattle.netlink_packet_sock_diag.specs.Message.{kind_of, message_codec}
 use Rattle.sock_diag_records.specs.ResponseKind.{MessageKind, inet_request, inet_response}
 use Rattle.sock_diag_records.specs.ResponseKind.{unix_request, unix_response, response_kind}
 
@@ -65,8 +65,8 @@ response_kinds b t found h = rw (← h) (grind (arith, nat_tests, eqb-true))
 
 -- a parsed message is a reply, under the type 20
 pub read_reply : (b : List ℕ) (t : ℕ) (m : Message) → message_codec.parses b t m
-    → (t ≡ 20) × ((apply_by_kind (λ kind v. kind) m ≡ inet_response)
-    ⊎ (apply_by_kind (λ kind v. kind) m ≡ unix_response))
+    → (t ≡ 20) × ((kind_of m ≡ inet_response)
+    ⊎ (kind_of m ≡ unix_response))
 read_reply b t (message_of kind v) r = response_kinds b t (Ok kind) r.0
 
 -- ---- one message or one error
@@ -154,7 +154,7 @@ kind_of_versions family versions h =
 
 -- a message in normal form serializes to bytes of its kind
 serialized_kind_is_kept : (t : ℕ) (m : Message) → message_codec.is_normal t m
-    → response_kind (message_codec.serialized m) t ≡ Ok (apply_by_kind (λ kind v. kind) m)
+    → response_kind (message_codec.serialized m) t ≡ Ok (kind_of m)
 unfolding inet_response_header
 serialized_kind_is_kept t (message_of inet_response v) (is, reply, normal) =
     grind (

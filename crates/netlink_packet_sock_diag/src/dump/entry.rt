@@ -1,10 +1,10 @@
 //! What the reader of a dump keeps of an inner message.
 
-ghost use Rattle.std.specs.Prelude.{◌≡◌, ◌≢◌, ℕ, List, Result as result, MatchResult, IfOk, IfErr};
+ghost use Rattle.std.specs.Prelude.{◌≡◌, ◌≢◌, ℕ, List, Result, MatchResult, IfOk, IfErr};
 ghost use Rattle.std.specs.Prelude.{IsOk, ⊤};
 ghost use Rattle.netlink_core.specs.Errors.{map_ok};
 ghost use Rattle.netlink_core.specs.Items.{Item, IsItemOf};
-ghost use Rattle.netlink_core.specs.declared.error.DecodeError.{DecodeError as Fault};
+ghost use Rattle.netlink_core.specs.declared.error.DecodeError.{DecodeError};
 ghost use Rattle.netlink_core.specs.declared.error.DecodeError.TheVariants.{Memory};
 ghost use Rattle.netlink_packet_sock_diag.specs.private.DumpEntry.{DeterminesItems};
 ghost use Rattle.netlink_packet_sock_diag.specs.laws.DumpEntry.{entries_determine_items};
@@ -23,15 +23,16 @@ use std::mem::forget;
 
 /// What the reader of a dump keeps of an inner message.
 pub(crate) trait DumpEntry: Drop + Sized {
-    // `Entry` is the model of what is kept. `parses b t m`: the payload `b` under the message type
-    // `t` is kept as `m`. `rejects b t e`: such a payload ends the dump with the error `e`.
-    // `item_is`: the item of the datagram that a message is. `needs_memory`: keeping the entry may
-    // need memory. `model`: the entry that a Rust value represents.
+    // `Entry` is the model of what is kept. `parses payload t entry`: the payload under the message
+    // type `t` is kept as `entry`. `rejects payload t e`: the payload ends the dump with the error
+    // `e`. `item_is message item`: the item of the datagram that a message is.
+    // `needs_memory entry`: keeping the entry may need memory. `model`: the entry that a Rust value
+    // represents.
     ghost Entry: { Type 0 };
 
     ghost parses: { List ℕ → ℕ → Entry → Type 0 };
 
-    ghost rejects: { List ℕ → ℕ → Fault → Type 0 };
+    ghost rejects: { List ℕ → ℕ → DecodeError → Type 0 };
 
     ghost item_is: { List ℕ → Item Entry → Type 0 };
 
@@ -42,13 +43,14 @@ pub(crate) trait DumpEntry: Drop + Sized {
     /// Parses the payload under the header's message type. Returns what is kept of it, or the error
     /// that ends the dump.
     fn take(alloc: Global, header: &NetlinkHeader, payload: &[u8]) -> Result<Self, DecodeError>
-        ensures value { IfOk result
-            (λ m. Self.parses payload.now header.now.message_type (Self.model m)) }
-        ensures error { IfErr result (λ e. e ≢ Memory
-            → Self.rejects payload.now header.now.message_type e) }
+        ensures value { IfOk result (λ kept.
+            Self.parses payload.now header.now.message_type (Self.model kept)) }
+        // An error other than `Memory` is the one with which the payload ends the dump.
+        ensures error { IfErr result (λ error. error ≢ Memory
+            → Self.rejects payload.now header.now.message_type error) }
         // `Memory` is returned only for a payload whose entry may need memory.
-        ensures memory_needed { IfErr result (λ e. e ≡ Memory → (m : Self.Entry)
-            × Self.parses payload.now header.now.message_type m × Self.needs_memory m) };
+        ensures memory_needed { IfErr result (λ error. error ≡ Memory → (entry : Self.Entry)
+            × Self.parses payload.now header.now.message_type entry × Self.needs_memory entry) };
 
     /// Drops what was kept of a message.
     fn free(self);
@@ -62,6 +64,9 @@ pub(crate) trait DumpEntry: Drop + Sized {
 // the message was read, and in a long dump they have left the processor's cache since. So slots
 // that hold no attribute are not read again: they own no memory.
 fn free_message(message: SockDiagMessage) {
+    // If the attributes are stored inline, `drop_inline` has dropped them. The rest of the reply
+    // owns no memory, so only its box is freed. Otherwise the whole reply is dropped. A request
+    // owns no memory.
     match message {
         SockDiagMessage::InetResponse(mut reply) => {
             if drop_inline(&mut reply.nlas) {
@@ -100,7 +105,8 @@ impl DumpEntry for SockDiagMessage {
 
     ghost item_is = { IsItemOf message_codec };
 
-    ghost needs_memory = { λ message. ⊤ };
+    // Each message that is kept may need memory.
+    ghost needs_memory = { λ _. ⊤ };
 
     ghost model = { message_model };
 
@@ -118,21 +124,24 @@ impl DumpEntry for SockDiagMessage {
 /// Keeps the message, or its decode error. `take` fails only if an allocation for a valid message
 /// fails.
 impl DumpEntry for Result<SockDiagMessage, DecodeError> {
-    ghost Entry = { result Message Fault };
+    ghost Entry = { Result Message DecodeError };
 
-    ghost parses = { λ b t entry. MatchResult entry (message_codec.parses b t)
-        (message_codec.rejects b t) };
+    ghost parses = { λ payload t entry. MatchResult entry (message_codec.parses payload t)
+        (message_codec.rejects payload t) };
 
-    ghost rejects = { λ b t e. ⊥ };
+    // No payload ends the dump: an invalid one is kept as its error.
+    ghost rejects = { λ _ _ _. ⊥ };
 
     ghost item_is = { HasLossyEntry message_codec };
 
+    // Only an entry with a message may need memory.
     ghost needs_memory = { λ entry. IsOk entry };
 
     ghost model = { map_ok message_model };
 
     fn take(alloc: Global, header: &NetlinkHeader, payload: &[u8]) -> Result<Self, DecodeError> {
         match SockDiagMessage::deserialize(alloc, header, payload) {
+            // Any other error is kept as the entry.
             Err(DecodeError::Memory) => Err(DecodeError::Memory),
             answer => Ok(answer),
         }

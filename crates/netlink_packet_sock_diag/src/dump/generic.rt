@@ -1,13 +1,11 @@
 //! The reader of a dump, generic over what it keeps of each message.
 
-ghost use Rattle.std.specs.Prelude.{◌≡◌, ◌≢◌, ◌⊎◌, ◌↔◌, ℕ, List, [], map, Result, Ok as ok};
-ghost use Rattle.std.specs.Prelude.{Err as err, MatchResult, IsBitSet, IsTrue, None, false, ◌≤◌};
+ghost use Rattle.std.specs.Prelude.{◌≡◌, ◌≢◌, ◌⊎◌, ◌↔◌, [], map, Ok, Err};
+ghost use Rattle.std.specs.Prelude.{MatchResult, IsBitSet, IsTrue, None, false, ◌≤◌};
 ghost use Rattle.std.specs.Prelude.{vec_capacity, vec_len};
 ghost use Rattle.netlink_core.specs.declared.error.DecodeError.TheVariants.{Memory};
-ghost use Rattle.netlink_packet_sock_diag.specs.Feed.{DumpProgress, FeedLeadsTo, FeedingAllLeadsTo};
-ghost use Rattle.netlink_packet_sock_diag.specs.Feed.{ReadsDatagram, AllocationFailsAt, dump_with};
-ghost use Rattle.netlink_packet_sock_diag.specs.Feed.{new_dump};
-ghost use Rattle.netlink_packet_sock_diag.specs.declared.dump.DumpError.{DumpError as Refusal};
+ghost use Rattle.netlink_packet_sock_diag.specs.Feed.{AllocationFailsAt, FeedLeadsTo};
+ghost use Rattle.netlink_packet_sock_diag.specs.Feed.{IsReachedByFeeding, ReadsDatagram, dump_with};
 ghost use Rattle.netlink_packet_sock_diag.specs.declared.dump.DumpState.TheVariants.{Reading};
 ghost use Rattle.netlink_packet_sock_diag.specs.declared.dump.DumpState.TheVariants.{Failed};
 
@@ -19,7 +17,8 @@ use netlink_core::{
 };
 use std::alloc::Global;
 
-// Returns whether a dump is interrupted after a message with this header.
+// Returns whether a dump is interrupted after a message with this header, given whether it was
+// before.
 #[inline(always)]
 fn interrupted_by(was_interrupted: bool, header: &NetlinkHeader) -> bool
     // Bit 4 is `NLM_F_DUMP_INTR`.
@@ -38,21 +37,25 @@ fn take_messages<I: DumpEntry>(
     interrupted: &mut bool,
     datagram: &[u8],
 ) -> Result<(DumpState, Option<i32>), DecodeError>
-    // `ReadsDatagram item_is old datagram new end`: the datagram extends the messages of `old` to
-    // those of `new`, and leads to this end. `AllocationFailsAt item_is entry old datagram new`:
-    // the message with this entry was not kept, because an allocation failed, and `new` has the
-    // messages before it. `dump_with messages end interrupted`: a progress. The last condition is
-    // that the list has no free slot.
-    ensures { MatchResult result
-        (λ end. ReadsDatagram I.item_is
-        (dump_with (map I.model messages.old.items) (Reading, None) interrupted.old) datagram.now
-        (dump_with (map I.model messages.new.items) end interrupted.new) (ok end))
-        (λ e. (e ≢ Memory → ReadsDatagram I.item_is
-        (dump_with (map I.model messages.old.items) (Reading, None) interrupted.old) datagram.now
-        (dump_with (map I.model messages.new.items) (Failed, None) interrupted.new) (err e))
-        × (e ≡ Memory → (entry : I.Entry) × AllocationFailsAt I.item_is entry
-        (dump_with (map I.model messages.old.items) (Reading, None) interrupted.old) datagram.now
-        (dump_with (map I.model messages.new.items) (Failed, None) interrupted.new)
+    // `dump_with messages end interrupted`: a progress. `old` is the one before the call, and
+    // `failed` the one after an error. Their state and error number do not matter: `ReadsDatagram`
+    // and `AllocationFailsAt` do not consider them. The first `λ` is for `Ok(end)`, the second for
+    // `Err(e)`.
+    // `ReadsDatagram item_is (old, datagram) (new, end)`: the datagram extends the messages of
+    // `old` to those of `new`, and leads to this end. `AllocationFailsAt item_is (old, datagram)
+    // (new, entry)`: the message with this entry was not kept, because an allocation failed, and
+    // `new` has the messages before it. The last line: the entry may need memory, or the list has
+    // no free slot.
+    ensures { let old_messages = map I.model messages.old.items in
+        let old = dump_with old_messages (Reading, None) interrupted.old in
+        let new_messages = map I.model messages.new.items in
+        let failed = dump_with new_messages (Failed, None) interrupted.new in
+        MatchResult result
+        (λ end. ReadsDatagram I.item_is (old, datagram.now)
+        (dump_with new_messages end interrupted.new, Ok end))
+        (λ e. (e ≢ Memory → ReadsDatagram I.item_is (old, datagram.now) (failed, Err e))
+        × (e ≡ Memory → (entry : I.Entry)
+        × AllocationFailsAt I.item_is (old, datagram.now) (failed, entry)
         × (I.needs_memory entry ⊎ (vec_capacity messages.new ≤ vec_len messages.new)))) }
 {
     for item in FramedMessages::new(datagram) {
@@ -66,6 +69,7 @@ fn take_messages<I: DumpEntry>(
             NLMSG_OVERRUN => return Ok((DumpState::Overrun, None)),
             _ => {
                 let entry = I::take(alloc, &header, payload)?;
+                // If the list cannot grow, the error is `Memory`.
                 messages.reserve(1)?;
                 messages.push_reserved(entry);
             }
@@ -82,16 +86,11 @@ pub(crate) struct GenericDump<I: DumpEntry> {
     pub(crate) status: (DumpState, Option<i32>),
     /// Whether a message had `NLM_F_DUMP_INTR`.
     pub(crate) interrupted: bool,
-    // A dump that has not ended has no error number.
+    // A dump that is still read has no error number.
     ghost unnumbered: { (status.0 ≡ Reading) → (status ≡ (Reading, None)) },
-    // Feeding some datagrams, with enough memory, leads to this progress. Or it leads to an earlier
-    // progress, feeding one more datagram leads from there to this one, and the dump has failed.
-    ghost fed: { ∥ ((datagrams : List (List ℕ)) × (before : DumpProgress I.Entry)
-        × FeedingAllLeadsTo I.item_is new_dump datagrams before
-        × ((before ≡ dump_with (map I.model entries.items) status interrupted)
-        ⊎ ((status ≡ (Failed, None)) × (last : List ℕ) × (answer : Result Unit Refusal)
-        × FeedLeadsTo I.item_is before last
-        (dump_with (map I.model entries.items) status interrupted) answer))) ∥₁ },
+    // Feeding some datagrams leads to this progress.
+    ghost fed: { ∥ IsReachedByFeeding I.item_is
+        (dump_with (map I.model entries.items) status interrupted) ∥₁ },
 }
 
 // Each entry is dropped by `free`, which reads less memory than the derived drop of an entry.
@@ -125,6 +124,7 @@ impl<I: DumpEntry> GenericDump<I> {
     pub(crate) fn into_entries(self) -> Vec<I>
         ensures { result ≡ self.entries }
     {
+        // A type that implements `Drop` is taken apart with all of its fields.
         let GenericDump {
             alloc: _,
             entries,
@@ -136,15 +136,19 @@ impl<I: DumpEntry> GenericDump<I> {
 
     /// Reads the messages of a datagram; see [`DumpReader::feed`](crate::DumpReader::feed).
     pub(crate) fn feed(&mut self, datagram: &[u8]) -> Result<(), DumpError>
-        ensures leaves { FeedLeadsTo I.item_is (generic_dump_progress I.model self.old) datagram.now
-            (generic_dump_progress I.model self.new) result }
+        // `FeedLeadsTo item_is (old, datagram) (new, result)`: what a call does to the progress of
+        // the reader, by its result.
+        ensures leaves { FeedLeadsTo I.item_is
+            (generic_dump_progress I.model self.old, datagram.now)
+            (generic_dump_progress I.model self.new, result) }
         // Memory runs out at an entry that may need some, or because the list has to grow.
-        // `AllocationFailsAt item_is entry old datagram new`: the message with this entry was not
-        // kept, and `new` has the messages before it. `IsFull`: the list has no free slot.
-        ensures memory { result ≡ err (Fault Memory) → (entry : I.Entry)
-            × AllocationFailsAt I.item_is entry
-            (generic_dump_progress I.model self.old) datagram.now
-            (generic_dump_progress I.model self.new) × (I.needs_memory entry ⊎ IsFull self.new) }
+        // `AllocationFailsAt item_is (old, datagram) (new, entry)`: the message with this entry was
+        // not kept, and `new` has the messages before it. `IsFull`: the list has no free slot.
+        ensures memory { result ≡ Err (Fault Memory) → (entry : I.Entry)
+            × AllocationFailsAt I.item_is
+            (generic_dump_progress I.model self.old, datagram.now)
+            (generic_dump_progress I.model self.new, entry)
+            × (I.needs_memory entry ⊎ IsFull self.new) }
     {
         if self.status.0 != DumpState::Reading {
             return Err(DumpError::Ended);

@@ -45,10 +45,12 @@ pub enum DumpError {
     Ended,
 }
 
+// Proof only: `==` and `clone` compare and copy the whole value.
 impl Exact for DumpState {
     ghost exact = { Prim.search rules };
 }
 
+// Proof only: `==` and `clone` compare and copy the whole value.
 impl Exact for DumpError {
     ghost exact = { (dump_error_equal, Prim.search rules, Prim.search rules) };
 }
@@ -68,7 +70,7 @@ impl DumpReader {
     /// no error number, and it is not interrupted. It keeps the allocator.
     pub fn new(alloc: Global) -> Self
         // `reader_progress`: the messages, the state, the error number and the interruption of a
-        // reader.
+        // reader. `new_dump`: those of a reader that nothing was fed to.
         ensures { reader_progress result ≡ new_dump }
     {
         DumpReader {
@@ -91,14 +93,13 @@ impl DumpReader {
     /// Unless the dump had already ended, it is interrupted from then on if a message that was
     /// read, up to and including the one that ends it or fails, has the flag `NLM_F_DUMP_INTR`.
     pub fn feed(&mut self, datagram: &[u8]) -> Result<(), DumpError>
-        // `FeedLeadsTo item_is old datagram new result`, by the result. `Ok`: the inner messages up
-        // to the end are appended, and state and error number are those of the end. `Err Ended`:
-        // `new` is `old`. `Err (Fault e)`: the state is `Failed`, and the inner messages before the
-        // error are appended. `IsItemOf`: the item of a message is its payload, or its decode
-        // error.
+        // `FeedLeadsTo item_is (old, datagram) (new, result)`, by the result. `Ok`: the inner
+        // messages up to the end are appended, and state and error number are those of the end.
+        // `Err Ended`: `new` is `old`. `Err (Fault e)`: the state is `Failed`, and the inner
+        // messages before the error are appended. `IsItemOf`: the item of a message is its payload,
+        // or its decode error.
         ensures leaves { FeedLeadsTo (IsItemOf message_codec)
-            (reader_progress self.old) datagram.now
-            (reader_progress self.new) result }
+            (reader_progress self.old, datagram.now) (reader_progress self.new, result) }
     {
         self.dump.feed(datagram)
     }
@@ -113,6 +114,7 @@ impl DumpReader {
 
     /// Returns the messages read so far, in order, and drops the rest of the reader.
     pub fn into_messages(self) -> Vec<SockDiagMessage>
+        // `message_model`: the kind of a message and the model of its content.
         ensures { map message_model result.items ≡ (reader_progress self).messages }
     {
         self.dump.into_entries()

@@ -29,6 +29,8 @@ fn read_payload<'a>(
     // type `t`, and an inner message by `parses`.
     ensures value { IfOk result (λ view. ParsesAsPayload message_codec.parses payload.entry.now
         header.now.message_type (payload_view_model view)) }
+    // `IsInnerMessageType t`: the type is not the one of a control message. Only the payload of
+    // such a message can be invalid.
     ensures error { IfErr result (λ e. IsInnerMessageType header.now.message_type
         × message_codec.rejects payload.entry.now header.now.message_type e) }
 {
@@ -97,6 +99,8 @@ impl<'a> MessageView<'a> {
     /// Returns whether the message is writable: its inner message is writable, and the message has
     /// at most 4,294,967,295 bytes, including the 16 bytes of its header.
     pub fn is_writable(&self) -> bool
+        // `netlink_message_view_model view`: the header, and the payload with the model of its
+        // inner message or with its bytes.
         ensures { IsTrue result
             ↔ netlink_message_codec.is_writable (netlink_message_view_model self.now) }
     {
@@ -107,7 +111,8 @@ impl<'a> MessageView<'a> {
     }
 }
 
-// Returns the payload of the message with this header, or its first error.
+// Returns the payload of the message with this header, or its first error. The message has exactly
+// the length in its header.
 #[inline(always)]
 fn payload_of<'a>(header: &NetlinkHeader, message: &'a [u8]) -> Result<PayloadView<'a>, DecodeError>
     requires header { HasHeader message.now header.now }
@@ -145,10 +150,10 @@ impl<'a> DumpViews<'a> {
 }
 
 impl<'a> Iterator for DumpViews<'a> {
-    ghost use Rattle.std.specs.Prelude.{◌+◌, ◌/◌, IfSome, None};
+    ghost use Rattle.std.specs.Prelude.{IfSome, None};
     ghost use Rattle.std.specs.Iterator.{at_most, UpTo};
     ghost use Rattle.std.specs.Iterator.SizeHint.{IsWithinCount};
-    ghost use Rattle.netlink_packet_sock_diag.specs.DumpWalk.{YieldsPayloadView, unread_views};
+    ghost use Rattle.netlink_packet_sock_diag.specs.DumpWalk.{YieldsPayloadView, max_views_left};
 
     type Item = Result<PayloadView<'a>, DecodeError>;
 
@@ -156,8 +161,8 @@ impl<'a> Iterator for DumpViews<'a> {
     // and `new` is the iterator after the call.
     ghost next_gives = { YieldsPayloadView };
 
-    // At most one item for each 16 bytes, rounded up.
-    ghost remaining = { λ walk. at_most ((length (unread_views walk) + 15) / 16) };
+    // `max_views_left views`: one item for each 16 bytes, rounded up.
+    ghost remaining = { λ views. at_most (max_views_left views) };
 
     /// Returns the payload of the next message, or its error. If the remaining bytes are not a
     /// message, the error is the one that [`NetlinkHeader::from_prefix`] returns for them, and no
@@ -172,16 +177,12 @@ impl<'a> Iterator for DumpViews<'a> {
 
     /// Returns `(0, None)`: only iterating shows how many messages are left.
     fn size_hint(&self) -> (usize, Option<usize>)
-        // `at_most n`: at most `n` items are left, one for each 16 bytes, rounded up. The first two
-        // clauses are those of the trait: the lower bound is at most this `n`
-        // (`IsWithinCount bound count`), and the upper bound, if there is one, is at least this `n`
-        // (`UpTo count bound`).
-        ensures lower { IsWithinCount result.0
-            (at_most ((length (unread_views self.now) + 15) / 16)) }
-        ensures upper { IfSome result.1
-            (UpTo (at_most ((length (unread_views self.now) + 15) / 16))) }
-        // The result is always this one.
         ensures unknown { result ≡ (0, None) }
+        // The clauses of the trait follow from `unknown`: the lower bound is at most the number of
+        // items (`IsWithinCount`), and the upper one, if there is one, at least this number
+        // (`UpTo`). `at_most n`: of this number only the bound `n` is known.
+        ensures lower { IsWithinCount result.0 (at_most (max_views_left self.now)) }
+        ensures upper { IfSome result.1 (UpTo (at_most (max_views_left self.now))) }
     {
         (0, None)
     }

@@ -14,11 +14,11 @@ use Rattle.sock_diag_any.specs.RawReply.{raw_reply_spec}
 -- The codec of a reply with raw attributes keeps the codec laws if its header is a sound layout
 -- with one table of rows.
 pub raw_reply_codec_laws : {Value : Type 0} {name : RecordName} {size : ℕ}
-    {rows : List (Row Value)} {value : List ℕ → Value} {is_shaped : Value → Type 0}
-    → MeetsLayoutConditions (plain name size rows value is_shaped)
-    → KeepsCodecLaws (response_codec (raw_reply_spec (plain name size rows value is_shaped)))
-raw_reply_codec_laws {Value} {name} {size} {rows} {value} {is_shaped} sound =
-    let header = plain name size rows value is_shaped in
+    {rows : List (Row Value)} {value : List ℕ → Value} {arrays_fit : Value → Type 0}
+    → MeetsLayoutConditions (plain name size rows value arrays_fit)
+    → KeepsCodecLaws (response_codec (raw_reply_spec (plain name size rows value arrays_fit)))
+raw_reply_codec_laws {Value} {name} {size} {rows} {value} {arrays_fit} sound =
+    let header = plain name size rows value arrays_fit in
     let zeros : List ℕ = replicate size 0 in
     let long : length zeros ≡ size = length-replicate {A = ℕ} size 0 in
     let room : sound.size tt ≤ length zeros = sound.room tt tt zeros (omega (arith, long)) refl in

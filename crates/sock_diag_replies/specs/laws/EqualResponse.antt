@@ -10,11 +10,12 @@ use Rattle.sock_diag_replies.specs.declared.response.Reply.{Reply}
 use Rattle.sock_diag_replies.specs.ResponseModel.{response_model}
 
 -- a test of the headers and a test of the attributes decide together whether two replies are equal
-header_and_attribute_tests_decide : {H V : Type 0} (headers nlas : Bool) (v w : ResponseValue H V)
-    → (IsTrue headers ↔ (v.header ≡ w.header)) → (IsTrue nlas ↔ (v.nlas ≡ w.nlas))
-    → IsTrue (headers && nlas) ↔ (v ≡ w)
-header_and_attribute_tests_decide {H} {V} headers nlas v w fronts rests =
-    grind (arith, and_decides fronts rests)
+header_and_attribute_tests_decide : {H V : Type 0} (same_header same_nlas : Bool)
+    (v w : ResponseValue H V)
+    → (IsTrue same_header ↔ (v.header ≡ w.header)) → (IsTrue same_nlas ↔ (v.nlas ≡ w.nlas))
+    → IsTrue (same_header && same_nlas) ↔ (v ≡ w)
+header_and_attribute_tests_decide {H} {V} same_header same_nlas v w headers nlas =
+    grind (arith, and_decides headers nlas)
 
 -- `==` of two owned replies decides whether their models are equal
 pub responses_equal : {H A V W : Type 0} {same : H → H → Bool} {test : A → A
@@ -48,6 +49,6 @@ module _ {H : Type 0} (same : H → H → Bool) (F : AttributeSet) (tests : Test
       )
 
 -- if the test of the headers is true, the test of the attributes decides
-pub attribute_test_decides_rest : {t rest result : Bool} → t ≡ true → result ≡ rest
-    → result ≡ (t && rest)
-attribute_test_decides_rest {t} {rest} {result} equal same = rw equal same
+pub attribute_test_decides_rest : {same_header same_nlas result : Bool} → same_header ≡ true
+    → result ≡ same_nlas → result ≡ (same_header && same_nlas)
+attribute_test_decides_rest {same_header} {same_nlas} {result} equal same = rw equal same

@@ -20,12 +20,12 @@ module _ {Tag Value : Type 0} (layout : Layout (Unit {0}) Tag Value) {size : ℕ
   -- satisfies its laws
   pub response_laws : {F : AttributeSet} → MeetsLayoutConditions layout
       → ((tag : Tag) (left rest : List ℕ) → layout.least ≤ length left
-      → layout.tag_at tt left ≡ Ok tag → layout.tag_at tt (left ++ rest) ≡ Ok tag)
+      → layout.tag_for tt left ≡ Ok tag → layout.tag_for tt (left ++ rest) ≡ Ok tag)
       → AttributeSetLaws F → ResponseLaws (record {
         header = value_codec layout;
         size =
             size;
         attribute_set = F;
       })
-  response_laws sound goes_on attribute_set =
+  response_laws sound tag_ignores_suffix attribute_set_laws =
       grind (arith, layout_codec_laws, is_prefix_codec)

@@ -29,7 +29,7 @@ use Rattle.sock_diag_replies.specs.InetResponseSpec.{inet_response_spec}
 -- bytes after a header do not change its tag
 tag_ignores_suffix : (tag : IpVersions × ℕ) (left rest : List ℕ)
     → inet_response_header.least ≤ length left
-    → inet_response_header.tag_at tt left ≡ Ok tag → inet_response_header.tag_at tt (left ++ rest)
+    → inet_response_header.tag_for tt left ≡ Ok tag → inet_response_header.tag_for tt (left ++ rest)
     ≡ Ok tag
 unfolding inet_response_header
 tag_ignores_suffix tag left rest long e =
@@ -53,9 +53,13 @@ pub inet_response_laws : ResponseLaws inet_response_spec
 inet_response_laws = response_laws inet_response_header inet_response_header_has_fixed_length
     inet_response_header_sound tag_ignores_suffix inet_laws
 
+-- `==` of two headers is true if and only if they are equal
+pub inet_header_equal : (h k : InetResponseHeader) → IsTrue (headers.eq h k) ↔ (h ≡ k)
+inet_header_equal = exact_header.0
+
 -- the test of two replies
 abbrev pub inet_test : ReplyValue inet_response_spec → ReplyValue inet_response_spec → Bool
 inet_test = response_test headers.eq inet_attribute_set inet_tests
 
 pub inet_test_decides : (v w : ReplyValue inet_response_spec) → IsTrue (inet_test v w) ↔ (v ≡ w)
-inet_test_decides = response_test_decides headers.eq inet_attribute_set inet_tests exact_header.0
+inet_test_decides = response_test_decides headers.eq inet_attribute_set inet_tests inet_header_equal

@@ -4,11 +4,9 @@ ghost use Rattle.std.specs.Prelude.{refl};
 ghost use Rattle.netlink_core.proofs.Responses.{reply_codec_laws};
 ghost use Rattle.sock_diag_replies.specs.InetResponseSpec.{inet_response_spec};
 ghost use Rattle.sock_diag_replies.specs.laws.InetResponseSpec.{inet_header_bytes_suffice};
+ghost use Rattle.sock_diag_replies.specs.laws.InetResponseSpec.{inet_header_equal};
 ghost use Rattle.sock_diag_replies.specs.laws.InetResponseSpec.{inet_response_laws};
 ghost use Rattle.sock_diag_replies.specs.laws.InetResponseSpec.{inet_test, inet_test_decides};
-ghost use Rattle.sock_diag_records.specs.contracts.inet.equality.InetResponseHeaderExact.TheImpl.Laws.{
-  exact-law as exact_header,
-};
 
 use crate::inet::nlas::{Nla, NlaView};
 use crate::inet::{INET_RESPONSE_HEADER_LEN, InetResponseHeader};
@@ -80,7 +78,7 @@ impl ReplyHeader for InetResponseHeader {
         self == other && same_views::<NlaView<'_>>(left, right)
     }
 
-    ghost enough = { inet_header_bytes_suffice };
+    ghost complete_header = { inet_header_bytes_suffice };
 
     ghost keeps = { reply_codec_laws inet_response_spec inet_response_laws };
 
@@ -90,7 +88,10 @@ impl ReplyHeader for InetResponseHeader {
 impl<'a> ReplyViews<'a> for InetResponseHeader {
     type View = NlaView<'a>;
 
-    ghost same = { (λ _. (λ h. h, λ h. h), λ _. refl) };
+    // The views have the attribute set of the replies, so both properties hold by definition.
+    ghost accepts_same = { λ _. (λ h. h, λ h. h) };
+
+    ghost counts_same = { λ _. refl };
 }
 
 impl ReplyOwned for InetResponseHeader {
@@ -98,15 +99,23 @@ impl ReplyOwned for InetResponseHeader {
 
     const REPLY: &'static str = "InetResponse";
 
-    ghost eq_is_model = { exact_header.0 };
+    ghost eq_is_model = { inet_header_equal };
 
+    // The model of a header is the header itself, and the owned attributes have the attribute set
+    // of the borrowed ones. So all properties up to `same_attributes` hold by definition.
     ghost bytes_by_codec = { λ _. refl };
 
     ghost always_writable = { λ _. tt };
 
-    ghost in_range_by_codec = { λ _ h. h };
+    ghost in_range_by_codec = { λ _ in_range. in_range };
 
-    ghost same = { (λ _ _ h. h, λ _ h. h, λ _. refl, λ _. refl) };
+    ghost same_errors = { λ _ _ error. error };
+
+    ghost both_accept = { λ _ valid. valid };
+
+    ghost same_count = { λ _. refl };
+
+    ghost same_attributes = { λ _. refl };
 
     ghost keeps = { reply_codec_laws inet_response_spec inet_response_laws };
 }

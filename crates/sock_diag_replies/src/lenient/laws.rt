@@ -1,5 +1,7 @@
 //! Properties of replies that are read leniently, and of a copied error. Proof only: the contract
-//! of each function states the property.
+//! of each function states the property. `V` is the type of the borrowed attributes of a family,
+//! `V.attribute_set` the set of its known attribute types, and `V.model` maps a borrowed attribute
+//! to the value that it decodes to.
 
 ghost use Rattle.std.specs.Prelude.{◌≡◌, ℕ, List, [], map, drop, Result, Ok, Err, IfErr, IfOk};
 ghost use Rattle.std.specs.Prelude.{IsOk, MatchOption};
@@ -18,7 +20,7 @@ ghost use Rattle.sock_diag_replies.specs.Lenient.{StartsWithLenientItem, YieldsL
 ghost use Rattle.sock_diag_replies.specs.Lenient.{HasLenientItems, RejectionModel};
 ghost use Rattle.sock_diag_replies.specs.Lenient.{lenient_item_model};
 ghost use Rattle.sock_diag_replies.specs.Lenient.{rejection_model};
-ghost use Rattle.sock_diag_replies.specs.LenientModel.{lenient_bytes, lenient_header};
+ghost use Rattle.sock_diag_replies.specs.LenientModel.{lenient_attribute_bytes, lenient_header};
 ghost use Rattle.sock_diag_replies.specs.LenientModel.{unread_lenient_bytes};
 ghost use Rattle.sock_diag_replies.specs.declared.lenient.LenientNlas.{LenientNlas};
 ghost use Rattle.sock_diag_replies.specs.declared.lenient.LenientError.{LenientError};
@@ -27,12 +29,18 @@ use crate::lenient::{LenientError, LenientInetReply, LenientReply, LenientUnixRe
 use netlink_core::{DecodeError, FamilyView};
 use sock_diag_attributes::inet::nlas::NlaView as InetNlaView;
 use sock_diag_attributes::unix::nlas::NlaView as UnixNlaView;
+use sock_diag_records::inet::INET_RESPONSE_HEADER_LEN;
+use sock_diag_records::unix::UNIX_RESPONSE_HEADER_LEN;
 use std::alloc::AllocError;
 
 /// States which items a `LenientNlas` yields until its end: for each attribute in the bytes left,
 /// in order, its value or its error; and last the framing error, if there is one. `Drains`: `given`
 /// are all items that `next` yields until it returns `None`.
 pub fn complete_lenient_iteration<'a, V: FamilyView<'a>>()
+    // `YieldsLenientItem set model`: what one call of `next` does. `HasLenientItems set bytes
+    // items`: these are all items of the bytes. `unread_lenient_bytes walk`: the bytes that the
+    // iterator `walk` has not read yet. `lenient_item_model set model item`: the model of a yielded
+    // item.
     ensures items { (walk : LenientNlas V) (given : List (Result V LenientError))
         → Drains (YieldsLenientItem V.attribute_set V.model) walk given
         → HasLenientItems V.attribute_set (unread_lenient_bytes walk)
@@ -41,9 +49,12 @@ pub fn complete_lenient_iteration<'a, V: FamilyView<'a>>()
 
 /// States that bytes have at most one list of lenient items (`HasLenientItems`).
 pub fn one_list_of_lenient_items<'a, V: FamilyView<'a>>()
-    ensures { (bytes : List ℕ) (xs ys : List (Result (AttributeValue V.attribute_set)
-        RejectionModel)) → HasLenientItems V.attribute_set bytes xs
-        → HasLenientItems V.attribute_set bytes ys → xs ≡ ys }
+    // `HasLenientItems set bytes items`: these are all items of the bytes, in order. Any two such
+    // lists are equal.
+    ensures { (bytes : List ℕ)
+        (items others : List (Result (AttributeValue V.attribute_set) RejectionModel))
+        → HasLenientItems V.attribute_set bytes items
+        → HasLenientItems V.attribute_set bytes others → items ≡ others }
 {}
 
 /// States that a `LenientNlas` agrees with the strict views. If the bytes left have neither a
@@ -51,6 +62,11 @@ pub fn one_list_of_lenient_items<'a, V: FamilyView<'a>>()
 /// them (`strict`). If every item that it yields is a value (`map Ok views`), the bytes decode to
 /// these values (`accepted`).
 pub fn lenient_walk_of_good_bytes<'a, V: FamilyView<'a>>()
+    // `Drains (YieldsLenientItem ..) walk given`: `given` are all items that the iterator `walk`
+    // yields until its end. `map (lenient_item_model ..) given`: the models of these items.
+    // `unread_lenient_bytes walk`: the bytes that were left to it. `decoded_in decode bytes`: what
+    // the attributes in the bytes decode to, in order. `DecodeTo decode bytes values`: the bytes
+    // have no error, and decode to these values.
     ensures strict { (walk : LenientNlas V) (given : List (Result V LenientError))
         → HasNoAttributeError (decode_attribute V.attribute_set) (unread_lenient_bytes walk)
         → Drains (YieldsLenientItem V.attribute_set V.model) walk given
@@ -62,63 +78,79 @@ pub fn lenient_walk_of_good_bytes<'a, V: FamilyView<'a>>()
         (map V.model views) }
 {}
 
-/// States that a lenient reply about an IPv4 or IPv6 socket has the header of these replies,
-/// and that its attributes follow the 72 bytes of the header.
+/// Returns the lenient reply about an IPv4 or IPv6 socket that `LenientReply::parse` parses, or its
+/// error. States that it has the header of these replies, and that its attributes follow the 72
+/// bytes of the header.
 #[tactic(auto, unfolding(sock_diag_records::specs::InetResponse::inet_response_header))]
 pub fn lenient_inet_header<'a>(bytes: &'a [u8]) -> Result<LenientInetReply<'a>, DecodeError>
+    // `parse_record layout tt bytes`: the header at the start of the bytes, or the error that
+    // rejects it. `lenient_attribute_bytes lenient`: the bytes after the header.
     ensures header { IfOk result (λ lenient.
         parse_record inet_response_header tt bytes.entry.now ≡ Ok (lenient_header lenient)) }
-    ensures attributes { IfOk result (λ lenient. lenient_bytes lenient ≡ drop 72 bytes.entry.now) }
-    ensures error { IfErr result (λ e. parse_record inet_response_header tt bytes.entry.now
-        ≡ Err e) }
+    ensures attributes { IfOk result (λ lenient.
+        lenient_attribute_bytes lenient ≡ drop INET_RESPONSE_HEADER_LEN bytes.entry.now) }
+    ensures error { IfErr result (λ error.
+        parse_record inet_response_header tt bytes.entry.now ≡ Err error) }
 {
     LenientReply::parse(bytes)
 }
 
-/// States that the first item of a lenient reply about an IPv4 or IPv6 socket is that of its first
-/// attribute: its value, decoded by the attribute types of these replies, or its error. It is the
-/// framing error if the bytes after the header do not start with an attribute, and `None` if there
-/// are none. The iterator yields the other attributes by the same rule.
+/// Returns the first item of a lenient reply about an IPv4 or IPv6 socket. States that it is the
+/// item of the first attribute: its value, decoded by the attribute types of these replies, or its
+/// error. It is the framing error if the bytes after the header do not start with an attribute, and
+/// `None` if there are none. The iterator yields the other attributes by the same rule.
 pub fn lenient_inet_attribute<'a>(
     reply: &LenientInetReply<'a>,
 ) -> Option<Result<InetNlaView<'a>, LenientError<'a>>>
-    ensures { MatchOption result (lenient_bytes reply.now ≡ []) (λ item. (later : List ℕ)
-        × StartsWithLenientItem inet_attribute_set (lenient_bytes reply.now)
+    // `None`: no bytes follow the header (`lenient_attribute_bytes`). `Some(item)`: the model of
+    // `item` (`lenient_item_model`) is the first item of these bytes, and `later` are the bytes
+    // after it (`StartsWithLenientItem set left item later`).
+    ensures { MatchOption result (lenient_attribute_bytes reply.now ≡ []) (λ item. (later : List ℕ)
+        × StartsWithLenientItem inet_attribute_set (lenient_attribute_bytes reply.now)
         (lenient_item_model inet_attribute_set inet_view_model item) later) }
 {
     reply.attributes().next()
 }
 
-/// States that a lenient reply about a UNIX socket has the header of these replies,
-/// and that its attributes follow the 16 bytes of the header.
+/// Returns the lenient reply about a UNIX socket that `LenientReply::parse` parses, or its error.
+/// States that it has the header of these replies, and that its attributes follow the 16 bytes of
+/// the header.
 pub fn lenient_unix_header<'a>(bytes: &'a [u8]) -> Result<LenientUnixReply<'a>, DecodeError>
+    // `parse_record layout tt bytes`: the header at the start of the bytes, or the error that
+    // rejects it. `lenient_attribute_bytes lenient`: the bytes after the header.
     ensures header { IfOk result (λ lenient.
         parse_record unix_response_header tt bytes.entry.now ≡ Ok (lenient_header lenient)) }
-    ensures attributes { IfOk result (λ lenient. lenient_bytes lenient ≡ drop 16 bytes.entry.now) }
-    ensures error { IfErr result (λ e. parse_record unix_response_header tt bytes.entry.now
-        ≡ Err e) }
+    ensures attributes { IfOk result (λ lenient.
+        lenient_attribute_bytes lenient ≡ drop UNIX_RESPONSE_HEADER_LEN bytes.entry.now) }
+    ensures error { IfErr result (λ error.
+        parse_record unix_response_header tt bytes.entry.now ≡ Err error) }
 {
     LenientReply::parse(bytes)
 }
 
-/// States that the first item of a lenient reply about a UNIX socket is that of its first
-/// attribute: its value, decoded by the attribute types of these replies, or its error. It is the
-/// framing error if the bytes after the header do not start with an attribute, and `None` if there
-/// are none. The iterator yields the other attributes by the same rule.
+/// Returns the first item of a lenient reply about a UNIX socket. States that it is the item of the
+/// first attribute: its value, decoded by the attribute types of these replies, or its error. It is
+/// the framing error if the bytes after the header do not start with an attribute, and `None` if
+/// there are none. The iterator yields the other attributes by the same rule.
 pub fn lenient_unix_attribute<'a>(
     reply: &LenientUnixReply<'a>,
 ) -> Option<Result<UnixNlaView<'a>, LenientError<'a>>>
-    ensures { MatchOption result (lenient_bytes reply.now ≡ []) (λ item. (later : List ℕ)
-        × StartsWithLenientItem unix_attribute_set (lenient_bytes reply.now)
+    // `None`: no bytes follow the header (`lenient_attribute_bytes`). `Some(item)`: the model of
+    // `item` (`lenient_item_model`) is the first item of these bytes, and `later` are the bytes
+    // after it (`StartsWithLenientItem set left item later`).
+    ensures { MatchOption result (lenient_attribute_bytes reply.now ≡ []) (λ item. (later : List ℕ)
+        × StartsWithLenientItem unix_attribute_set (lenient_attribute_bytes reply.now)
         (lenient_item_model unix_attribute_set unix_view_model item) later) }
 {
     reply.attributes().next()
 }
 
-/// States that a copy has the same attribute and the same error, and that `clone` never fails.
-pub fn copied_lenient_error<'a>(refused: &LenientError<'a>) -> Result<LenientError<'a>, AllocError>
+/// Returns the clone of an error. States that it has the same attribute and the same error, and
+/// that `clone` never fails.
+pub fn copied_lenient_error<'a>(error: &LenientError<'a>) -> Result<LenientError<'a>, AllocError>
     ensures ok { IsOk result }
-    ensures same { IfOk result (λ copy. rejection_model copy ≡ rejection_model refused.now) }
+    // `rejection_model error`: the rejected attribute, if there is one, and the `DecodeError`.
+    ensures same { IfOk result (λ copy. rejection_model copy ≡ rejection_model error.now) }
 {
-    refused.clone()
+    error.clone()
 }

@@ -4,15 +4,15 @@
 //! This is an extension: it changes nothing of the port, and `netlink_packet_sock_diag` does not
 //! re-export it.
 
-ghost use Rattle.std.specs.Prelude.{◌≡◌, ◌+◌, ◌/◌, Ok, Err, IfOk, IfErr, IfSome, drop, length};
+ghost use Rattle.std.specs.Prelude.{◌≡◌, Ok, Err, IfOk, IfErr, IfSome, drop};
 ghost use Rattle.std.specs.Prelude.{option_map};
 ghost use Rattle.std.specs.Iterator.{UpTo, at_most};
 ghost use Rattle.std.specs.Iterator.SizeHint.{IsWithinCount};
 ghost use Rattle.netlink_core.specs.Attribute.{attribute_kind};
 ghost use Rattle.netlink_core.specs.Layout.{parse_record};
 ghost use Rattle.netlink_core.specs.Walk.{buffered_attribute};
-ghost use Rattle.sock_diag_replies.specs.LenientModel.{lenient_bytes, lenient_header};
-ghost use Rattle.sock_diag_replies.specs.LenientModel.{unread_lenient_bytes};
+ghost use Rattle.sock_diag_replies.specs.LenientModel.{lenient_attribute_bytes, lenient_header};
+ghost use Rattle.sock_diag_replies.specs.LenientModel.{max_lenient_items, unread_lenient_bytes};
 
 pub mod laws;
 
@@ -37,6 +37,8 @@ impl<'a> LenientError<'a> {
 
     /// Returns the error.
     pub fn error(&self) -> DecodeError
+        // `rejection_model error`: the model of an error. It has the `DecodeError`, and the
+        // rejected attribute.
         ensures { result ≡ (rejection_model self.now).error }
     {
         match self {
@@ -47,6 +49,8 @@ impl<'a> LenientError<'a> {
     /// Returns the rejected attribute: `kind()` is its type field without the two flag bits, and
     /// `value()` its bytes. Returns `None` for a framing error.
     pub fn attribute(&self) -> Option<NlaBuffer<'a>>
+        // `buffered_attribute nla`: the attribute in the buffer. `rejection_model error`: the model
+        // of an error, whose `attribute` is `None` for a framing error.
         ensures { option_map buffered_attribute result ≡ (rejection_model self.now).attribute }
     {
         match self {
@@ -58,6 +62,8 @@ impl<'a> LenientError<'a> {
     /// Returns the kind of the rejected attribute, its type field without the two flag bits, or
     /// `None` for a framing error.
     pub fn kind(&self) -> Option<u16>
+        // `rejection_model error`: the model of an error, whose `attribute` is `None` for a framing
+        // error. `attribute_kind attribute`: its type field without the two flag bits.
         ensures { result ≡ option_map attribute_kind (rejection_model self.now).attribute }
     {
         match self {
@@ -80,6 +86,7 @@ pub struct LenientNlas<'a, V> {
 impl<'a, V> LenientNlas<'a, V> {
     /// Returns an iterator over the attributes in the bytes.
     pub fn new(bytes: &'a [u8]) -> LenientNlas<'a, V>
+        // `unread_lenient_bytes result`: the bytes that the iterator has not read yet.
         ensures { unread_lenient_bytes result ≡ bytes.entry.now }
     {
         LenientNlas {
@@ -99,8 +106,8 @@ impl<'a, V: FamilyView<'a>> Iterator for LenientNlas<'a, V> {
     // leaves no bytes.
     ghost next_gives = { YieldsLenientItem V.attribute_set V.model };
 
-    // At most one item for each four bytes, rounded up.
-    ghost remaining = { λ nlas. at_most ((length (unread_lenient_bytes nlas) + 3) / 4) };
+    // `max_lenient_items nlas`: one item for each four bytes, rounded up.
+    ghost remaining = { λ nlas. at_most (max_lenient_items nlas) };
 
     #[inline(always)]
     fn next(&mut self) -> Option<Result<V, LenientError<'a>>> {
@@ -116,11 +123,12 @@ impl<'a, V: FamilyView<'a>> Iterator for LenientNlas<'a, V> {
 
     /// Returns `(0, None)`: the number of attributes left is not computed in advance.
     fn size_hint(&self) -> (usize, Option<usize>)
-        ensures lower { IsWithinCount result.0
-            (at_most ((length (unread_lenient_bytes self.now) + 3) / 4)) }
-        ensures upper { IfSome result.1
-            (UpTo (at_most ((length (unread_lenient_bytes self.now) + 3) / 4))) }
         ensures unknown { result ≡ (0, None) }
+        // The clauses of the trait follow from `unknown`: the lower bound is at most the number of
+        // items (`IsWithinCount`), and the upper one, if there is one, at least this number
+        // (`UpTo`). `at_most n`: of this number only the bound `n` is known.
+        ensures lower { IsWithinCount result.0 (at_most (max_lenient_items self.now)) }
+        ensures upper { IfSome result.1 (UpTo (at_most (max_lenient_items self.now))) }
     {
         (0, None)
     }
@@ -162,21 +170,24 @@ pub type LenientUnixReply<'a> = LenientReply<'a, UnixResponseHeader>;
 
 impl<'a, H: LenientHeader<'a>> LenientReply<'a, H> {
     /// Parses the header at the start of the bytes, or returns the error with which it is rejected.
-    /// The bytes after it are the attributes. They are not parsed until they are iterated over. It
-    /// does not allocate.
+    /// The bytes after it are the attributes. They are not parsed until they are iterated over.
+    /// Does not allocate.
     #[tactic(auto, using(netlink_core::proofs::LayoutLaws::parsed_by_fields))]
     pub fn parse(bytes: &'a [u8]) -> Result<LenientReply<'a, H>, DecodeError>
+        // `parse_record layout tt bytes`: the header at the start of the bytes, or the error that
+        // rejects it. `H.layout`: the layout of the header.
         ensures header { IfOk result (λ lenient.
             parse_record H.layout tt bytes.entry.now ≡ Ok (lenient_header lenient)) }
-        // H.layout.least: the length of the header in bytes.
+        // `H.layout.least`: the length of the header in bytes.
         ensures following { IfOk result (λ lenient.
-            lenient_bytes lenient ≡ drop H.layout.least bytes.entry.now) }
+            lenient_attribute_bytes lenient ≡ drop H.layout.least bytes.entry.now) }
         ensures error { IfErr result (λ error. parse_record H.layout tt bytes.entry.now
             ≡ Err error) }
     {
         let header = read_record::<H>(bytes, ())?;
-        let (_, least) = H::name_and_least();
-        let bytes = &bytes[least..];
+        // The ignored part is the name of the record.
+        let (_, header_len) = H::name_and_least();
+        let bytes = &bytes[header_len..];
         Ok(LenientReply { header, bytes })
     }
 
@@ -189,7 +200,9 @@ impl<'a, H: LenientHeader<'a>> LenientReply<'a, H> {
 
     /// Returns an iterator over the attributes, in order. It yields the view or the error of each.
     pub fn attributes(&self) -> LenientNlas<'a, H::View>
-        ensures { unread_lenient_bytes result ≡ lenient_bytes self.now }
+        // The iterator has not read anything yet: the bytes left to it are those after the header
+        // (`lenient_attribute_bytes`).
+        ensures { unread_lenient_bytes result ≡ lenient_attribute_bytes self.now }
     {
         LenientNlas::new(self.bytes)
     }

@@ -1,6 +1,6 @@
 //! Getters for the attributes of an owned reply about a UNIX socket.
 
-ghost use Rattle.std.specs.Prelude.{◌≡◌, if◌then◌else◌, None, IsSome, option_map};
+ghost use Rattle.std.specs.Prelude.{◌≡◌, None, IsSome, option_map};
 ghost use Rattle.std.specs.Prelude.{option_copied, vec_items, map};
 ghost use Rattle.netlink_core.specs.AttributeSet.{value_of_kind};
 ghost use Rattle.sock_diag_attributes.specs.UnixAttributes.{unix_attribute_set};
@@ -40,8 +40,9 @@ impl UnixResponse {
     /// Returns the name of the socket: the value of the first `Name` (`UNIX_DIAG_NAME`). Returns
     /// `None` if there is no such attribute.
     pub fn name(&self) -> Option<&UnixDiagName>
-        // `option_copied result`: the name that the returned reference points to.
-        // `socket_name_model vec_items`: a name with its `Vec` of bytes as a list.
+        // `first_content_of (value_of_kind set kind) nlas`: the value of the first attribute of
+        // this kind, or `None`. `option_copied result`: the name that the returned reference points
+        // to. `socket_name_model vec_items`: a name with its `Vec` of bytes as a list.
         ensures { option_map (socket_name_model vec_items) (option_copied result)
             ≡ first_content_of (value_of_kind unix_attribute_set UNIX_DIAG_NAME)
             (map unix_nla_model self.now.nlas.items) }
@@ -55,7 +56,9 @@ impl UnixResponse {
     /// Returns the inodes of the connections that wait to be accepted: the value of the first
     /// `PendingConnections` (`UNIX_DIAG_ICONS`). Returns `None` if there is no such attribute.
     pub fn pending_connections(&self) -> Option<&[u32]>
-        // `option_copied result`: the numbers that the returned reference points to.
+        // `first_content_of (value_of_kind set kind) nlas`: the value of the first attribute of
+        // this kind, or `None`. `option_copied result`: the numbers that the returned reference
+        // points to.
         ensures { option_copied result
             ≡ first_content_of (value_of_kind unix_attribute_set UNIX_DIAG_ICONS)
             (map unix_nla_model self.now.nlas.items) }
@@ -70,6 +73,8 @@ impl UnixResponse {
     /// both): the value of the first `Shutdown` (`UNIX_DIAG_SHUTDOWN`). Returns `None` if there is
     /// no such attribute.
     pub fn shutdown_state(&self) -> Option<u8>
+        // `first_content_of (value_of_kind set kind) nlas`: the value of the first attribute of
+        // this kind, or `None`.
         ensures { result
             ≡ first_content_of (value_of_kind unix_attribute_set UNIX_DIAG_SHUTDOWN)
             (map unix_nla_model self.now.nlas.items) }
@@ -85,6 +90,7 @@ impl UnixResponse {
     ghost use Rattle.sock_diag_replies.specs.ResponseModel.{response_model};
     ghost use Rattle.sock_diag_replies.specs.UnixGetters.{listening_queue_of};
     ghost use Rattle.sock_diag_replies.specs.UnixGetters.{nonlistening_queue_of};
+    ghost use Rattle.sock_diag_replies.specs.UnixGetters.{udiag_rqueue, udiag_wqueue};
 
     /// Returns the number of connections that wait to be accepted: the first number of the first
     /// `ReceiveQueueLength` (`udiag_rqueue` of `unix_diag_rqlen`). Returns `None` if the socket
@@ -96,14 +102,15 @@ impl UnixResponse {
         // `response_model (λ h. h) unix_nla_model self.now`: the reply with its header unchanged
         // and the models of its attributes. `listening_queue_of`: both numbers of its first
         // `ReceiveQueueLength` if its state is `TCP_LISTEN`, else `None`.
-        ensures value { result ≡ option_map (λ ns. ns.0)
+        ensures value { result ≡ option_map udiag_rqueue
             (listening_queue_of (response_model (λ h. h) unix_nla_model self.now)) }
         // `nonlistening_queue_of`: both numbers if the state is not `TCP_LISTEN`, else `None`. The
-        // getters `receive_queue_size` and `send_queue_size` return its first and second number.
+        // getters `receive_queue_size` and `send_queue_size` return its first and second number,
+        // `udiag_rqueue` and `udiag_wqueue`.
         ensures alone { IsSome result
             → nonlistening_queue_of (response_model (λ h. h) unix_nla_model self.now) ≡ None }
     {
-        let (waiting, _) = self.queue_where(true)?;
+        let (waiting, _) = self.listening_queue()?;
         Some(waiting)
     }
 
@@ -111,36 +118,54 @@ impl UnixResponse {
     /// first `ReceiveQueueLength` (`udiag_wqueue` of `unix_diag_rqlen`). Returns `None` if the
     /// socket does not listen (its state is not `TCP_LISTEN`), or if there is no such attribute.
     pub fn max_number_of_pending_connection(&self) -> Option<u32>
-        ensures { result ≡ option_map (λ ns. ns.1)
+        // `response_model (λ h. h) unix_nla_model self.now`: the model of the reply.
+        // `listening_queue_of reply`: both numbers of its first `ReceiveQueueLength` if its state
+        // is `TCP_LISTEN`, else `None`. `udiag_wqueue`: the second one.
+        ensures { result ≡ option_map udiag_wqueue
             (listening_queue_of (response_model (λ h. h) unix_nla_model self.now)) }
     {
-        let (_, limit) = self.queue_where(true)?;
+        let (_, limit) = self.listening_queue()?;
         Some(limit)
     }
 
-    // Returns the value of the first `ReceiveQueueLength` (`UNIX_DIAG_RQLEN`).
+    // Returns both numbers of the first `ReceiveQueueLength` (`UNIX_DIAG_RQLEN`), or `None` if
+    // there is no such attribute.
     fn queue(&self) -> Option<(u32, u32)>
+        // `first_content_of (value_of_kind set kind) nlas`: the value of the first attribute of
+        // this kind, or `None`.
         ensures { result
             ≡ first_content_of (value_of_kind unix_attribute_set UNIX_DIAG_RQLEN)
             (map unix_nla_model self.now.nlas.items) }
     {
         self.nlas.as_slice().iter().find_map(|nla| match nla {
-            Nla::ReceiveQueueLength(first, second) => Some((*first, *second)),
+            Nla::ReceiveQueueLength(rqueue, wqueue) => Some((*rqueue, *wqueue)),
             _ => None,
         })
     }
 
-    // Returns the queue lengths if the socket listens and `listens` is true, or if the socket does
-    // not listen and `listens` is false. Returns `None` otherwise.
-    fn queue_where(&self, listens: bool) -> Option<(u32, u32)>
-        ensures { result ≡ if listens
-            then listening_queue_of (response_model (λ h. h) unix_nla_model self.now)
-            else nonlistening_queue_of (response_model (λ h. h) unix_nla_model self.now) }
+    // Returns both numbers of the first `ReceiveQueueLength` if the socket listens. Returns `None`
+    // if it does not, or if there is no such attribute.
+    fn listening_queue(&self) -> Option<(u32, u32)>
+        // `listening_queue_of reply`: both numbers, or `None`, from the model of the reply.
+        ensures { result ≡ listening_queue_of (response_model (λ h. h) unix_nla_model self.now) }
     {
-        if (self.header.state == TCP_LISTEN) == listens {
+        if self.header.state == TCP_LISTEN {
             self.queue()
         } else {
             None
+        }
+    }
+
+    // Returns both numbers of the first `ReceiveQueueLength` if the socket does not listen. Returns
+    // `None` if it does, or if there is no such attribute.
+    fn nonlistening_queue(&self) -> Option<(u32, u32)>
+        // `nonlistening_queue_of reply`: both numbers, or `None`, from the model of the reply.
+        ensures { result ≡ nonlistening_queue_of (response_model (λ h. h) unix_nla_model self.now) }
+    {
+        if self.header.state == TCP_LISTEN {
+            None
+        } else {
+            self.queue()
         }
     }
 
@@ -148,10 +173,13 @@ impl UnixResponse {
     /// `ReceiveQueueLength` (`udiag_rqueue` of `unix_diag_rqlen`). Returns `None` if the socket
     /// listens (its state is `TCP_LISTEN`), or if there is no such attribute.
     pub fn receive_queue_size(&self) -> Option<u32>
-        ensures { result ≡ option_map (λ ns. ns.0)
+        // `response_model (λ h. h) unix_nla_model self.now`: the model of the reply.
+        // `nonlistening_queue_of reply`: both numbers of its first `ReceiveQueueLength` if its
+        // state is not `TCP_LISTEN`, else `None`. `udiag_rqueue`: the first one.
+        ensures { result ≡ option_map udiag_rqueue
             (nonlistening_queue_of (response_model (λ h. h) unix_nla_model self.now)) }
     {
-        let (received, _) = self.queue_where(false)?;
+        let (received, _) = self.nonlistening_queue()?;
         Some(received)
     }
 
@@ -159,10 +187,13 @@ impl UnixResponse {
     /// first `ReceiveQueueLength` (`udiag_wqueue` of `unix_diag_rqlen`). Returns `None` if the
     /// socket listens (its state is `TCP_LISTEN`), or if there is no such attribute.
     pub fn send_queue_size(&self) -> Option<u32>
-        ensures { result ≡ option_map (λ ns. ns.1)
+        // `response_model (λ h. h) unix_nla_model self.now`: the model of the reply.
+        // `nonlistening_queue_of reply`: both numbers of its first `ReceiveQueueLength` if its
+        // state is not `TCP_LISTEN`, else `None`. `udiag_wqueue`: the second one.
+        ensures { result ≡ option_map udiag_wqueue
             (nonlistening_queue_of (response_model (λ h. h) unix_nla_model self.now)) }
     {
-        let (_, sent) = self.queue_where(false)?;
+        let (_, sent) = self.nonlistening_queue()?;
         Some(sent)
     }
 }
@@ -172,6 +203,8 @@ impl UnixResponse {
     /// `max_datagram_size` of the first `MemInfo` (`SK_MEMINFO_SNDBUF` of `UNIX_DIAG_MEMINFO`).
     /// Returns `None` if there is no such attribute.
     pub fn max_datagram_size(&self) -> Option<u32>
+        // `first_content_of (value_of_kind ..) ..`: the value of the first `MemInfo`, or `None`.
+        // `option_map` takes its field.
         ensures { result ≡ option_map (λ info. info.max_datagram_size)
             (first_content_of (value_of_kind unix_attribute_set UNIX_DIAG_MEMINFO)
             (map unix_nla_model self.now.nlas.items)) }
@@ -183,6 +216,8 @@ impl UnixResponse {
     /// `UNIX_DIAG_MEMINFO`): the memory of the data that is queued to be sent, in bytes. Linux
     /// reports 0 here for a UNIX socket. Returns `None` if there is no such attribute.
     pub fn memory_used_for_outgoing_data(&self) -> Option<u32>
+        // `first_content_of (value_of_kind ..) ..`: the value of the first `MemInfo`, or `None`.
+        // `option_map` takes its field.
         ensures { result ≡ option_map (λ info. info.alloc)
             (first_content_of (value_of_kind unix_attribute_set UNIX_DIAG_MEMINFO)
             (map unix_nla_model self.now.nlas.items)) }
@@ -190,8 +225,11 @@ impl UnixResponse {
         Some(self.memory()?.alloc)
     }
 
-    // Returns the value of the first `MemInfo` (`UNIX_DIAG_MEMINFO`).
+    // Returns the value of the first `MemInfo` (`UNIX_DIAG_MEMINFO`), or `None` if there is no such
+    // attribute.
     fn memory(&self) -> Option<MemInfo>
+        // `first_content_of (value_of_kind set kind) nlas`: the value of the first attribute of
+        // this kind, or `None`.
         ensures { result
             ≡ first_content_of (value_of_kind unix_attribute_set UNIX_DIAG_MEMINFO)
             (map unix_nla_model self.now.nlas.items) }

@@ -4,11 +4,9 @@ ghost use Rattle.std.specs.Prelude.{refl};
 ghost use Rattle.netlink_core.proofs.Responses.{reply_codec_laws};
 ghost use Rattle.sock_diag_replies.specs.UnixResponseSpec.{unix_response_spec};
 ghost use Rattle.sock_diag_replies.specs.laws.UnixResponseSpec.{unix_header_bytes_suffice};
+ghost use Rattle.sock_diag_replies.specs.laws.UnixResponseSpec.{unix_header_equal};
 ghost use Rattle.sock_diag_replies.specs.laws.UnixResponseSpec.{unix_response_laws};
 ghost use Rattle.sock_diag_replies.specs.laws.UnixResponseSpec.{unix_test, unix_test_decides};
-ghost use Rattle.sock_diag_records.specs.contracts.unix.response.UnixResponseHeaderExact.TheImpl.Laws.{
-  exact-law as exact_header,
-};
 
 use crate::reply::{check_reply_len, emit_reply_view, reply_view_len, same_views};
 use crate::response::{Reply, ReplyOwned};
@@ -77,7 +75,7 @@ impl ReplyHeader for UnixResponseHeader {
         emit_reply_view::<_, NlaView<'_>>(self, bytes, buffer);
     }
 
-    ghost enough = { unix_header_bytes_suffice };
+    ghost complete_header = { unix_header_bytes_suffice };
 
     ghost keeps = { reply_codec_laws unix_response_spec unix_response_laws };
 
@@ -87,7 +85,10 @@ impl ReplyHeader for UnixResponseHeader {
 impl<'a> ReplyViews<'a> for UnixResponseHeader {
     type View = NlaView<'a>;
 
-    ghost same = { (λ _. (λ h. h, λ h. h), λ _. refl) };
+    // The views have the attribute set of the replies, so both properties hold by definition.
+    ghost accepts_same = { λ _. (λ h. h, λ h. h) };
+
+    ghost counts_same = { λ _. refl };
 }
 
 impl ReplyOwned for UnixResponseHeader {
@@ -95,15 +96,23 @@ impl ReplyOwned for UnixResponseHeader {
 
     const REPLY: &'static str = "UnixResponse";
 
-    ghost eq_is_model = { exact_header.0 };
+    ghost eq_is_model = { unix_header_equal };
 
+    // The model of a header is the header itself, and the owned attributes have the attribute set
+    // of the borrowed ones. So all properties up to `same_attributes` hold by definition.
     ghost bytes_by_codec = { λ _. refl };
 
     ghost always_writable = { λ _. tt };
 
-    ghost in_range_by_codec = { λ _ h. h };
+    ghost in_range_by_codec = { λ _ in_range. in_range };
 
-    ghost same = { (λ _ _ h. h, λ _ h. h, λ _. refl, λ _. refl) };
+    ghost same_errors = { λ _ _ error. error };
+
+    ghost both_accept = { λ _ valid. valid };
+
+    ghost same_count = { λ _. refl };
+
+    ghost same_attributes = { λ _. refl };
 
     ghost keeps = { reply_codec_laws unix_response_spec unix_response_laws };
 }

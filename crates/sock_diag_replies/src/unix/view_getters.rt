@@ -1,6 +1,6 @@
 //! Getters for the attributes of a borrowed reply about a UNIX socket.
 
-ghost use Rattle.std.specs.Prelude.{◌≡◌, if◌then◌else◌, None, IsSome, option_map};
+ghost use Rattle.std.specs.Prelude.{◌≡◌, None, IsSome, option_map};
 ghost use Rattle.sock_diag_attributes.specs.NameModel.{socket_name_model};
 ghost use Rattle.sock_diag_attributes.specs.NumbersModel.{numbers_view_model};
 ghost use Rattle.sock_diag_records.specs.declared.constants.TheConstants.{UNIX_DIAG_ICONS};
@@ -44,7 +44,9 @@ impl<'a> UnixResponseView<'a> {
     /// Returns the name of the socket: the value of the first `Name` (`UNIX_DIAG_NAME`). Returns
     /// `None` if there is no such attribute.
     pub fn name(&self) -> Option<NameView<'a>>
-        // `socket_name_model (λ b. b.now)`: a name with its borrowed bytes as a list.
+        // `first_content_of (value_of_kind set kind) nlas`: the value of the first attribute of
+        // this kind, or `None`. `socket_name_model (λ b. b.now)`: a name with its borrowed bytes as
+        // a list.
         ensures { option_map (socket_name_model (λ b. b.now)) result
             ≡ first_content_of (value_of_kind unix_attribute_set UNIX_DIAG_NAME)
             (unix_response_view_model self.now).nlas }
@@ -58,7 +60,8 @@ impl<'a> UnixResponseView<'a> {
     /// Returns the inodes of the connections that wait to be accepted: the value of the first
     /// `PendingConnections` (`UNIX_DIAG_ICONS`). Returns `None` if there is no such attribute.
     pub fn pending_connections(&self) -> Option<NumbersView<'a>>
-        // `numbers_view_model`: the numbers of the borrowed list.
+        // `first_content_of (value_of_kind set kind) nlas`: the value of the first attribute of
+        // this kind, or `None`. `numbers_view_model`: the numbers of the borrowed list.
         ensures { option_map numbers_view_model result
             ≡ first_content_of (value_of_kind unix_attribute_set UNIX_DIAG_ICONS)
             (unix_response_view_model self.now).nlas }
@@ -73,6 +76,8 @@ impl<'a> UnixResponseView<'a> {
     /// both): the value of the first `Shutdown` (`UNIX_DIAG_SHUTDOWN`). Returns `None` if there is
     /// no such attribute.
     pub fn shutdown_state(&self) -> Option<u8>
+        // `first_content_of (value_of_kind set kind) nlas`: the value of the first attribute of
+        // this kind, or `None`.
         ensures { result
             ≡ first_content_of (value_of_kind unix_attribute_set UNIX_DIAG_SHUTDOWN)
             (unix_response_view_model self.now).nlas }
@@ -91,6 +96,7 @@ impl<'a> UnixResponseView<'a> {
     };
     ghost use Rattle.sock_diag_replies.specs.UnixGetters.{listening_queue_of};
     ghost use Rattle.sock_diag_replies.specs.UnixGetters.{nonlistening_queue_of};
+    ghost use Rattle.sock_diag_replies.specs.UnixGetters.{udiag_rqueue, udiag_wqueue};
 
     /// Returns the number of connections that wait to be accepted: the first number of the first
     /// `ReceiveQueueLength` (`udiag_rqueue` of `unix_diag_rqlen`). Returns `None` if the socket
@@ -101,14 +107,15 @@ impl<'a> UnixResponseView<'a> {
     pub fn number_of_pending_connection(&self) -> Option<u32>
         // `listening_queue_of`: both numbers of the first `ReceiveQueueLength` of a reply if its
         // state is `TCP_LISTEN`, else `None`.
-        ensures value { result ≡ option_map (λ ns. ns.0)
+        ensures value { result ≡ option_map udiag_rqueue
             (listening_queue_of (unix_response_view_model self.now)) }
         // `nonlistening_queue_of`: both numbers if the state is not `TCP_LISTEN`, else `None`. The
-        // getters `receive_queue_size` and `send_queue_size` return its first and second number.
+        // getters `receive_queue_size` and `send_queue_size` return its first and second number,
+        // `udiag_rqueue` and `udiag_wqueue`.
         ensures alone { IsSome result → nonlistening_queue_of (unix_response_view_model self.now)
             ≡ None }
     {
-        let (waiting, _) = self.queue_where(true)?;
+        let (waiting, _) = self.listening_queue()?;
         Some(waiting)
     }
 
@@ -116,35 +123,53 @@ impl<'a> UnixResponseView<'a> {
     /// first `ReceiveQueueLength` (`udiag_wqueue` of `unix_diag_rqlen`). Returns `None` if the
     /// socket does not listen (its state is not `TCP_LISTEN`), or if there is no such attribute.
     pub fn max_number_of_pending_connection(&self) -> Option<u32>
-        ensures { result ≡ option_map (λ ns.
-            ns.1) (listening_queue_of (unix_response_view_model self.now)) }
+        // `listening_queue_of reply`: both numbers of its first `ReceiveQueueLength` if its state
+        // is `TCP_LISTEN`, else `None`. `udiag_wqueue`: the second one.
+        ensures { result ≡ option_map udiag_wqueue
+            (listening_queue_of (unix_response_view_model self.now)) }
     {
-        let (_, limit) = self.queue_where(true)?;
+        let (_, limit) = self.listening_queue()?;
         Some(limit)
     }
 
-    // Returns the value of the first `ReceiveQueueLength` (`UNIX_DIAG_RQLEN`).
+    // Returns both numbers of the first `ReceiveQueueLength` (`UNIX_DIAG_RQLEN`), or `None` if
+    // there is no such attribute.
     fn queue(&self) -> Option<(u32, u32)>
+        // `first_content_of (value_of_kind set kind) nlas`: the value of the first attribute of
+        // this kind, or `None`.
         ensures { result
             ≡ first_content_of (value_of_kind unix_attribute_set UNIX_DIAG_RQLEN)
             (unix_response_view_model self.now).nlas }
     {
         self.attributes().find_map(|nla| match nla {
-            NlaView::ReceiveQueueLength(first, second) => Some((first, second)),
+            NlaView::ReceiveQueueLength(rqueue, wqueue) => Some((rqueue, wqueue)),
             _ => None,
         })
     }
 
-    // Returns the queue lengths if the socket listens and `listens` is true, or if the socket does
-    // not listen and `listens` is false. Returns `None` otherwise.
-    fn queue_where(&self, listens: bool) -> Option<(u32, u32)>
-        ensures { result ≡ if listens then listening_queue_of (unix_response_view_model self.now)
-            else nonlistening_queue_of (unix_response_view_model self.now) }
+    // Returns both numbers of the first `ReceiveQueueLength` if the socket listens. Returns `None`
+    // if it does not, or if there is no such attribute.
+    fn listening_queue(&self) -> Option<(u32, u32)>
+        // `listening_queue_of reply`: both numbers, or `None`, from the model of the reply.
+        ensures { result ≡ listening_queue_of (unix_response_view_model self.now) }
     {
-        if (self.header().state == TCP_LISTEN) == listens {
+        if self.header().state == TCP_LISTEN {
             self.queue()
         } else {
             None
+        }
+    }
+
+    // Returns both numbers of the first `ReceiveQueueLength` if the socket does not listen. Returns
+    // `None` if it does, or if there is no such attribute.
+    fn nonlistening_queue(&self) -> Option<(u32, u32)>
+        // `nonlistening_queue_of reply`: both numbers, or `None`, from the model of the reply.
+        ensures { result ≡ nonlistening_queue_of (unix_response_view_model self.now) }
+    {
+        if self.header().state == TCP_LISTEN {
+            None
+        } else {
+            self.queue()
         }
     }
 
@@ -152,10 +177,12 @@ impl<'a> UnixResponseView<'a> {
     /// `ReceiveQueueLength` (`udiag_rqueue` of `unix_diag_rqlen`). Returns `None` if the socket
     /// listens (its state is `TCP_LISTEN`), or if there is no such attribute.
     pub fn receive_queue_size(&self) -> Option<u32>
-        ensures { result ≡ option_map (λ ns.
-            ns.0) (nonlistening_queue_of (unix_response_view_model self.now)) }
+        // `nonlistening_queue_of reply`: both numbers of its first `ReceiveQueueLength` if its
+        // state is not `TCP_LISTEN`, else `None`. `udiag_rqueue`: the first one.
+        ensures { result ≡ option_map udiag_rqueue
+            (nonlistening_queue_of (unix_response_view_model self.now)) }
     {
-        let (received, _) = self.queue_where(false)?;
+        let (received, _) = self.nonlistening_queue()?;
         Some(received)
     }
 
@@ -163,10 +190,12 @@ impl<'a> UnixResponseView<'a> {
     /// first `ReceiveQueueLength` (`udiag_wqueue` of `unix_diag_rqlen`). Returns `None` if the
     /// socket listens (its state is `TCP_LISTEN`), or if there is no such attribute.
     pub fn send_queue_size(&self) -> Option<u32>
-        ensures { result ≡ option_map (λ ns.
-            ns.1) (nonlistening_queue_of (unix_response_view_model self.now)) }
+        // `nonlistening_queue_of reply`: both numbers of its first `ReceiveQueueLength` if its
+        // state is not `TCP_LISTEN`, else `None`. `udiag_wqueue`: the second one.
+        ensures { result ≡ option_map udiag_wqueue
+            (nonlistening_queue_of (unix_response_view_model self.now)) }
     {
-        let (_, sent) = self.queue_where(false)?;
+        let (_, sent) = self.nonlistening_queue()?;
         Some(sent)
     }
 }
@@ -181,6 +210,8 @@ impl<'a> UnixResponseView<'a> {
     /// `max_datagram_size` of the first `MemInfo` (`SK_MEMINFO_SNDBUF` of `UNIX_DIAG_MEMINFO`).
     /// Returns `None` if there is no such attribute.
     pub fn max_datagram_size(&self) -> Option<u32>
+        // `first_content_of (value_of_kind ..) ..`: the value of the first `MemInfo`, or `None`.
+        // `option_map` takes its field.
         ensures { result ≡ option_map (λ info. info.max_datagram_size)
             (first_content_of (value_of_kind unix_attribute_set UNIX_DIAG_MEMINFO)
             (unix_response_view_model self.now).nlas) }
@@ -192,6 +223,8 @@ impl<'a> UnixResponseView<'a> {
     /// `UNIX_DIAG_MEMINFO`): the memory of the data that is queued to be sent, in bytes. Linux
     /// reports 0 here for a UNIX socket. Returns `None` if there is no such attribute.
     pub fn memory_used_for_outgoing_data(&self) -> Option<u32>
+        // `first_content_of (value_of_kind ..) ..`: the value of the first `MemInfo`, or `None`.
+        // `option_map` takes its field.
         ensures { result ≡ option_map (λ info. info.alloc)
             (first_content_of (value_of_kind unix_attribute_set UNIX_DIAG_MEMINFO)
             (unix_response_view_model self.now).nlas) }
@@ -199,8 +232,11 @@ impl<'a> UnixResponseView<'a> {
         Some(self.memory()?.alloc)
     }
 
-    // Returns the value of the first `MemInfo` (`UNIX_DIAG_MEMINFO`).
+    // Returns the value of the first `MemInfo` (`UNIX_DIAG_MEMINFO`), or `None` if there is no such
+    // attribute.
     fn memory(&self) -> Option<MemInfo>
+        // `first_content_of (value_of_kind set kind) nlas`: the value of the first attribute of
+        // this kind, or `None`.
         ensures { result
             ≡ first_content_of (value_of_kind unix_attribute_set UNIX_DIAG_MEMINFO)
             (unix_response_view_model self.now).nlas }

@@ -12,4 +12,4 @@ use Rattle.netlink_packet_sock_diag.proofs.laws.equal_payload_views.Goals as goa
 pub returns : goal.returns
 returns c = rw c.eq.ensures (payload_equal (view.the_row (record { mir = named 0; lft = [] }))
     (ShrSlice (named 0) [] u8) _ _ (λ b. b.now) message_view_model
-    (λ x y. bytes_decides x.now y.now) view_equal c.args.v.now c.args.w.now)
+    (λ x y. bytes_decides x.now y.now) view_equal c.args.left.now c.args.right.now)

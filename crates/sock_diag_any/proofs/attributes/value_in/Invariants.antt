@@ -9,8 +9,8 @@ use Rattle.sock_diag_any.proofs.attributes.value_in.Given as goal
 -- The first value of the kind in the bytes left is the first value of the kind in the whole reply.
 abbrev pub invariant-loop-nla : goal.invariant-loop-nla
 invariant-loop-nla g l =
-    first_value_of_kind l.kind (decoded_in (decode_attribute []) (unread_bytes l.views.walk))
+    first_value_of_kind l.kind (decoded_in (decode_attribute []) (unread_bytes l.nlas.walk))
     ≡ first_value_of_kind l.kind (view_model l.reply).nlas
 
 abbrev pub decreases-loop-nla : goal.decreases-loop-nla
-decreases-loop-nla g l = length (decoded_in (decode_attribute []) (unread_bytes l.views.walk))
+decreases-loop-nla g l = length (decoded_in (decode_attribute []) (unread_bytes l.nlas.walk))

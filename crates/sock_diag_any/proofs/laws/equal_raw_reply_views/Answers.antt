@@ -6,4 +6,4 @@ use Rattle.sock_diag_any.proofs.laws.equal_raw_reply_views.Goals as goal
 pub returns : goal.returns
 returns g c =
     rw c.eq.ensures (response_test_decides _ [] tt g.met.H.Exact.exact.0
-    (view_model c.args.v.now) (view_model c.args.w.now))
+    (view_model c.args.left.now) (view_model c.args.right.now))

@@ -11,15 +11,15 @@ invariant-loop-view g l =
     let F = g.V.FamilyView.attribute_set in
     let values = decoded_in (decode_attribute F) in
     record {
-      left : HasNoAttributeError (decode_attribute F) (unread_bytes l.walk);
-      right : HasNoAttributeError (decode_attribute F) (unread_bytes l.others);
+      left : HasNoAttributeError (decode_attribute F) (unread_bytes l.left_nlas);
+      right : HasNoAttributeError (decode_attribute F) (unread_bytes l.right_nlas);
       same : (test : AttributeValue F → AttributeValue F → Bool)
           → ((v w : g.row.V.Denot) → g.V.PartialEq.eq v w
           ≡ test (g.V.FamilyView.model v) (g.V.FamilyView.model w))
-          → pointwise test (values (unread_bytes l.walk)) (values (unread_bytes l.others))
+          → pointwise test (values (unread_bytes l.left_nlas)) (values (unread_bytes l.right_nlas))
           ≡ pointwise test (values l.left) (values l.right);
     }
 
 abbrev pub decreases-loop-view : goal.decreases-loop-view
 decreases-loop-view g l = length (decoded_in (decode_attribute g.V.FamilyView.attribute_set)
-    (unread_bytes l.walk))
+    (unread_bytes l.left_nlas))

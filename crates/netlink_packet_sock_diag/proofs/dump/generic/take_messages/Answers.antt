@@ -31,40 +31,44 @@ pub loop-item-preserved-in-1 : goal.loop-item-preserved-in-1
 loop-item-preserved-in-1 g c =
     let start = rw c.in_ok-header.was at c.in-Some.ensures.steps in
     let head = start.1 in
-    let told = g.met.I.DumpEntry.laws.carries c.in_ok-header.message.now c.in_ok-header.header in
+    let is_item = g.met.I.DumpEntry.laws.payload_is_item c.in_ok-header.message.now
+    c.in_ok-header.header in
     rw append-nil at (message_does_not_end_dump
     (reading_next_message c.loop-item.invariant (Ok Noop) start.0 head
-    (told Noop head c.in-1.is) c.interrupted_by.ensures) refl)
+    (is_item Noop head c.in-1.is) c.interrupted_by.ensures) refl)
 
 pub returns-in-2 : goal.returns-in-2
 returns-in-2 g c =
     let start = rw c.in_ok-header.was at c.in-Some.ensures.steps in
     let head = start.1 in
     let whole = payload_after_header c.in_ok-header.message.now c.in_ok-header.header start.2 in
-    let told = g.met.I.DumpEntry.laws.carries c.in_ok-header.message.now c.in_ok-header.header in
+    let is_item = g.met.I.DumpEntry.laws.payload_is_item c.in_ok-header.message.now
+    c.in_ok-header.header in
     message_ends_dump (reading_next_message c.loop-item.invariant (Ok (Error _)) start.0 head
-    (told (Error _) head (c.in-2.is, sym whole)) c.interrupted_by.ensures)
-    g.met.I.DumpEntry.laws.some_item (rw c.error_number.ensures)
+    (is_item (Error _) head (c.in-2.is, sym whole)) c.interrupted_by.ensures)
+    g.met.I.DumpEntry.laws.has_item (rw c.error_number.ensures)
 
 pub returns-in-3 : goal.returns-in-3
 returns-in-3 g c =
     let start = rw c.in_ok-header.was at c.in-Some.ensures.steps in
     let head = start.1 in
     let whole = payload_after_header c.in_ok-header.message.now c.in_ok-header.header start.2 in
-    let told = g.met.I.DumpEntry.laws.carries c.in_ok-header.message.now c.in_ok-header.header in
+    let is_item = g.met.I.DumpEntry.laws.payload_is_item c.in_ok-header.message.now
+    c.in_ok-header.header in
     message_ends_dump (reading_next_message c.loop-item.invariant (Ok (Done _)) start.0 head
-    (told (Done _) head (c.in-3.is, sym whole)) c.interrupted_by.ensures)
-    g.met.I.DumpEntry.laws.some_item (rw c.error_number-in-3.ensures)
+    (is_item (Done _) head (c.in-3.is, sym whole)) c.interrupted_by.ensures)
+    g.met.I.DumpEntry.laws.has_item (rw c.error_number-in-3.ensures)
 
 pub returns-in-4 : goal.returns-in-4
 returns-in-4 g c =
     let start = rw c.in_ok-header.was at c.in-Some.ensures.steps in
     let head = start.1 in
     let whole = payload_after_header c.in_ok-header.message.now c.in_ok-header.header start.2 in
-    let told = g.met.I.DumpEntry.laws.carries c.in_ok-header.message.now c.in_ok-header.header in
+    let is_item = g.met.I.DumpEntry.laws.payload_is_item c.in_ok-header.message.now
+    c.in_ok-header.header in
     message_ends_dump (reading_next_message c.loop-item.invariant (Ok (Overrun _)) start.0 head
-    (told (Overrun _) head (c.in-4.is, sym whole)) c.interrupted_by.ensures)
-    g.met.I.DumpEntry.laws.some_item refl
+    (is_item (Overrun _) head (c.in-4.is, sym whole)) c.interrupted_by.ensures)
+    g.met.I.DumpEntry.laws.has_item refl
 
 pub returns-in_err-entry-in_default : goal.returns-in_err-entry-in_default
 returns-in_err-entry-in_default g c =
@@ -79,14 +83,14 @@ returns-in_err-entry-in_default g c =
     let h = c.in_ok-header.header in
     rw (p.1, p.2) (
       λ named. message_ends_dump (reading_next_message c.loop-item.invariant (Err _) start.0 head
-          (laws.refused message h _ head other
+          (laws.error_is_item message h _ head other
           (rw whole (c.in_err-entry-in_default.ensures.error named)))
-          c.interrupted_by.ensures) laws.some_item refl,
+          c.interrupted_by.ensures) laws.has_item refl,
       λ none. let m = c.in_err-entry-in_default.ensures.memory_needed none in (
         m.0,
-        message_is_rejected laws.some_item
+        message_is_rejected laws.has_item
             (reading_next_message c.loop-item.invariant (Ok (InnerMessage m.0)) start.0 head
-            (laws.carries message h (InnerMessage m.0) head (other, rw whole m.1))
+            (laws.payload_is_item message h (InnerMessage m.0) head (other, rw whole m.1))
             c.interrupted_by.ensures),
         inl m.2,
       ),
@@ -98,11 +102,12 @@ loop-item-preserved g c =
     let head = start.1 in
     let whole = payload_after_header c.in_ok-header.message.now c.in_ok-header.header start.2 in
     let other : IsInnerMessageType c.in_ok-header.header.message_type = search rules in
-    let told = g.met.I.DumpEntry.laws.carries c.in_ok-header.message.now c.in_ok-header.header in
+    let is_item = g.met.I.DumpEntry.laws.payload_is_item c.in_ok-header.message.now
+    c.in_ok-header.header in
     rw (c.push_reserved.ensures.items, c.in_ok-reserve-in_default.ensures.items, map_push)
     (message_does_not_end_dump (reading_next_message c.loop-item.invariant
     (Ok (InnerMessage _)) start.0 head
-    (told (InnerMessage _) head (other, rw whole c.in_ok-entry-in_default.ensures.value))
+    (is_item (InnerMessage _) head (other, rw whole c.in_ok-entry-in_default.ensures.value))
     c.interrupted_by.ensures)
     refl)
 
@@ -116,14 +121,14 @@ returns-in_err-reserve-in_default g c =
     let whole = payload_after_header c.in_ok-header.message.now c.in_ok-header.header start.2 in
     let other : IsInnerMessageType c.in_ok-header.header.message_type = search rules in
     let laws = g.met.I.DumpEntry.laws in
-    let told = laws.carries c.in_ok-header.message.now c.in_ok-header.header in
+    let is_item = laws.payload_is_item c.in_ok-header.message.now c.in_ok-header.header in
     rw (p.1, p.2, reserved.items) (
       λ named. absurd (named refl),
       λ _. (
         _,
-        message_is_rejected laws.some_item
+        message_is_rejected laws.has_item
             (reading_next_message c.loop-item.invariant (Ok (InnerMessage _)) start.0 head
-            (told (InnerMessage (g.I.DumpEntry.model c.in_ok-entry-in_default.entry)) head
+            (is_item (InnerMessage (g.I.DumpEntry.model c.in_ok-entry-in_default.entry)) head
             (other, rw whole c.in_ok-entry-in_default.ensures.value))
             c.interrupted_by.ensures),
         inr (omega (arith, reserved.full, reserved.err, reserved.len)),

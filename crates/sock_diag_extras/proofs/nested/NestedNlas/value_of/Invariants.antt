@@ -9,9 +9,9 @@ use Rattle.sock_diag_extras.proofs.nested.NestedNlas.value_of.Given as goal
 -- of the kind in all bytes.
 abbrev pub invariant-loop-nla : goal.invariant-loop-nla
 invariant-loop-nla l = record {
-  framed : HasNoAttributeError (decode_attribute []) (unread_bytes l.walk);
-  first : first_value_in l.kind (unread_bytes l.walk) ≡ first_value_in l.kind l.self.bytes.now;
+  framed : HasNoAttributeError (decode_attribute []) (unread_bytes l.nlas);
+  first : first_value_in l.kind (unread_bytes l.nlas) ≡ first_value_in l.kind l.self.bytes.now;
 }
 
 abbrev pub decreases-loop-nla : goal.decreases-loop-nla
-decreases-loop-nla l = length (attributes_in (unread_bytes l.walk))
+decreases-loop-nla l = length (attributes_in (unread_bytes l.nlas))

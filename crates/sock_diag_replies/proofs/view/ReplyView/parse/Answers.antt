@@ -41,7 +41,7 @@ invariant_of-result g c =
     let bytes = c.args.bytes.now in
     let part = take_rest bytes _ ∙ ap (λ (n : ℕ). drop n bytes) c.length.ensures in
     record {
-      long = g.met.H.ReplyHeader.enough c.args.bytes.now _ c.in_ok-_header.ensures.value;
+      long = g.met.H.ReplyHeader.complete_header c.args.bytes.now _ c.in_ok-_header.ensures.value;
       head = (_, c.in_ok-_header.ensures.value);
       clean = rw part at c.in_ok-count.ensures.clean;
       counted = c.in_ok-count.ensures.count
