@@ -6,7 +6,7 @@ use Rattle.std.proofs.lemmas.Bool.{cases_eq, ne_eqb}
 use Rattle.std.proofs.lemmas.List.{drop_at, length-append}
 use Rattle.netlink_core.specs.declared.error.DecodeError.{DecodeError}
 use Rattle.netlink_core.specs.declared.header.NetlinkHeader.{NetlinkHeader}
-use Rattle.netlink_core.specs.Header.{HasHeader, header_bytes}
+use Rattle.netlink_core.specs.Header.{HasHeader, header_bytes, message_payload}
 use Rattle.netlink_core.specs.laws.ReplyObligations.{IsPrefixCodec}
 use Rattle.netlink_core.proofs.Headers.{begins_with_header, one_header}
 use Rattle.netlink_core.proofs.LayoutLaws.{parsed_by_fields}
@@ -23,13 +23,13 @@ use Rattle.sock_diag_filters.specs.declared.request.RequestAttribute.{RequestAtt
 use Rattle.sock_diag_filters.specs.AnyReadBack.{IsParsedInetRequest, IsCompleteRecordRequest}
 use Rattle.sock_diag_filters.specs.AnyReadBack.{record_request_bytes}
 use Rattle.sock_diag_filters.specs.AnyRequest.{ParsesAsAnyRequest, AnyRequest, RequestedFamily}
-use Rattle.sock_diag_filters.specs.AnyRequest.{RecordFamily, IsRejectedAnyRequest}
+use Rattle.sock_diag_filters.specs.AnyRequest.{RecordFamily, RecordRequest, IsRejectedAnyRequest}
 use Rattle.sock_diag_filters.specs.AnyRequest.{family_of_request_payload, record_request_codec}
 use Rattle.sock_diag_filters.specs.AnyRequest.{family_of_message, inet, netlink, of_family, of_inet}
 use Rattle.sock_diag_filters.specs.AnyRequest.{of_record, packet, IsRejectedByRequestFamily}
 use Rattle.sock_diag_filters.specs.AnyRequest.{record_request_size, family_by_byte, unix, vsock}
 use Rattle.sock_diag_filters.specs.AnyRequest.{xdp}
-use Rattle.sock_diag_filters.specs.InetRequests.{IsRequestType, message_payload}
+use Rattle.sock_diag_filters.specs.InetRequests.{IsRequestType}
 use Rattle.sock_diag_filters.specs.ReadBack.{IsRoundTrippingRequest, serialized_request_header}
 use Rattle.sock_diag_filters.specs.Requests.{request_attribute, request_bytes}
 use Rattle.sock_diag_filters.proofs.RequestFamily.{family_by_first_byte}
@@ -78,80 +78,90 @@ family_of_first_byte packet request rest = refl
 family_of_first_byte vsock request rest = refl
 family_of_first_byte xdp request rest = refl
 
+-- a request with this header, record and bytes after it
+abbrev record_request : (family : RecordFamily) → NetlinkHeader
+    → (record_request_codec family).Value → List ℕ → RecordRequest family
+record_request family header request attributes =
+    record { header = header; request = request; attributes = attributes }
+
 has_two : (family : RecordFamily) → 2 ≤ record_request_size family
 has_two family =
     grind arith
 
-module _ (family : RecordFamily) (h : NetlinkHeader) (request : (record_request_codec family).Value)
-    (attributes : List ℕ) (whole : IsCompleteRecordRequest family h request attributes) where
+module _ (family : RecordFamily) (r : RecordRequest family)
+    (whole : IsCompleteRecordRequest r) where
   abbrev own : List ℕ
-  own = (record_request_codec family).bytes request
+  own = (record_request_codec family).bytes r.request
 
   abbrev message : List ℕ
-  message = record_request_bytes family h request attributes
+  message = record_request_bytes r
 
   long : length own ≡ record_request_size family
-  long = (record_codec_is_prefix_codec family).bytes_long request whole.in_range
+  long = (record_codec_is_prefix_codec family).bytes_long r.request whole.in_range
 
-  starts_with_record_request_header : HasHeader message h
-      × (message_payload message h ≡ own ++ attributes)
+  starts_with_record_request_header : HasHeader message r.header
+      × (message_payload message r.header ≡ own ++ r.attributes)
   starts_with_record_request_header =
-      let size : h.length ≡ 16 + length (own ++ attributes) =
-      omega (arith, whole.counted, long, length-append own attributes) in
-      subst (λ (m : List ℕ). HasHeader m h × (message_payload m h ≡ own ++ attributes))
-      (ap (λ (l : List ℕ). header_bytes h ++ l) (append-nil (own ++ attributes)))
-      (begins_with_header h (own ++ attributes) [] whole.header size)
+      let size : r.header.length ≡ 16 + length (own ++ r.attributes) =
+      omega (arith, whole.counted, long, length-append own r.attributes) in
+      subst (λ (m : List ℕ). HasHeader m r.header
+      × (message_payload m r.header ≡ own ++ r.attributes))
+      (ap (λ (l : List ℕ). header_bytes r.header ++ l) (append-nil (own ++ r.attributes)))
+      (begins_with_header r.header (own ++ r.attributes) [] whole.header size)
 
-  record_family_of_message : family_of_message message h ≡ Ok (of_record family)
+  record_family_of_message : family_of_message message r.header ≡ Ok (of_record family)
   record_family_of_message =
       let payload = starts_with_record_request_header.1 in
       let two = has_two family in
-      ap (λ (l : List ℕ). family_of_request_payload l h.message_type) payload
-      ∙ family_by_first_byte (own ++ attributes) h.message_type (Ok (of_record family))
-      (omega (arith, long, two, length-append own attributes)) whole.kind
-      (family_of_first_byte family request attributes)
+      ap (λ (l : List ℕ). family_of_request_payload l r.header.message_type) payload
+      ∙ family_by_first_byte (own ++ r.attributes) r.header.message_type (Ok (of_record family))
+      (omega (arith, long, two, length-append own r.attributes)) whole.kind
+      (family_of_first_byte family r.request r.attributes)
 
-  record_read : (record_request_codec family).parses tt (message_payload message h) ≡ Ok request
+  record_read : (record_request_codec family).parses tt (message_payload message r.header)
+      ≡ Ok r.request
   record_read = ap ((record_request_codec family).parses tt) starts_with_record_request_header.1
-      ∙ (record_codec_is_prefix_codec family).reads_as_prefix request attributes whole.in_range
+      ∙ (record_codec_is_prefix_codec family).reads_as_prefix r.request r.attributes whole.in_range
       whole.normal
 
-  bytes_after_parsed_record : drop (record_request_size family) (message_payload message h)
-      ≡ attributes
+  bytes_after_parsed_record : drop (record_request_size family) (message_payload message r.header)
+      ≡ r.attributes
   bytes_after_parsed_record = ap
       (drop (record_request_size family)) starts_with_record_request_header.1
-      ∙ drop_at own attributes (record_request_size family) long
+      ∙ drop_at own r.attributes (record_request_size family) long
 
   -- What is parsed by the layout of the same family is the request that was serialized.
   same_record : (k : RecordFamily) → family ≡ k
       → (v : (record_request_codec k).Value) (behind : List ℕ)
-      → (record_request_codec k).parses tt (message_payload message h) ≡ Ok v
-      → behind ≡ drop (record_request_size k) (message_payload message h)
-      → of_family k h v behind ≡ of_family family h request attributes
+      → (record_request_codec k).parses tt (message_payload message r.header) ≡ Ok v
+      → behind ≡ drop (record_request_size k) (message_payload message r.header)
+      → of_family k (record_request k r.header v behind) ≡ of_family family r
   same_record k same =
       let P : RecordFamily → Type 0 = λ k. (v : (record_request_codec k).Value) (behind : List ℕ)
-      → (record_request_codec k).parses tt (message_payload message h) ≡ Ok v
-      → behind ≡ drop (record_request_size k) (message_payload message h)
-      → of_family k h v behind ≡ of_family family h request attributes in
+      → (record_request_codec k).parses tt (message_payload message r.header) ≡ Ok v
+      → behind ≡ drop (record_request_size k) (message_payload message r.header)
+      → of_family k (record_request k r.header v behind) ≡ of_family family r in
       subst P same (λ v behind parses is.
-      let value : v ≡ request = equal_ok_values _ v request parses record_read in
-      let rest : behind ≡ attributes = is ∙ bytes_after_parsed_record in
-      λ i. of_family family h (value i) (rest i))
+      let value : v ≡ r.request = equal_ok_values _ v r.request parses record_read in
+      let rest : behind ≡ r.attributes = is ∙ bytes_after_parsed_record in
+      λ i. of_family family (record_request family r.header (value i) (rest i)))
 
   pub serialized_record_request_parses : (other : AnyRequest) → ParsesAsAnyRequest message other
-      → other ≡ of_family family h request attributes
+      → other ≡ of_family family r
   serialized_record_request_parses (of_inet view) asks =
-      let same = one_header message view.header h asks.1.framed
+      let same = one_header message view.header r.header asks.1.framed
       starts_with_record_request_header.0 in
       let decoded = ap (family_of_message message) (sym same) ∙ asks.0 in
       absurd (cc (decoded, record_family_of_message))
-  serialized_record_request_parses (of_family k m v behind) asks =
-      let same = one_header message m h asks.0 starts_with_record_request_header.0 in
-      let decoded : family_of_message message h ≡ Ok (of_record k) =
+  serialized_record_request_parses (of_family k other) asks =
+      let same = one_header message other.header r.header asks.0
+      starts_with_record_request_header.0 in
+      let decoded : family_of_message message r.header ≡ Ok (of_record k) =
       ap (family_of_message message) (sym same) ∙ asks.1 in
       let one : family ≡ k = cc (decoded, record_family_of_message) in
-      ap (λ (g : NetlinkHeader). of_family k g v behind) same
-      ∙ same_record k one v behind
+      ap (λ (g : NetlinkHeader).
+      of_family k (record_request k g other.request other.attributes)) same
+      ∙ same_record k one other.request other.attributes
       (ap (λ (g : NetlinkHeader). (record_request_codec k).parses tt (message_payload message g))
       (sym same)
       ∙ asks.2)

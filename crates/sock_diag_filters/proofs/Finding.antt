@@ -1,6 +1,6 @@
 -- The kernel's evaluation of a condition's operation is whether the socket meets the condition.
 use Rattle.std.proofs.Common.{◌≡◌, ℕ, ◌<◌, ◌^◌, List, [], ◌++◌, refl, ap, arith, Option, Some, None}
-use Rattle.std.specs.Prelude.{◌||◌, ◌==◌, nat_le, not, slice_index, drop, unwrap_or}
+use Rattle.std.specs.Prelude.{◌||◌, ◌==◌, nat_le, not, drop, unwrap_or}
 use Rattle.std.proofs.lemmas.Bool.{ne_eqb}
 use Rattle.byteorder.specs.Endian.{little_bytes, little_number}
 use Rattle.netlink_core.proofs.Numbers.{little_endian, number-reads_back}
@@ -19,9 +19,11 @@ use Rattle.sock_diag_filters.specs.Prefixes.{octets_of}
 use Rattle.sock_diag_filters.specs.Filters.{meaning}
 use Rattle.sock_diag_filters.specs.Sockets.{AreConditionsInRange, IsConditionInRange, IsPort}
 use Rattle.sock_diag_filters.specs.Sockets.{Socket}
-use Rattle.sock_diag_filters.specs.Sockets.{kernel_matches_address, kernel_matches_host}
-use Rattle.sock_diag_filters.specs.Sockets.{kernel_evaluates, has_port, address_has_optional_prefix}
-use Rattle.sock_diag_filters.specs.Sockets.{is_host, address_has_prefix, meets}
+use Rattle.sock_diag_filters.specs.Sockets.{SocketEnd, address_has_optional_prefix}
+use Rattle.sock_diag_filters.specs.Sockets.{address_has_prefix, has_port, host_condition}
+use Rattle.sock_diag_filters.specs.Sockets.{kernel_evaluates, kernel_matches_address}
+use Rattle.sock_diag_filters.specs.Sockets.{kernel_matches_host, local_end, meets, meets_host}
+use Rattle.sock_diag_filters.specs.Sockets.{remote_end}
 use Rattle.sock_diag_filters.proofs.Operations.{host, with_address}
 
 -- A number that fits `n` bytes round-trips through little-endian bytes.
@@ -49,34 +51,32 @@ port_found : (o : Option ℕ) (port : ℕ) → IsPort o
 port_found o port h =
     grind (arith, ne_eqb)
 
-address_found : (a : IpAddr) (bits port family : ℕ) (octets : List ℕ)
-    → kernel_matches_address family octets (slice_index (with_address a bits port) 0)
-    (slice_index (with_address a bits port) 1) (drop 8 (with_address a bits port))
-    ≡ address_has_prefix a bits family octets
-address_found (V4 ip) bits port family octets = refl
-address_found (V6 ip) bits port family octets = refl
+address_found : (a : IpAddr) (bits port : ℕ) (end : SocketEnd)
+    → kernel_matches_address end (host_condition (with_address a bits port))
+    ≡ address_has_prefix a bits end
+address_found (V4 ip) bits port end = refl
+address_found (V6 ip) bits port end = refl
 
-prefix_found : (o : Option Prefix) (port family : ℕ) (octets : List ℕ)
-    → kernel_matches_address family octets (slice_index (host o port) 0)
-    (slice_index (host o port) 1)
-    (drop 8 (host o port)) ≡ address_has_optional_prefix o family octets
-prefix_found None port family octets = refl
-prefix_found (Some p) port family octets = address_found p.address p.bits port family octets
+prefix_found : (o : Option Prefix) (port : ℕ) (end : SocketEnd)
+    → kernel_matches_address end (host_condition (host o port))
+    ≡ address_has_optional_prefix o end
+prefix_found None port end = refl
+prefix_found (Some p) port end = address_found p.address p.bits port end
 
 port_at : (o : Option Prefix) (port : ℕ) → port < 2 ^ 32
     → little_number 4 (drop 4 (host o port)) ≡ port
 port_at None port h = little_endian_round_trips 4 port [] h
 port_at (Some p) port h = little_endian_round_trips 4 port (octets_of p.address) h
 
-host_found : (h : Host) (family port : ℕ) (octets : List ℕ) → IsPort h.port
-    → kernel_matches_host family port octets (host h.prefix (unwrap_or h.port 0xffffffff))
-    ≡ is_host h family port octets
-host_found h family port octets range =
-    let asked : ℕ = unwrap_or h.port 0xffffffff in
+host_found : (h : Host) (end : SocketEnd) → IsPort h.port
+    → kernel_matches_host end (host_condition (host h.prefix (unwrap_or h.port 0xffffffff)))
+    ≡ meets_host h end
+host_found h end range =
+    let required : ℕ = unwrap_or h.port 0xffffffff in
     cc (
-      port_at h.prefix asked (optional_port_is_u32 h.port range),
-      port_found h.port port range,
-      prefix_found h.prefix asked family octets,
+      port_at h.prefix required (optional_port_is_u32 h.port range),
+      port_found h.port end.port range,
+      prefix_found h.prefix required end,
     )
 
 -- ---- conditions and filters
@@ -95,9 +95,8 @@ condition_found s (conditions.DestinationPort AtMost port) range =
     ap (λ (n : ℕ). nat_le s.destination_port n) (port_round_trips port range)
 condition_found s (conditions.DestinationPort Equal port) range =
     ap (λ (n : ℕ). s.destination_port == n) (port_round_trips port range)
-condition_found s (conditions.Source h) range = host_found h s.family s.source_port s.source range
-condition_found s (conditions.Destination h) range =
-    host_found h s.family s.destination_port s.destination range
+condition_found s (conditions.Source h) range = host_found h (local_end s) range
+condition_found s (conditions.Destination h) range = host_found h (remote_end s) range
 condition_found s (conditions.Interface number) range =
     ap (λ (n : ℕ). s.interface == n) (u32_round_trips number range)
 condition_found s (conditions.Mark mark mask) range =

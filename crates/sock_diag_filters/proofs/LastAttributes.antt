@@ -4,7 +4,7 @@ use Rattle.std.specs.List.{filter_map, last_or}
 use Rattle.std.proofs.lemmas.List.Elements.{filter_map-append}
 use Rattle.sock_diag_filters.specs.declared.request.RequestAttribute.{RequestAttribute}
 use Rattle.sock_diag_filters.specs.declared.view.Found.{Found}
-use Rattle.sock_diag_filters.specs.InetRequests.{HasLastContents, RequestContent, nothing_asked}
+use Rattle.sock_diag_filters.specs.InetRequests.{HasLastContents, RequestContent, other_content}
 use Rattle.sock_diag_filters.specs.InetRequests.{program_in, protocol_in}
 use Rattle.sock_diag_filters.specs.private.AttributeSearch.{found_attributes_after}
 use Rattle.sock_diag_filters.specs.private.AttributeSearch.{optional_request_content}
@@ -28,8 +28,8 @@ pub has_last_contents_after : (found : Found) (decoded : List RequestContent)
 has_last_contents_after found decoded o keeps =
     grind (
       arith,
-      last_more program_in decoded nothing_asked,
-      last_more protocol_in decoded nothing_asked,
+      last_more program_in decoded other_content,
+      last_more protocol_in decoded other_content,
       last_more program_in decoded,
       last_more protocol_in decoded,
     )

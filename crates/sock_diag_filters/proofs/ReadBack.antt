@@ -14,6 +14,7 @@ use Rattle.netlink_core.specs.declared.error.DecodeError.{DecodeError}
 use Rattle.netlink_core.specs.declared.header.NetlinkHeader.{NetlinkHeader}
 use Rattle.netlink_core.specs.Layout.{record_bytes, parse_record}
 use Rattle.netlink_core.specs.Header.{HasHeader, IsMessageError, header_bytes}
+use Rattle.netlink_core.specs.Header.{message_payload}
 use Rattle.netlink_core.proofs.Numbers.{little_endian, number-reads_back}
 use Rattle.netlink_core.proofs.Splitting.{all_attribute_bytes_split, decoded_or_error_apart}
 use Rattle.netlink_core.proofs.Splitting.{one_split_into_attributes, encoded_values_are_decoded}
@@ -31,7 +32,7 @@ use Rattle.sock_diag_filters.specs.declared.view.RequestView.{RequestView}
 use Rattle.sock_diag_filters.specs.InetRequests.{ParsesAsRequest, IsRequestType, IsRejectedRequest}
 use Rattle.sock_diag_filters.specs.InetRequests.{RequestContent, no_attributes, no_message}
 use Rattle.sock_diag_filters.specs.InetRequests.{no_request}
-use Rattle.sock_diag_filters.specs.InetRequests.{other_type, message_payload, program_in}
+use Rattle.sock_diag_filters.specs.InetRequests.{other_type, program_in}
 use Rattle.sock_diag_filters.specs.InetRequests.{protocol_in}
 use Rattle.sock_diag_filters.specs.InetRequests.{decode_request_attribute}
 use Rattle.sock_diag_filters.specs.InetRequests.{request_attribute_content}
@@ -173,17 +174,17 @@ module _ (h : NetlinkHeader) (request : InetRequest) (attributes : List RequestA
       let same = one_header message view.header header asks.framed
       starts_with_serialized_header.0 in
       let asked : view.request ≡ request =
-      same_request view.request request (sym asks.asked ∙ reads_as view.header same) in
-      let cut = subst (λ (b : List ℕ). SplitsIntoAttributes b asks.means.0 [])
+      same_request view.request request (sym asks.parsed ∙ reads_as view.header same) in
+      let cut = subst (λ (b : List ℕ). SplitsIntoAttributes b asks.decodes.0 [])
       (attributes_after_request view.header same)
-      asks.means.1 in
-      let one = one_split_into_attributes behind asks.means.0 all cut
+      asks.decodes.1 in
+      let one = one_split_into_attributes behind asks.decodes.0 all cut
       (all_attribute_bytes_split all (fit_header_fields attributes can.fit)) in
       let decoded = decoded_contents_are_unique all asks.decoded
       (map request_attribute_content attributes)
       (subst (λ (l : List Attribute). AllZip (λ a t. decode_request_attribute a ≡ Ok t) l
       asks.decoded) one
-      asks.means.2)
+      asks.decodes.2)
       (attributes_decode_to_contents attributes can.fit) in
       record {
         header = same;

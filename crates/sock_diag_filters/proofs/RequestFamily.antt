@@ -8,7 +8,8 @@ use Rattle.sock_diag_filters.specs.AnyRequest.{RecordFamily, RequestedFamily, of
 use Rattle.sock_diag_filters.specs.AnyRequest.{family_of_message, IsRejectedByRequestFamily}
 use Rattle.sock_diag_filters.specs.AnyRequest.{family_by_byte, family_of_request_payload}
 use Rattle.sock_diag_filters.specs.AnyRequest.{record_request_codec}
-use Rattle.sock_diag_filters.specs.InetRequests.{IsRequestType, message_payload}
+use Rattle.netlink_core.specs.Header.{message_payload}
+use Rattle.sock_diag_filters.specs.InetRequests.{IsRequestType}
 
 -- The first byte of a request's payload determines its family.
 pub family_by_first_byte : (payload : List ℕ) (t : ℕ) (decoded : Result RequestedFamily DecodeError)

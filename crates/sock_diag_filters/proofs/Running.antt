@@ -11,7 +11,8 @@ use Rattle.sock_diag_filters.specs.declared.filter.Filter.TheVariants as parts
 use Rattle.sock_diag_filters.specs.Conditions.{arguments, code_of}
 use Rattle.sock_diag_filters.specs.Filters.{meaning, program_size}
 use Rattle.sock_diag_filters.specs.Audit.{no_at, yes_at}
-use Rattle.sock_diag_filters.specs.Run.{Runs, arguments_at, ends, goes_on, goes_past, is_met, step}
+use Rattle.sock_diag_filters.specs.Run.{Runs, arguments_at, ends, goes_on, goes_past, is_met}
+use Rattle.sock_diag_filters.specs.Run.{distance_to_next}
 use Rattle.sock_diag_filters.specs.private.Assembly.{jump, operation, program_of}
 use Rattle.sock_diag_filters.proofs.Operations.{bytes_after_operation, no_of_operation}
 use Rattle.sock_diag_filters.proofs.Operations.{operation_length, program_length}
@@ -107,14 +108,14 @@ module _ (condition_met : ℕ → List ℕ → Bool) where
       length-append (operation code args far) rest ∙ ap (λ (n : ℕ). n + length rest) own in
       either (is_met condition_met left) (Runs condition_met left v)
       (λ met.
-      let takes : step condition_met left ≡ yes_at left =
+      let takes : distance_to_next condition_met left ≡ yes_at left =
       ap (λ (b : Bool). if b then yes_at left else no_at left) met in
       goes_on left v (omega arith) (omega arith)
       (subst (λ (l : List ℕ). Runs condition_met l v)
       (sym (ap (λ (n : ℕ). drop n left) takes ∙ bytes_after_operation code args far rest))
       (wanted met)))
       (λ unmet.
-      let takes : step condition_met left ≡ 4 + length args + far =
+      let takes : distance_to_next condition_met left ≡ 4 + length args + far =
       ap (λ (b : Bool). if b then yes_at left else no_at left) unmet ∙ no_is in
       let goes = continues_after_prefix (operation code args far) rest far (4 + length args) v own
       (unwanted unmet) in

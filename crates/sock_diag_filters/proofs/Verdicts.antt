@@ -1,6 +1,6 @@
 -- A run of a program has at most one verdict.
 use Rattle.std.proofs.Common.{◌≡◌, ℕ, List, drop, refl, arith, Bool}
-use Rattle.sock_diag_filters.specs.Run.{Runs, ends, goes_on, goes_past, step}
+use Rattle.sock_diag_filters.specs.Run.{Runs, ends, goes_on, goes_past, distance_to_next}
 
 module _ (condition_met : ℕ → List ℕ → Bool) where
   pub one_verdict : (left : List ℕ) (v w : Bool) → Runs condition_met left v
@@ -16,4 +16,4 @@ module _ (condition_met : ℕ → List ℕ → Bool) where
   one_verdict left v w (goes_on l a some within more) (goes_past m also past) =
       absurd (omega arith)
   one_verdict left v w (goes_on l a some within more) (goes_on m b also inside others) =
-      one_verdict (drop (step condition_met left) left) v w more others
+      one_verdict (drop (distance_to_next condition_met left) left) v w more others

@@ -9,23 +9,29 @@ use Rattle.std.specs.Prelude.{◌≡◌, ◌≢◌, ℕ, ◌+◌, ◌-◌, ◌*�
 use Rattle.std.specs.Prelude.{List, [], ◌∷◌, length, drop, slice_index, slice_get, Option, Some}
 use Rattle.std.specs.Prelude.{None, option_map}
 use Rattle.byteorder.specs.Endian.{little_number}
+use Rattle.sock_diag_filters.specs.declared.codes.TheConstants as codes
 use Rattle.sock_diag_records.specs.declared.constants.TheConstants.{AF_INET, AF_INET6, AF_UNSPEC}
 
--- `code` of the operation at the start: INET_DIAG_BC_..
+-- The code of INET_DIAG_BC_NOP, an operation whose condition is always met.
+abbrev pub nop_code : ℕ
+nop_code = 0
+
+-- `code_at left`: `code` of the operation at the start of `left`: INET_DIAG_BC_..
 abbrev pub code_at : List ℕ → ℕ
 code_at left = slice_index left 0
 
--- `yes` of the operation at the start: the distance in bytes to the next operation if its condition
--- is met.
+-- `yes_at left`: `yes` of the operation at the start of `left`: the distance in bytes to the next
+-- operation if the condition is met.
 abbrev pub yes_at : List ℕ → ℕ
 yes_at left = slice_index left 1
 
--- `no` of the operation at the start: the distance in bytes to the next operation if its condition
--- is not met.
+-- `no_at left`: `no` of the operation at the start of `left`: the distance in bytes to the next
+-- operation if the condition is not met.
 abbrev pub no_at : List ℕ → ℕ
 no_at left = little_number 2 (drop 2 left)
 
--- The length of an address in bytes by its family. `None` for other families.
+-- `address_length family`: the length in bytes of an address of this family. AF_UNSPEC means that
+-- there is no address. `None` if the kernel does not know the family.
 abbrev pub address_length : ℕ → Option ℕ
 address_length family =
     if family == AF_UNSPEC then Some 0
@@ -33,20 +39,28 @@ address_length family =
     else if family == AF_INET6 then Some 16
     else None
 
--- The minimum length of the operation at the start in bytes (`min_len` in the kernel), or `None` if
--- the kernel does not know its code or its address family. NOP (0), JMP (1) and AUTO (6) have 4
--- bytes. Comparisons of ports (2 to 5, 11, 12) and DEV_COND (9) have 8. MARK_COND (10) and
--- CGROUP_COND (13) have 12. S_COND (7) and D_COND (8) have 12 and an address, whose family is the
--- byte at 4. The list has an entry for each code from 0 to 13; its zeros for 7 and 8 are not used.
+-- `host_operation_length left`: the minimum length of the operation S_COND or D_COND at the start
+-- of `left`: 12 bytes, and the address. The 12 bytes are a `struct inet_diag_bc_op` (4) and a
+-- `struct inet_diag_hostcond` up to its `addr` (8). The family of the address is the byte at 4.
+-- `None` if the kernel does not know the family.
+abbrev pub host_operation_length : List ℕ → Option ℕ
+host_operation_length left = option_map (λ n. 12 + n) (address_length (slice_index left 4))
+
+-- `min_operation_length left`: the minimum length in bytes of the operation at the start of `left`
+-- (`min_len` in the kernel), or `None` if the kernel does not know its code or its address family.
+-- NOP (0), JMP (1) and AUTO (6) have 4 bytes. Comparisons of ports (2 to 5, 11, 12) and DEV_COND
+-- (9) have 8. MARK_COND (10) and CGROUP_COND (13) have 12. S_COND (7) and D_COND (8) have 12 and an
+-- address, whose family is the byte at 4. The list has an entry for each code from 0 to 13; its
+-- zeros for 7 and 8 are not used.
 abbrev pub min_operation_length : List ℕ → Option ℕ
 min_operation_length left =
-    if code_at left == 7 then option_map (λ n. 12 + n) (address_length (slice_index left 4))
-    else if code_at left == 8 then option_map (λ n. 12 + n) (address_length (slice_index left 4))
+    if code_at left == codes.INET_DIAG_BC_S_COND then host_operation_length left
+    else if code_at left == codes.INET_DIAG_BC_D_COND then host_operation_length left
     else slice_get (4 ∷ 4 ∷ 8 ∷ 8 ∷ 8 ∷ 8 ∷ 4 ∷ 0 ∷ 0 ∷ 8 ∷ 12 ∷ 8 ∷ 8 ∷ 12 ∷ []) (code_at left)
 
--- `Steps left later`: stepping over operations by their `yes` leads from `left` to `later`, as in
--- the kernel's `valid_cc`. The `yes` of each operation is at least 4, is a multiple of 4, and does
--- not lead past the end.
+-- `Steps left later`: stepping over zero or more operations by their `yes` leads from `left` to
+-- `later`, as in the kernel's `valid_cc`. The `yes` of each operation is at least 4, is a multiple
+-- of 4, and does not lead past the end.
 pub data Steps : List ℕ → List ℕ → Type 0 where
   there : (left : List ℕ) → Steps left left
   over : (left later : List ℕ) → 4 ≤ yes_at left → yes_at left % 4 ≡ 0
@@ -60,18 +74,21 @@ IsReachable program n = (later : List ℕ) × Steps program later × (length lat
 -- `IsOperationAudited program left`: the operation at the start of `left` passes the checks of the
 -- kernel. `left` are the bytes of the program from this operation on.
 pub record IsOperationAudited (program left : List ℕ) : Type 0 where
-  -- the kernel knows its code, and `left` has at least its minimum length
+  -- the kernel knows its code; `left` has at least its minimum length, which is `least`
   pub least : ℕ
   pub known : min_operation_length left ≡ Some least
   pub whole : least ≤ length left
-  -- S_COND and D_COND: `prefix_len`, the byte at 5, is at most the length of the address in bits
-  pub bits : (code_at left ≡ 7) ⊎ (code_at left ≡ 8) → slice_index left 5 ≤ 8 * (least - 12)
-  -- except for NOP: `no` is at least the minimum length, at most 4 past the end of the program, and
-  -- a multiple of 4; if it leads before the end, it leads to a reachable operation
-  pub past_it : code_at left ≢ 0 → least ≤ no_at left
-  pub within : code_at left ≢ 0 → no_at left ≤ length left + 4
-  pub in_fours : code_at left ≢ 0 → no_at left % 4 ≡ 0
-  pub lands : code_at left ≢ 0 → no_at left < length left
+  -- only for S_COND and D_COND: `prefix_len`, the byte at 5, is at most the length of the address
+  -- in bits; the address are the bytes from 12 on
+  pub bits : (code_at left ≡ codes.INET_DIAG_BC_S_COND)
+      ⊎ (code_at left ≡ codes.INET_DIAG_BC_D_COND) → slice_index left 5 ≤ 8 * (least - 12)
+  -- except for NOP, whose `no` is not checked: `no` is at least the minimum length, leads at most 4
+  -- bytes past the end of the program, and is a multiple of 4; if it leads to a position before the
+  -- end, that position is reachable
+  pub past_it : code_at left ≢ nop_code → least ≤ no_at left
+  pub within : code_at left ≢ nop_code → no_at left ≤ length left + 4
+  pub in_fours : code_at left ≢ nop_code → no_at left % 4 ≡ 0
+  pub lands : code_at left ≢ nop_code → no_at left < length left
       → IsReachable program (length left - no_at left)
   -- `yes` is at least the minimum length, does not lead past the end, and is a multiple of 4
   pub steps_past : least ≤ yes_at left
@@ -86,7 +103,8 @@ pub data AllOperationsPass (program : List ℕ) : List ℕ → Type 0 where
       → AllOperationsPass program (drop (yes_at left) left)
       → AllOperationsPass program left
 
--- The kernel accepts the program: it has at least 4 bytes, and each of its operations passes the
--- checks.
+-- `IsAudited program`: the kernel accepts the program: it has at least the 4 bytes of a
+-- `struct inet_diag_bc_op`, and each of its operations passes the checks.
 abbrev pub IsAudited : List ℕ → Type 0
-IsAudited program = (4 ≤ length program) × AllOperationsPass program program
+IsAudited program =
+    (codes.OPERATION_HEADER_LEN ≤ length program) × AllOperationsPass program program

@@ -1,11 +1,11 @@
 -- Parsing of requests for IPv4 and IPv6 sockets, with their attributes.
-use Rattle.std.specs.Prelude.{◌≡◌, ℕ, ◌-◌, ◌==◌, ◌⊎◌, if◌then◌else◌, List, Option, Some, None}
-use Rattle.std.specs.Prelude.{Result, Ok, Err, take, drop, option_map, unwrap_or}
+use Rattle.std.specs.Prelude.{◌≡◌, ℕ, ◌==◌, ◌⊎◌, if◌then◌else◌, List, Option, Some, None}
+use Rattle.std.specs.Prelude.{Result, Ok, Err, drop, option_map, unwrap_or}
 use Rattle.std.specs.List.{filter_map, last_or}
 use Rattle.netlink_core.specs.Attribute.{Attribute, HasAttributeError, DecodeTo, attribute_kind}
 use Rattle.netlink_core.specs.Errors.{map_ok}
 use Rattle.netlink_core.specs.Layout.{parse_record}
-use Rattle.netlink_core.specs.Header.{HasHeader, IsMessageError}
+use Rattle.netlink_core.specs.Header.{HasHeader, IsMessageError, message_payload}
 use Rattle.netlink_core.specs.Parse.{number_of_width}
 use Rattle.netlink_core.specs.declared.error.DecodeError.{DecodeError}
 use Rattle.netlink_core.specs.declared.error.DecodeError.TheVariants.{UnknownMessageType}
@@ -16,6 +16,7 @@ use Rattle.sock_diag_records.specs.declared.constants.TheConstants.{SOCK_DESTROY
 use Rattle.sock_diag_records.specs.declared.constants.TheConstants.{SOCK_DIAG_BY_FAMILY}
 use Rattle.sock_diag_records.specs.declared.inet.request.TheConstants.{INET_DIAG_REQ_BYTECODE}
 use Rattle.sock_diag_records.specs.declared.inet.request.TheConstants.{INET_DIAG_REQ_PROTOCOL}
+use Rattle.sock_diag_records.specs.declared.inet.request.TheConstants.{INET_REQUEST_LEN}
 use Rattle.sock_diag_filters.specs.declared.request.RequestAttribute.{RequestAttribute}
 use Rattle.sock_diag_filters.specs.declared.request.RequestAttribute.TheVariants.{Program, Protocol}
 use Rattle.sock_diag_filters.specs.declared.view.Found.{Found}
@@ -23,65 +24,68 @@ use Rattle.sock_diag_filters.specs.declared.view.RequestView.{RequestView}
 
 -- The content of an attribute: a program, a protocol, or nothing for other attribute types.
 pub data RequestContent : Type 0 where
-  program_asked : List ℕ → RequestContent
-  protocol_asked : ℕ → RequestContent
-  nothing_asked : RequestContent
+  program_content : List ℕ → RequestContent
+  protocol_content : ℕ → RequestContent
+  other_content : RequestContent
 
 -- The content of an attribute, by its type without the two flag bits. INET_DIAG_REQ_BYTECODE is a
--- program: the bytes of the value. INET_DIAG_REQ_PROTOCOL is a protocol: a little-endian u32; a
--- length other than 4 is WrongLength. Other types have no content.
+-- program: the bytes of the value. INET_DIAG_REQ_PROTOCOL is a protocol: a little-endian u32. A
+-- length other than 4 is the error WrongLength, which does not name the type (`None`). Other types
+-- have no content.
 abbrev pub decode_request_attribute : Attribute → Result RequestContent DecodeError
 decode_request_attribute a =
-    if attribute_kind a == INET_DIAG_REQ_BYTECODE then Ok (program_asked a.value)
+    if attribute_kind a == INET_DIAG_REQ_BYTECODE then Ok (program_content a.value)
     else if attribute_kind a == INET_DIAG_REQ_PROTOCOL
-    then map_ok protocol_asked (number_of_width None 4 a.value)
-    else Ok nothing_asked
+    then map_ok protocol_content (number_of_width None 4 a.value)
+    else Ok other_content
 
 -- The content of a `RequestAttribute`.
 abbrev pub request_attribute_content : RequestAttribute → RequestContent
-request_attribute_content (Program program) = program_asked program.now
-request_attribute_content (Protocol protocol) = protocol_asked protocol
+request_attribute_content (Program program) = program_content program.now
+request_attribute_content (Protocol protocol) = protocol_content protocol
 
 -- The program, if the content is one.
 abbrev pub program_in : RequestContent → Option (List ℕ)
-program_in (program_asked program) = Some program
-program_in (protocol_asked protocol) = None
-program_in nothing_asked = None
+program_in (program_content program) = Some program
+program_in (protocol_content protocol) = None
+program_in other_content = None
 
 -- The protocol, if the content is one.
 abbrev pub protocol_in : RequestContent → Option ℕ
-protocol_in (program_asked program) = None
-protocol_in (protocol_asked protocol) = Some protocol
-protocol_in nothing_asked = None
+protocol_in (program_content program) = None
+protocol_in (protocol_content protocol) = Some protocol
+protocol_in other_content = None
 
--- `HasLastContents found decoded`: `found` has the last program and the last protocol of `decoded`,
--- each `None` if there is none.
+-- `HasLastContents found decoded`: `found` has the last program and the last protocol among the
+-- contents `decoded`, each `None` if there is none. `program.now` are the borrowed bytes.
 pub record HasLastContents (found : Found) (decoded : List RequestContent) : Type 0 where
   pub program : option_map (λ program. program.now) found.program
       ≡ last_or None (filter_map program_in decoded)
   pub protocol : found.protocol ≡ last_or None (filter_map protocol_in decoded)
 
--- `message_payload message h`: the payload of the message with the netlink header `h`: the bytes
--- after the 16 bytes of the header, up to the length in the header.
-abbrev pub message_payload : List ℕ → NetlinkHeader → List ℕ
-message_payload message h = take (h.length - 16) (drop 16 message)
+-- `attributes_after_record message h`: the bytes of the payload after the record,
+-- `struct inet_diag_req_v2` of 56 bytes, where the attributes are.
+abbrev pub attributes_after_record : List ℕ → NetlinkHeader → List ℕ
+attributes_after_record message h = drop INET_REQUEST_LEN (message_payload message h)
 
 -- The message type is SOCK_DIAG_BY_FAMILY or SOCK_DESTROY.
 abbrev pub IsRequestType : ℕ → Type 0
-IsRequestType t = (t ≡ SOCK_DIAG_BY_FAMILY) ⊎ (t ≡ SOCK_DESTROY)
+IsRequestType message_type = (message_type ≡ SOCK_DIAG_BY_FAMILY) ⊎ (message_type ≡ SOCK_DESTROY)
 
 -- `ParsesAsRequest message view`: the message at the start of the bytes parses as the view. Bytes
 -- after it are ignored.
 pub record ParsesAsRequest (message : List ℕ) (view : RequestView) : Type 0 where
   -- the message starts with the netlink header of the view
   pub framed : HasHeader message view.header
+  -- the message type is SOCK_DIAG_BY_FAMILY or SOCK_DESTROY
   pub kind : IsRequestType view.header.message_type
-  -- the payload starts with the record of the view, `struct inet_diag_req_v2` of 56 bytes
-  pub asked : parse_record inet_request tt (message_payload message view.header) ≡ Ok view.request
-  -- the bytes of the payload after the record split into attributes with this content, in order
+  -- the payload starts with the record of the view, `struct inet_diag_req_v2`; `tt`: the record has
+  -- no parameter
+  pub parsed : parse_record inet_request tt (message_payload message view.header) ≡ Ok view.request
+  -- the bytes after the record split into attributes with this content, in order
   -- (`DecodeTo decode bytes values`)
   pub decoded : List RequestContent
-  pub means : DecodeTo decode_request_attribute (drop 56 (message_payload message view.header))
+  pub decodes : DecodeTo decode_request_attribute (attributes_after_record message view.header)
       decoded
   -- the program of the view is the last program of the attributes, if there is one
   pub program : option_map (λ program. program.now) view.program
@@ -91,8 +95,9 @@ pub record ParsesAsRequest (message : List ℕ) (view : RequestView) : Type 0 wh
   pub protocol : view.protocol
       ≡ unwrap_or (last_or None (filter_map protocol_in decoded)) view.request.protocol
 
--- `IsRejectedRequest message e`: the message is rejected with `e`, the first error in it. Each case
--- states that there is no error of the cases before it.
+-- `IsRejectedRequest message e`: the message at the start of the bytes is rejected with `e`, its
+-- first error. Each case states that there is no error of the cases before it. `h` is the netlink
+-- header.
 pub data IsRejectedRequest (message : List ℕ) (e : DecodeError) : Type 0 where
   -- the bytes do not start with a netlink message
   no_message : IsMessageError message e → IsRejectedRequest message e
@@ -104,8 +109,8 @@ pub data IsRejectedRequest (message : List ℕ) (e : DecodeError) : Type 0 where
       → parse_record inet_request tt (message_payload message h) ≡ Err e
       → IsRejectedRequest message e
   -- the bytes after the record have an attribute that is invalid, or a framing error
-  no_attributes : (h : NetlinkHeader) (asked : InetRequest) → HasHeader message h
+  no_attributes : (h : NetlinkHeader) (request : InetRequest) → HasHeader message h
       → IsRequestType h.message_type
-      → parse_record inet_request tt (message_payload message h) ≡ Ok asked
-      → HasAttributeError decode_request_attribute (drop 56 (message_payload message h)) e
+      → parse_record inet_request tt (message_payload message h) ≡ Ok request
+      → HasAttributeError decode_request_attribute (attributes_after_record message h) e
       → IsRejectedRequest message e

@@ -17,7 +17,8 @@ abbrev pub family_of : IpAddr → ℕ
 family_of (V4 ip) = AF_INET
 family_of (V6 ip) = AF_INET6
 
--- The octets of an address in network byte order: four, or two for each of eight segments.
+-- The octets of an address in network byte order: the four of an IPv4 address, or two for each of
+-- the eight segments of an IPv6 address.
 abbrev pub octets_of : IpAddr → List ℕ
 octets_of (V4 ip) = first_numbers 4 ip.octets
 octets_of (V6 ip) = flat_map (big_bytes 2) (first_numbers 8 ip.segments)

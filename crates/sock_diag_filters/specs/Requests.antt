@@ -9,6 +9,7 @@ use Rattle.netlink_core.specs.Header.{header_bytes}
 use Rattle.sock_diag_records.specs.InetRequest.{inet_request}
 use Rattle.sock_diag_records.specs.declared.inet.request.InetRequest.{InetRequest}
 use Rattle.sock_diag_records.specs.declared.inet.request.TheConstants as c
+use Rattle.sock_diag_filters.specs.declared.request.TheConstants.{REQUEST_FRONT}
 use Rattle.sock_diag_filters.specs.declared.request.RequestAttribute.{RequestAttribute}
 use Rattle.sock_diag_filters.specs.declared.request.RequestAttribute.TheVariants.{Program, Protocol}
 
@@ -20,7 +21,7 @@ request_attribute (Program program) =
 request_attribute (Protocol protocol) =
     record { type_word = c.INET_DIAG_REQ_PROTOCOL; value = little_bytes 4 protocol }
 
--- The header with its length replaced by `len`.
+-- `header_with_length h len`: the header `h` with its length replaced by `len`.
 abbrev pub header_with_length : NetlinkHeader → ℕ → NetlinkHeader
 header_with_length h len = record {
   length = len;
@@ -35,5 +36,6 @@ header_with_length h len = record {
 -- and the attributes, each with its padding.
 abbrev pub request_bytes : NetlinkHeader → InetRequest → List Attribute → List ℕ
 request_bytes h request attributes =
-    header_bytes (header_with_length h (72 + length (flat_map attribute_bytes attributes)))
+    header_bytes
+    (header_with_length h (REQUEST_FRONT + length (flat_map attribute_bytes attributes)))
     ++ record_bytes inet_request request ++ flat_map attribute_bytes attributes

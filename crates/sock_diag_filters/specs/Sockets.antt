@@ -6,6 +6,7 @@ use Rattle.byteorder.specs.Endian.{big_number, little_number}
 use Rattle.std.specs.declared.net.ip_addr.IpAddr.{IpAddr}
 use Rattle.std.specs.declared.net.ip_addr.IpAddr.TheVariants.{V4, V6}
 use Rattle.sock_diag_records.specs.declared.constants.TheConstants.{AF_INET, AF_INET6, AF_UNSPEC}
+use Rattle.sock_diag_filters.specs.declared.codes.TheConstants as codes
 use Rattle.sock_diag_filters.specs.declared.condition.Comparison.{Comparison}
 use Rattle.sock_diag_filters.specs.declared.condition.Comparison.TheVariants.{AtLeast, AtMost}
 use Rattle.sock_diag_filters.specs.declared.condition.Comparison.TheVariants.{Equal}
@@ -38,6 +39,21 @@ pub record Socket : Type 0 where
   -- `userlocks` lacks SOCK_BINDPORT_LOCK: the kernel chose the local port
   pub is_auto_bound : Bool
 
+-- One end of a socket: the family of the socket, and the port and the octets of the address of this
+-- end.
+pub record SocketEnd : Type 0 where
+  pub family : ℕ
+  pub port : ℕ
+  pub octets : List ℕ
+
+-- The local end of a socket.
+abbrev pub local_end : Socket → SocketEnd
+local_end s = record { family = s.family; port = s.source_port; octets = s.source }
+
+-- The remote end of a socket.
+abbrev pub remote_end : Socket → SocketEnd
+remote_end s = record { family = s.family; port = s.destination_port; octets = s.destination }
+
 -- `have_equal_prefix bits octets others`: the first `bits` bits of `octets` and `others` are equal,
 -- as in the kernel's `bitstring_match`. Both are read as big-endian numbers of the length of
 -- `others`, and divided by 2 to the power of the number of bits after the prefix.
@@ -45,11 +61,11 @@ pub record Socket : Type 0 where
 -- 0x0a011f09, divided by 2 ^ 12, are both 0x0a011.
 abbrev pub have_equal_prefix : ℕ → List ℕ → List ℕ → Bool
 have_equal_prefix bits octets others =
-    let behind = 2 ^ (8 * length others - bits) in
-    (big_number (length others) octets / behind) == (big_number (length others) others / behind)
+    let divisor = 2 ^ (8 * length others - bits) in
+    (big_number (length others) octets / divisor) == (big_number (length others) others / divisor)
 
 -- The octets are an IPv4-mapped IPv6 address, ::ffff:a.b.c.d: the first 12 octets are ten times 0,
--- then 255 and 255.
+-- then 255 and 255, which is 0xffff as a big-endian number.
 abbrev pub is_ipv4_mapped : List ℕ → Bool
 is_ipv4_mapped octets = big_number 12 octets == 0xffff
 
@@ -60,46 +76,70 @@ is_ipv4_mapped octets = big_number 12 octets == 0xffff
 abbrev pub compared_port : List ℕ → ℕ
 compared_port args = little_number 2 (drop 2 args)
 
--- `kernel_matches_address family octets asked bits prefix`: the address `octets`, of the family
--- `family`, matches a condition: it starts with the first `bits` bits of `prefix`. The condition's
--- family is `asked`. If it is AF_UNSPEC, it matches each family. If it is AF_INET, it also matches
--- an IPv4-mapped address of family AF_INET6 by its last four octets.
-abbrev pub kernel_matches_address : ℕ → List ℕ → ℕ → ℕ → List ℕ → Bool
-kernel_matches_address family octets asked bits prefix =
-    if asked == AF_UNSPEC then bits == 0 || have_equal_prefix bits octets prefix
-    else if asked == family then bits == 0 || have_equal_prefix bits octets prefix
-    else
-    asked == AF_INET
-    && (family == AF_INET6
-    && (is_ipv4_mapped octets && have_equal_prefix bits (drop 12 octets) prefix))
+-- A `struct inet_diag_hostcond`: `family`, `prefix_len` (here `bits`), `port`, and the bytes of
+-- `addr` (here `octets`).
+pub record HostCondition : Type 0 where
+  pub family : ℕ
+  pub bits : ℕ
+  pub port : ℕ
+  pub octets : List ℕ
 
--- `kernel_matches_host family port octets args`: a port and an address of the family `family` match
--- the arguments of S_COND or D_COND, a `struct inet_diag_hostcond`: `family` at 0, `prefix_len` at
--- 1, `port` at 4 as 32 bits (-1 matches each port), `addr` at 8.
-abbrev pub kernel_matches_host : ℕ → ℕ → List ℕ → List ℕ → Bool
-kernel_matches_host family port octets args =
-    (little_number 4 (drop 4 args) == 0xffffffff || little_number 4 (drop 4 args) == port)
-    && kernel_matches_address family octets (slice_index args 0) (slice_index args 1) (drop 8 args)
+-- The `struct inet_diag_hostcond` in the arguments of S_COND or D_COND: `family` at 0, `prefix_len`
+-- at 1, `port` at 4 as 32 bits, `addr` at 8.
+abbrev pub host_condition : List ℕ → HostCondition
+host_condition args = record {
+  family = slice_index args 0;
+  bits = slice_index args 1;
+  port = little_number 4 (drop 4 args);
+  octets = drop 8 args;
+}
+
+-- `kernel_matches_address end host`: the address of this end of a socket starts with the first
+-- `host.bits` bits of the address of the condition. A condition of the family AF_UNSPEC matches
+-- sockets of each family. A condition of AF_INET also matches an IPv4-mapped address of a socket of
+-- AF_INET6, by its last four octets.
+abbrev pub kernel_matches_address : SocketEnd → HostCondition → Bool
+kernel_matches_address end host =
+    if host.family == AF_UNSPEC
+    then host.bits == 0 || have_equal_prefix host.bits end.octets host.octets
+    else if host.family == end.family
+    then host.bits == 0 || have_equal_prefix host.bits end.octets host.octets
+    else
+    host.family == AF_INET
+    && (end.family == AF_INET6
+    && (is_ipv4_mapped end.octets
+    && have_equal_prefix host.bits (drop 12 end.octets) host.octets))
+
+-- `kernel_matches_host end host`: the port and the address of this end of a socket match the
+-- condition. The port -1 of the condition (0xffffffff) matches each port.
+abbrev pub kernel_matches_host : SocketEnd → HostCondition → Bool
+kernel_matches_host end host =
+    (host.port == 0xffffffff || host.port == end.port) && kernel_matches_address end host
 
 -- `kernel_evaluates s code args`: whether the kernel finds that the socket `s` meets the condition
--- of an operation with this code (INET_DIAG_BC_..) and these arguments: 2 S_GE, 3 S_LE, 4 D_GE, 5
--- D_LE, 6 AUTO, 7 S_COND, 8 D_COND, 9 DEV_COND (a u32), 10 MARK_COND (`struct inet_diag_markcond`:
--- `mark` at 0, `mask` at 4), 11 S_EQ, 12 D_EQ, 13 CGROUP_COND (a u64). Other codes count as met.
--- NOP (0) and JMP (1) do not get here: `is_met` of `Run.antt` evaluates them.
+-- of an operation with this code (INET_DIAG_BC_..) and these arguments: a port, a host condition,
+-- an interface (u32), a mark (`struct inet_diag_markcond`: `mark` at 0, `mask` at 4), or a control
+-- group (u64). Other codes count as met. NOP (0) and JMP (1) do not get here: `is_met` of
+-- `Run.antt` evaluates them.
 abbrev pub kernel_evaluates : Socket → ℕ → List ℕ → Bool
 kernel_evaluates s code args =
-    if code == 2 then nat_le (compared_port args) s.source_port
-    else if code == 3 then nat_le s.source_port (compared_port args)
-    else if code == 4 then nat_le (compared_port args) s.destination_port
-    else if code == 5 then nat_le s.destination_port (compared_port args)
-    else if code == 6 then s.is_auto_bound
-    else if code == 7 then kernel_matches_host s.family s.source_port s.source args
-    else if code == 8 then kernel_matches_host s.family s.destination_port s.destination args
-    else if code == 9 then s.interface == little_number 4 args
-    else if code == 10 then bit_and s.mark (little_number 4 (drop 4 args)) == little_number 4 args
-    else if code == 11 then s.source_port == compared_port args
-    else if code == 12 then s.destination_port == compared_port args
-    else if code == 13 then s.cgroup == little_number 8 args
+    if code == codes.INET_DIAG_BC_S_GE then nat_le (compared_port args) s.source_port
+    else if code == codes.INET_DIAG_BC_S_LE then nat_le s.source_port (compared_port args)
+    else if code == codes.INET_DIAG_BC_D_GE
+    then nat_le (compared_port args) s.destination_port
+    else if code == codes.INET_DIAG_BC_D_LE
+    then nat_le s.destination_port (compared_port args)
+    else if code == codes.INET_DIAG_BC_AUTO then s.is_auto_bound
+    else if code == codes.INET_DIAG_BC_S_COND
+    then kernel_matches_host (local_end s) (host_condition args)
+    else if code == codes.INET_DIAG_BC_D_COND
+    then kernel_matches_host (remote_end s) (host_condition args)
+    else if code == codes.INET_DIAG_BC_DEV_COND then s.interface == little_number 4 args
+    else if code == codes.INET_DIAG_BC_MARK_COND
+    then bit_and s.mark (little_number 4 (drop 4 args)) == little_number 4 args
+    else if code == codes.INET_DIAG_BC_S_EQ then s.source_port == compared_port args
+    else if code == codes.INET_DIAG_BC_D_EQ then s.destination_port == compared_port args
+    else if code == codes.INET_DIAG_BC_CGROUP_COND then s.cgroup == little_number 8 args
     else true
 
 -- ---- the meaning of conditions
@@ -110,36 +150,39 @@ compares AtLeast port number = nat_le number port
 compares AtMost port number = nat_le port number
 compares Equal port number = port == number
 
--- `has_port asked port`: the port is the port `asked` of the condition. True if the condition has
--- no port.
+-- `has_port required port`: the port is the one that a condition requires. `required` is `None` if
+-- the condition requires none, and then each port matches.
 abbrev pub has_port : Option ℕ → ℕ → Bool
 has_port None port = true
-has_port (Some asked) port = asked == port
+has_port (Some required) port = required == port
 
--- `address_has_prefix address bits family octets`: the address `octets`, of the family `family`,
--- starts with the first `bits` bits of `address`. An IPv4 `address` is also compared with the last
--- four octets of an IPv4-mapped IPv6 address. Other pairs of families do not match.
-abbrev pub address_has_prefix : IpAddr → ℕ → ℕ → List ℕ → Bool
-address_has_prefix (V4 ip) bits family octets =
-    if AF_INET == family then bits == 0 || have_equal_prefix bits octets (octets_of (V4 ip))
-    else
-    family == AF_INET6
-    && (is_ipv4_mapped octets && have_equal_prefix bits (drop 12 octets) (octets_of (V4 ip)))
-address_has_prefix (V6 ip) bits family octets =
-    if AF_INET6 == family then bits == 0 || have_equal_prefix bits octets (octets_of (V6 ip))
+-- `address_has_prefix address bits end`: the address of this end of a socket starts with the first
+-- `bits` bits of `address`. An IPv4 `address` is also compared with the last four octets of an
+-- IPv4-mapped IPv6 address. Other pairs of families do not match. 0 bits are a prefix of each
+-- address of the same family, as in the kernel, which compares none.
+abbrev pub address_has_prefix : IpAddr → ℕ → SocketEnd → Bool
+address_has_prefix (V4 ip) bits end =
+    if AF_INET == end.family
+    then bits == 0 || have_equal_prefix bits end.octets (octets_of (V4 ip))
+    else end.family == AF_INET6
+    && (is_ipv4_mapped end.octets
+    && have_equal_prefix bits (drop 12 end.octets) (octets_of (V4 ip)))
+address_has_prefix (V6 ip) bits end =
+    if AF_INET6 == end.family
+    then bits == 0 || have_equal_prefix bits end.octets (octets_of (V6 ip))
     else false
 
--- The address `octets`, of the family `family`, has the prefix. True if there is no prefix.
-abbrev pub address_has_optional_prefix : Option Prefix → ℕ → List ℕ → Bool
-address_has_optional_prefix None family octets = true
-address_has_optional_prefix (Some p) family octets =
-    address_has_prefix p.address p.bits family octets
+-- `address_has_optional_prefix prefix end`: the address of this end of a socket has the prefix.
+-- True if there is no prefix (`None`).
+abbrev pub address_has_optional_prefix : Option Prefix → SocketEnd → Bool
+address_has_optional_prefix None end = true
+address_has_optional_prefix (Some prefix) end =
+    address_has_prefix prefix.address prefix.bits end
 
--- `is_host h family port octets`: the port and the address `octets`, of the family `family`, of one
--- end of a socket meet the condition `h`.
-abbrev pub is_host : Host → ℕ → ℕ → List ℕ → Bool
-is_host h family port octets =
-    has_port h.port port && address_has_optional_prefix h.prefix family octets
+-- `meets_host host end`: the port and the address of this end of a socket meet the condition.
+abbrev pub meets_host : Host → SocketEnd → Bool
+meets_host host end =
+    has_port host.port end.port && address_has_optional_prefix host.prefix end
 
 -- `meets s condition`: the socket `s` meets the condition. `Mark mark mask`: the bits of the
 -- socket's mark that are in `mask` are equal to `mark`. `AutoBound`: the kernel chose the socket's
@@ -147,8 +190,8 @@ is_host h family port octets =
 abbrev pub meets : Socket → Condition → Bool
 meets s (conditions.SourcePort comparison port) = compares comparison s.source_port port
 meets s (conditions.DestinationPort comparison port) = compares comparison s.destination_port port
-meets s (conditions.Source h) = is_host h s.family s.source_port s.source
-meets s (conditions.Destination h) = is_host h s.family s.destination_port s.destination
+meets s (conditions.Source host) = meets_host host (local_end s)
+meets s (conditions.Destination host) = meets_host host (remote_end s)
 meets s (conditions.Interface number) = s.interface == number
 meets s (conditions.Mark mark mask) = bit_and s.mark mask == mark
 meets s (conditions.Cgroup number) = s.cgroup == number
@@ -156,7 +199,7 @@ meets s conditions.AutoBound = s.is_auto_bound
 
 -- ---- ranges of the numbers of a condition, as the Rust types have them
 
--- The port of a condition, if it has one, fits 16 bits.
+-- `IsPort port`: the port of a condition, if it has one, fits 16 bits.
 abbrev pub IsPort : Option ℕ → Type 0
 IsPort None = ⊤
 IsPort (Some port) = port < 2 ^ 16
@@ -165,8 +208,8 @@ IsPort (Some port) = port < 2 ^ 16
 abbrev pub IsConditionInRange : Condition → Type 0
 IsConditionInRange (conditions.SourcePort comparison port) = port < 2 ^ 16
 IsConditionInRange (conditions.DestinationPort comparison port) = port < 2 ^ 16
-IsConditionInRange (conditions.Source h) = IsPort h.port
-IsConditionInRange (conditions.Destination h) = IsPort h.port
+IsConditionInRange (conditions.Source host) = IsPort host.port
+IsConditionInRange (conditions.Destination host) = IsPort host.port
 IsConditionInRange (conditions.Interface number) = number < 2 ^ 32
 IsConditionInRange (conditions.Mark mark mask) = (mark < 2 ^ 32) × (mask < 2 ^ 32)
 IsConditionInRange (conditions.Cgroup number) = number < 2 ^ 64
@@ -174,7 +217,7 @@ IsConditionInRange conditions.AutoBound = ⊤
 
 -- Each number of each condition of a filter fits its Rust type.
 abbrev pub AreConditionsInRange : Filter → Type 0
-AreConditionsInRange (parts.Condition c) = IsConditionInRange c
+AreConditionsInRange (parts.Condition condition) = IsConditionInRange condition
 AreConditionsInRange (parts.And' p first q second) =
     AreConditionsInRange first × AreConditionsInRange second
 AreConditionsInRange (parts.Or' p first q second) =

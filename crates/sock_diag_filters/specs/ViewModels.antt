@@ -1,4 +1,5 @@
--- Models of borrowed requests: their content, with borrowed bytes as lists.
+-- Models of borrowed requests: their content, with borrowed bytes as lists. By `==`, two requests
+-- are equal if and only if their models are (`src/laws.rt`).
 use Rattle.std.specs.Prelude.{ℕ, List, Option, option_map}
 use Rattle.netlink_core.specs.declared.header.NetlinkHeader.{NetlinkHeader}
 use Rattle.sock_diag_families.specs.declared.request.ShowRequest.{ShowRequest}
@@ -29,8 +30,8 @@ request_view_model v = record {
   program = option_map (λ program. program.now) v.program;
 }
 
--- The model of a request for sockets of another family: the header, the record and the bytes after
--- it.
+-- The model of a request for sockets of another family: the header, the record, which is of the
+-- type `R`, and the bytes after it.
 pub record RecordRequestModel (R : Type 0) : Type 0 where
   pub header : NetlinkHeader
   pub request : R
@@ -44,7 +45,8 @@ record_request_view_model v = record {
   attributes = v.attributes.now;
 }
 
--- The model of a request for sockets of any family. The argument of `ShowRequest` is the family.
+-- The model of a request for sockets of any family. Unlike `AnyRequest`, it has a case for each
+-- Rust type of a record. The argument of `ShowRequest` is the family.
 pub data AnyRequestModel : Type 0 where
   of_inet : InetRequestModel → AnyRequestModel
   of_unix : RecordRequestModel UnixRequest → AnyRequestModel

@@ -30,10 +30,12 @@ pub struct RecordRequestView<'a, R> {
 }
 
 impl<'a, R: Record<Param = ()>> RecordRequestView<'a, R> {
-    // Parses the record at the start of the payload, which is the bytes after the header.
+    // Parses the record at the start of the payload, which is the bytes after the header. Fails
+    // with the first error of the record.
     fn read(header: NetlinkHeader, payload: &'a [u8]) -> Result<Self, DecodeError>
-        // `parse_record layout tt`: the record of this layout at the start of the bytes, or its
-        // error. `layout.least`: the number of its bytes.
+        // `R.layout`: the layout of the record. `parse_record layout tt bytes`: the record of this
+        // layout at the start of the bytes, or its error; `tt`: the record has no parameter.
+        // `layout.least`: the number of its bytes.
         ensures header { IfOk result (λ view. view.header ≡ header) }
         ensures request { IfOk result (λ view.
             parse_record R.layout tt payload.entry.now ≡ Ok view.request) }
@@ -83,9 +85,9 @@ impl<'a> AnyRequestView<'a> {
     /// 5. an error of the parser of that family's request: of [`RequestView::parse`], or of the
     ///    record.
     pub fn parse(message: &'a [u8]) -> Result<AnyRequestView<'a>, DecodeError>
-        // `any_request_content`: the family, the header, the record and the bytes after it; or a
-        // `RequestView`. `ParsesAsAnyRequest message request`: the message at the start of the
-        // bytes parses as this request. `IsRejectedAnyRequest message e`: `e` is its first error.
+        // `any_request_content view`: the request in the view.
+        // `ParsesAsAnyRequest message request`: the message at the start of the bytes parses as
+        // this request. `IsRejectedAnyRequest message e`: it is rejected with `e`, its first error.
         ensures value { IfOk result (λ view. ParsesAsAnyRequest message.entry.now
             (any_request_content view)) }
         ensures error { IfErr result (IsRejectedAnyRequest message.entry.now) }
@@ -97,14 +99,20 @@ impl<'a> AnyRequestView<'a> {
     }
 }
 
-// Parses the request in a message that starts with this header, by its family.
+// Parses the request in a message that starts with this header, by its family. Fails with the first
+// error of the message.
 fn read_under<'a>(
     header: NetlinkHeader,
     message: &'a [u8],
 ) -> Result<AnyRequestView<'a>, DecodeError>
     requires { HasHeader message.now header }
+    // `any_request_content view`: the request in the view. `ParsesAsAnyRequest message request`:
+    // the message at the start of the bytes parses as this request.
     ensures value { IfOk result (λ view. ParsesAsAnyRequest message.entry.now
         (any_request_content view)) }
+    // `family_of_message message header`: the family of the request, or its error.
+    // `IsRejectedByRequestFamily family message header e`: the message is rejected with `e`, which
+    // is the error of the result.
     ensures error { IfErr result
         (IsRejectedByRequestFamily (family_of_message message.entry.now header) message.entry.now
         header) }
@@ -121,10 +129,13 @@ fn read_under<'a>(
     }
 }
 
-// Returns the first byte of the payload of a request, which determines the family. Returns
-// `MessageTooShort` if the payload has fewer than 2 bytes, and then `UnknownMessageType` if
-// messages of the type are not requests.
+// Returns the first byte of the payload of a request, which determines the family. Fails with
+// `MessageTooShort` if the payload has fewer than 2 bytes, or else with `UnknownMessageType` if
+// messages of this type are not requests.
 fn first_byte(message_type: u16, payload: &[u8]) -> Result<u8, DecodeError>
+    // `family_of_request_payload payload message_type`: the family of a request, or its error. If a
+    // byte is returned, this is the family that the byte determines (`family_by_byte`), or the
+    // error `UnknownFamily`.
     ensures family { IfOk result (λ first. family_of_request_payload payload.now message_type
         ≡ family_by_byte first) }
     ensures error { IfErr result (λ e. family_of_request_payload payload.now message_type ≡ Err e) }

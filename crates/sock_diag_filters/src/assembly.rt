@@ -12,6 +12,7 @@ ghost use Rattle.sock_diag_filters.specs.Sockets.{kernel_evaluates, meets};
 ghost use Rattle.sock_diag_filters.specs.declared.assembly.AssembleError.TheVariants.{Memory};
 ghost use Rattle.sock_diag_filters.specs.Assembled.{IsAssembleError};
 
+use crate::codes::{INET_DIAG_BC_JMP, MAX_DISTANCE, OPERATION_HEADER_LEN};
 use crate::condition::Condition;
 use crate::filter::Filter;
 use byteorder::{ByteOrder, LittleEndian};
@@ -21,9 +22,6 @@ use thiserror::Error;
 /// The maximum length of a program in bytes. A longer program does not fit the length field of an
 /// attribute. In a program of at most this length, the distance of each jump fits its 16 bits.
 pub const MAX_PROGRAM: usize = 65531;
-
-// `INET_DIAG_BC_JMP`: the code of an operation whose condition is never met.
-const JMP: u8 = 1;
 
 /// The reason why a filter could not be assembled.
 #[derive(Debug, Drop, PartialEq, Eq, Error)]
@@ -37,6 +35,7 @@ pub enum AssembleError {
 }
 
 impl From<AllocError> for AssembleError {
+    // The result is `Memory`.
     ghost from_gives = { λ _ e. e ≡ Memory };
 
     fn from(_e: AllocError) -> AssembleError {
@@ -55,22 +54,23 @@ impl From<AllocError> for AssembleError {
 /// `Memory` if an allocation fails, and only for a program that is not too long.
 pub fn assemble(alloc: Global, filter: &Filter) -> Result<Vec<u8>, AssembleError>
     ensures size { IfOk result (λ program. length program.items ≡ program_size filter.now) }
-    ensures short { IfOk result (λ program. length program.items ≤ 65531) }
+    ensures short { IfOk result (λ program. length program.items ≤ MAX_PROGRAM) }
     // `IsAudited program`: the kernel accepts the program.
     ensures audited { IfOk result (λ program. IsAudited program.items) }
-    // `condition_met code arguments`: any assumed result of the condition of an operation.
-    // `Runs condition_met program v`: a run of the program with these results has the verdict `v`.
-    // `meaning met filter`: whether the filter selects a socket, if `met` says which conditions the
-    // socket meets.
+    // For all results of the conditions: `condition_met code arguments` is the assumed result of
+    // the condition of an operation. `Runs condition_met program verdict`: a run of the program
+    // with these results has this verdict: whether the socket is selected. `code_of c` and
+    // `arguments c` are the operation of the condition `c`. `meaning met filter`: whether the
+    // filter selects a socket, if `met` says which conditions the socket meets.
     ensures runs { IfOk result (λ program. (condition_met : ℕ → List ℕ → Bool)
         → Runs condition_met program.items
         (meaning (λ c. condition_met (code_of c) (arguments c)) filter.now)) }
-    // `kernel_evaluates socket`: the kernel's results for this socket. `meets socket`: which
+    // For all sockets: `kernel_evaluates socket` are the kernel's results. `meets socket`: which
     // conditions the socket meets.
     ensures selects_by_filter { IfOk result (λ program. (socket : Socket)
         → Runs (kernel_evaluates socket) program.items (meaning (meets socket) filter.now)) }
     // `AreConditionsInRange filter`: each number of each condition fits its Rust type. This is so
-    // for all Rust values; it is stated for `laws::programs_select_by_filter`.
+    // for all Rust values; it is stated since `laws::programs_select_by_filter` assumes it.
     ensures in_range { OnOk result (AreConditionsInRange filter.now) }
     // `IsAssembleError filter e`: if `e` is `TooLong`, the program would have more than 65,531
     // bytes; if it is `Memory`, at most 65,531.
@@ -80,64 +80,81 @@ pub fn assemble(alloc: Global, filter: &Filter) -> Result<Vec<u8>, AssembleError
         return Err(AssembleError::TooLong);
     };
     let mut program = vec![in alloc; 0; len]?;
-    write_program(filter, 4, &mut program);
+    // A jump to 4 bytes after the end rejects the socket. The audit allows no longer distance.
+    write_program(filter, OPERATION_HEADER_LEN, &mut program);
     Ok(program)
 }
 
 // Writes the program of a filter to a buffer of its length. A run continues at the end of the
-// program for a selected socket, and `far` bytes after the end for any other socket.
+// program for a selected socket, and `far` bytes after the end for any other socket. The distance
+// from the start of the program to there has to fit 16 bits: no jump of the program is longer.
 fn write_program(filter: &Filter, far: usize, buffer: &mut [u8])
     requires whole { length buffer.old ≡ program_size filter.now }
-    requires near { program_size filter.now + far ≤ 65535 }
-    // `program_of filter far`: this program.
+    requires near { program_size filter.now + far ≤ MAX_DISTANCE }
+    // `program_of filter far`: the bytes of this program.
     ensures written { buffer.new ≡ program_of filter.now far }
+    // Each number of the filter fits its Rust type. This is so for all Rust values; it is stated
+    // since `assemble` promises it.
     ensures in_range { AreConditionsInRange filter.now }
 {
     match filter {
         Filter::Condition(condition) => write_condition(*condition, far, buffer),
+        // If `first` does not select the socket, the run continues `far` bytes after the end of
+        // `second`, else at the start of `second`.
         Filter::And(first, second) => {
-            let (front, behind) = buffer.split_at_mut(first.len());
-            write_program(first, behind.len() + far, front);
-            write_program(second, far, behind);
+            let (first_program, second_program) = buffer.split_at_mut(first.len());
+            write_program(first, second_program.len() + far, first_program);
+            write_program(second, far, second_program);
         }
+        // If `first` selects the socket, the run reaches the jump, which leads to the end.
+        // Otherwise it continues after the jump. The condition of `INET_DIAG_BC_JMP` is never met.
         Filter::Or(first, second) => {
-            let (front, rest) = buffer.split_at_mut(first.len());
-            let (jump, behind) = rest.split_at_mut(4);
-            write_program(first, 4, front);
-            write_operation(JMP, 0, behind.len(), jump);
-            write_program(second, far, behind);
+            let (first_program, rest) = buffer.split_at_mut(first.len());
+            let (jump, second_program) = rest.split_at_mut(OPERATION_HEADER_LEN);
+            write_program(first, OPERATION_HEADER_LEN, first_program);
+            write_operation(INET_DIAG_BC_JMP, 0, second_program.len(), jump);
+            write_program(second, far, second_program);
         }
+        // If `filter` selects the socket, the run reaches the jump, which leads `far` bytes after
+        // the end. Otherwise it continues at the end.
         Filter::Not(filter) => {
-            let (front, jump) = buffer.split_at_mut(filter.len());
-            write_program(filter, 4, front);
-            write_operation(JMP, 0, far, jump);
+            let (program, jump) = buffer.split_at_mut(filter.len());
+            write_program(filter, OPERATION_HEADER_LEN, program);
+            write_operation(INET_DIAG_BC_JMP, 0, far, jump);
         }
     }
 }
 
-// Writes the operation of a condition. If the condition is not met, it jumps to `far` bytes after
-// its end.
+// Writes the operation of a condition to a buffer of its length. If the condition is not met, it
+// jumps to `far` bytes after its end. The distance from its start to there has to fit 16 bits.
 fn write_condition(condition: Condition, far: usize, buffer: &mut [u8])
-    requires whole { length buffer.old ≡ 4 + length (arguments condition) }
-    requires near { 4 + length (arguments condition) + far ≤ 65535 }
+    requires whole { length buffer.old ≡ OPERATION_HEADER_LEN + length (arguments condition) }
+    requires near { OPERATION_HEADER_LEN + length (arguments condition) + far ≤ MAX_DISTANCE }
+    // `code_of` and `arguments`: the code and the arguments of the condition's operation.
+    // `operation code arguments far`: the bytes of an operation.
     ensures written { buffer.new ≡ operation (code_of condition) (arguments condition) far }
+    // Each number of the condition fits its Rust type. This is so for all Rust values; it is stated
+    // since `assemble` promises it.
     ensures in_range { IsConditionInRange condition }
 {
-    let (front, behind) = buffer.split_at_mut(4);
-    condition.write_arguments(behind);
-    write_operation(condition.code(), behind.len(), far, front);
+    let (header, arguments) = buffer.split_at_mut(OPERATION_HEADER_LEN);
+    condition.write_arguments(arguments);
+    write_operation(condition.code(), arguments.len(), far, header);
 }
 
 // Writes the start of an operation, `struct inet_diag_bc_op`. `arguments_len` bytes of arguments
-// follow it. If the condition is not met, it jumps to `far` bytes after them.
-fn write_operation(code: u8, arguments_len: usize, far: usize, front: &mut [u8])
-    requires front { length front.old ≡ 4 }
-    requires short { 4 + arguments_len ≤ 255 }
-    requires near { 4 + arguments_len + far ≤ 65535 }
-    ensures { front.new ≡ operation_header_bytes code arguments_len far }
+// follow it. If the condition is not met, it jumps to `far` bytes after them. The length of the
+// operation has to fit 8 bits (`yes`), and the distance from its start to the target of the jump 16
+// bits (`no`).
+fn write_operation(code: u8, arguments_len: usize, far: usize, header: &mut [u8])
+    requires whole { length header.old ≡ OPERATION_HEADER_LEN }
+    requires short { OPERATION_HEADER_LEN + arguments_len ≤ 255 }
+    requires near { OPERATION_HEADER_LEN + arguments_len + far ≤ MAX_DISTANCE }
+    // `operation_header_bytes code arguments_len far`: the four bytes of `code`, `yes` and `no`.
+    ensures { header.new ≡ operation_header_bytes code arguments_len far }
 {
-    let yes = 4 + arguments_len;
-    let (kind, no) = front.split_at_mut(2);
-    kind.copy_from_slice(&[code, yes as u8]);
+    let yes = OPERATION_HEADER_LEN + arguments_len;
+    let (code_and_yes, no) = header.split_at_mut(2);
+    code_and_yes.copy_from_slice(&[code, yes as u8]);
     LittleEndian::write_u16(no, (yes + far) as u16);
 }

@@ -4,6 +4,11 @@ ghost use Rattle.std.specs.Prelude.{◌≡◌, ◌*◌, ◌+◌, ◌≤◌, leng
 ghost use Rattle.std.specs.declared.net.ip_addr.IpAddr.TheVariants.{V6};
 ghost use Rattle.sock_diag_filters.specs.Prefixes.{bits_of, family_of, octets_of, port_bytes};
 
+use crate::codes::{
+    INET_DIAG_BC_AUTO, INET_DIAG_BC_CGROUP_COND, INET_DIAG_BC_D_COND, INET_DIAG_BC_D_EQ,
+    INET_DIAG_BC_D_GE, INET_DIAG_BC_D_LE, INET_DIAG_BC_DEV_COND, INET_DIAG_BC_MARK_COND,
+    INET_DIAG_BC_S_COND, INET_DIAG_BC_S_EQ, INET_DIAG_BC_S_GE, INET_DIAG_BC_S_LE,
+};
 use byteorder::{BigEndian, ByteOrder, LittleEndian};
 use sock_diag_records::constants::{AF_INET, AF_INET6};
 use std::net::{IpAddr, Ipv6Addr};
@@ -37,8 +42,8 @@ impl Prefix {
     /// and only if the address has fewer bits: 32 for IPv4, 128 for IPv6. The bits after the prefix
     /// are kept, but they do not affect which addresses match.
     pub fn new(address: IpAddr, bits: u8) -> Option<Prefix>
-        // `IsNewPrefix result address bits`: `Some` of the prefix with this address and this number
-        // of bits, or `None` and the address has fewer bits.
+        // `IsNewPrefix result address bits`: the result is `Some` of the prefix with this address
+        // and this number of bits; or it is `None`, and the address has fewer bits.
         ensures { IsNewPrefix result address bits }
     {
         let most = match address {
@@ -100,18 +105,18 @@ impl Condition {
         ensures { result ≡ code_of self }
     {
         match self {
-            Condition::SourcePort(Comparison::AtLeast, _) => 2,
-            Condition::SourcePort(Comparison::AtMost, _) => 3,
-            Condition::SourcePort(Comparison::Equal, _) => 11,
-            Condition::DestinationPort(Comparison::AtLeast, _) => 4,
-            Condition::DestinationPort(Comparison::AtMost, _) => 5,
-            Condition::DestinationPort(Comparison::Equal, _) => 12,
-            Condition::Source(_) => 7,
-            Condition::Destination(_) => 8,
-            Condition::Interface(_) => 9,
-            Condition::Mark { .. } => 10,
-            Condition::Cgroup(_) => 13,
-            Condition::AutoBound => 6,
+            Condition::SourcePort(Comparison::AtLeast, _) => INET_DIAG_BC_S_GE,
+            Condition::SourcePort(Comparison::AtMost, _) => INET_DIAG_BC_S_LE,
+            Condition::SourcePort(Comparison::Equal, _) => INET_DIAG_BC_S_EQ,
+            Condition::DestinationPort(Comparison::AtLeast, _) => INET_DIAG_BC_D_GE,
+            Condition::DestinationPort(Comparison::AtMost, _) => INET_DIAG_BC_D_LE,
+            Condition::DestinationPort(Comparison::Equal, _) => INET_DIAG_BC_D_EQ,
+            Condition::Source(_) => INET_DIAG_BC_S_COND,
+            Condition::Destination(_) => INET_DIAG_BC_D_COND,
+            Condition::Interface(_) => INET_DIAG_BC_DEV_COND,
+            Condition::Mark { .. } => INET_DIAG_BC_MARK_COND,
+            Condition::Cgroup(_) => INET_DIAG_BC_CGROUP_COND,
+            Condition::AutoBound => INET_DIAG_BC_AUTO,
         }
     }
 
@@ -132,6 +137,8 @@ impl Condition {
     pub(crate) fn write_arguments(self, buffer: &mut [u8])
         requires { length buffer.old ≡ length (arguments self) }
         ensures written { buffer.new ≡ arguments self }
+        // Each number fits its Rust type. This is so for all Rust values; it is stated since
+        // `assemble` promises it.
         ensures in_range { IsConditionInRange self }
     {
         match self {
@@ -153,8 +160,10 @@ impl Host {
 
     // Returns the length of `struct inet_diag_hostcond` with its address, in bytes.
     fn len(self) -> usize
+        // host_bytes host: the bytes of the struct.
         ensures { result ≡ length (host_bytes self) }
     {
+        // 8 bytes, and the 4 or 16 octets of the address.
         match self.prefix {
             None => 8,
             Some(
@@ -175,6 +184,7 @@ impl Host {
     // Returns the port as it is serialized: `u32::MAX` if it is not compared.
     fn port_number(self) -> u32
         ensures number { result ≡ unwrap_or self.port 0xffffffff }
+        // The port fits 16 bits, as each `u16`; it is stated since `assemble` promises it.
         ensures in_range { IsPort self.port }
     {
         match self.port {
@@ -187,14 +197,17 @@ impl Host {
     fn write(self, buffer: &mut [u8])
         requires { length buffer.old ≡ length (host_bytes self) }
         ensures written { buffer.new ≡ host_bytes self }
+        // The port fits 16 bits, as each `u16`; it is stated since `assemble` promises it.
         ensures in_range { IsPort self.port }
     {
         let (front, rest) = buffer.split_at_mut(4);
         let (port, address) = rest.split_at_mut(4);
         LittleEndian::write_u32(port, self.port_number());
         match self.prefix {
+            // The family AF_UNSPEC (0) and 0 bits match each address.
             None => front.fill(0),
             Some(prefix) => {
+                // `family`, `prefix_len`, and two bytes of padding.
                 front.copy_from_slice(&[family(prefix.address), prefix.bits, 0, 0]);
                 write_address(prefix.address, address);
             }
@@ -202,8 +215,8 @@ impl Host {
     }
 }
 
-// Writes the port of a comparison: a second `struct inet_diag_bc_op` with `code` and `yes` 0 and
-// the port in `no`.
+// Writes the port of a comparison to a buffer of 4 bytes: a second `struct inet_diag_bc_op` whose
+// `code` and `yes` are 0, and whose `no` is the port.
 fn write_port(port: u16, buffer: &mut [u8])
     requires { length buffer.old ≡ 4 }
     ensures { buffer.new ≡ port_bytes port }
@@ -224,6 +237,7 @@ fn family(address: IpAddr) -> u8
 
 // Writes the octets of an address to a buffer of their length.
 fn write_address(address: IpAddr, buffer: &mut [u8])
+    // `bits_of address`: the length of the address in bits.
     requires { 8 * length buffer.old ≡ bits_of address }
     ensures { buffer.new ≡ octets_of address }
 {

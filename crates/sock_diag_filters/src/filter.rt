@@ -2,6 +2,7 @@
 
 ghost use Rattle.std.specs.Prelude.{◌≡◌, ◌≤◌, SomeIff};
 
+use crate::codes::{MAX_DISTANCE, OPERATION_HEADER_LEN};
 use crate::condition::Condition;
 
 /// A filter, which selects sockets. It borrows its parts.
@@ -22,37 +23,42 @@ impl Filter<'_> {
 
     /// Returns the length of the filter's program in bytes, or `None` if it is more than `most`.
     pub fn len_within(&self, most: usize) -> Option<usize>
-        // `program_size`: the length of the program. `SomeIff result p n`: the result is `Some n`
-        // if `p` holds, else `None`.
+        // `program_size filter`: the length of the program. `SomeIff result p n`: the result is
+        // `Some n` if `p` holds, else `None`.
         ensures { SomeIff result (program_size self.now ≤ most) (program_size self.now) }
     {
         match self {
-            Filter::Condition(condition) => within(4 + condition.arguments_len(), most),
+            Filter::Condition(condition) => {
+                within(OPERATION_HEADER_LEN + condition.arguments_len(), most)
+            },
             Filter::And(first, second) => {
-                let before = first.len_within(most)?;
-                let behind = second.len_within(most - before)?;
-                Some(before + behind)
+                let first_len = first.len_within(most)?;
+                let second_len = second.len_within(most - first_len)?;
+                Some(first_len + second_len)
             }
+            // Between both programs is a jump, an operation without arguments.
             Filter::Or(first, second) => {
-                let before = first.len_within(most)?;
-                let jump = within(4, most - before)?;
-                let behind = second.len_within(most - before - jump)?;
-                Some(before + jump + behind)
+                let first_len = first.len_within(most)?;
+                let jump_len = within(OPERATION_HEADER_LEN, most - first_len)?;
+                let second_len = second.len_within(most - first_len - jump_len)?;
+                Some(first_len + jump_len + second_len)
             }
+            // A jump follows the program.
             Filter::Not(filter) => {
-                let before = filter.len_within(most)?;
-                let jump = within(4, most - before)?;
-                Some(before + jump)
+                let filter_len = filter.len_within(most)?;
+                let jump_len = within(OPERATION_HEADER_LEN, most - filter_len)?;
+                Some(filter_len + jump_len)
             }
         }
     }
 
-    // Returns the length of the filter's program in bytes.
+    // Returns the length of the filter's program in bytes, which must be at most `MAX_DISTANCE`:
+    // the programs that `assemble` writes are not longer.
     pub(crate) fn len(&self) -> usize
-        requires { program_size self.now ≤ 65535 }
+        requires { program_size self.now ≤ MAX_DISTANCE }
         ensures { result ≡ program_size self.now }
     {
-        self.len_within(65535).unwrap()
+        self.len_within(MAX_DISTANCE).unwrap()
     }
 }
 

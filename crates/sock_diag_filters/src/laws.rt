@@ -16,7 +16,7 @@ ghost use Rattle.sock_diag_filters.specs.InetRequests.{ParsesAsRequest, IsReques
 ghost use Rattle.sock_diag_filters.specs.InetRequests.{IsRejectedRequest};
 ghost use Rattle.sock_diag_filters.specs.InetRequests.{request_attribute_content};
 ghost use Rattle.sock_diag_filters.specs.AnyRequest.{ParsesAsAnyRequest, AnyRequest, RecordFamily};
-ghost use Rattle.sock_diag_filters.specs.AnyRequest.{IsRejectedAnyRequest, record_request_codec};
+ghost use Rattle.sock_diag_filters.specs.AnyRequest.{IsRejectedAnyRequest, RecordRequest};
 ghost use Rattle.sock_diag_filters.specs.AnyRequest.{of_family};
 ghost use Rattle.sock_diag_filters.specs.AnyReadBack.{IsParsedInetRequest, IsCompleteRecordRequest};
 ghost use Rattle.sock_diag_filters.specs.AnyReadBack.{IsCompleteInetRequest, record_request_bytes};
@@ -43,6 +43,7 @@ use std::alloc::AllocError;
 /// `RequestView::parse` does not reject them if the message type is `SOCK_DIAG_BY_FAMILY` or
 /// `SOCK_DESTROY`.
 pub fn request_round_trips()
+    // Both clauses are about all requests: a header, a record and attributes.
     // `request_bytes h request attributes`: the bytes of the message.
     // `ParsesAsRequest message view`: they parse as this view.
     // `IsParsedRequest h request attributes view`: the view has the content that was serialized.
@@ -71,23 +72,19 @@ pub fn request_round_trips()
 ///   in range and in normal form, its lengths fit, and its header has the type of a request
 ///   (`IsCompleteInetRequest`).
 pub fn any_request_round_trips()
-    // `record_request_bytes family h request attributes`: the bytes of the message: the header, the
-    // record of the family, and the bytes `attributes`. `ParsesAsAnyRequest message other`: they
-    // parse as the request `other`. `of_family family h request attributes`: the request of another
-    // family than IPv4 and IPv6, with this content.
+    // Each clause is about all requests of its families. `RecordRequest family`: a header, a record
+    // of the family, and bytes of attributes. `record_request_bytes r`: the bytes of its message.
+    // `ParsesAsAnyRequest message other`: they parse as the request `other`. `of_family family r`:
+    // the request `r` of another family than IPv4 and IPv6.
     // `request_bytes h request (map request_attribute attributes)`: the bytes of a
     // `RequestWithAttributes`. `IsParsedInetRequest h request attributes other`: a request for IPv4
     // or IPv6 sockets with the content that was serialized. `IsRejectedAnyRequest message e`: the
     // bytes are rejected with `e`.
-    ensures records { (family : RecordFamily) (h : NetlinkHeader)
-        (request : (record_request_codec family).Value) (attributes : List ℕ) (other : AnyRequest)
-        → IsCompleteRecordRequest family h request attributes
-        → ParsesAsAnyRequest (record_request_bytes family h request attributes) other
-        → other ≡ of_family family h request attributes }
-    ensures records_accepted { (family : RecordFamily) (h : NetlinkHeader)
-        (request : (record_request_codec family).Value) (attributes : List ℕ) (e : DecodeError)
-        → IsCompleteRecordRequest family h request attributes
-        → ¬ IsRejectedAnyRequest (record_request_bytes family h request attributes) e }
+    ensures records { (family : RecordFamily) (r : RecordRequest family) (other : AnyRequest)
+        → IsCompleteRecordRequest r → ParsesAsAnyRequest (record_request_bytes r) other
+        → other ≡ of_family family r }
+    ensures records_accepted { (family : RecordFamily) (r : RecordRequest family) (e : DecodeError)
+        → IsCompleteRecordRequest r → ¬ IsRejectedAnyRequest (record_request_bytes r) e }
     ensures inet { (h : NetlinkHeader) (request : InetRequest) (attributes : List RequestAttribute)
         (other : AnyRequest) → IsCompleteInetRequest h request attributes
         → ParsesAsAnyRequest (request_bytes h request (map request_attribute attributes)) other
@@ -106,8 +103,9 @@ pub fn any_request_round_trips()
 /// `in_range`).
 #[tactic(auto, using(crate::proofs::Finding::evaluation_is_meaning))]
 pub fn programs_select_by_filter()
-    // `meaning met filter`: whether the filter selects a socket, if `met` says which conditions the
-    // socket meets. `code_of c` and `arguments c`: the operation of the condition `c`.
+    // For all sockets and filters. `meaning met filter`: whether the filter selects a socket, if
+    // `met` says which conditions the socket meets. `code_of c` and `arguments c`: the operation of
+    // the condition `c`. `AreConditionsInRange filter`: the premise on its numbers.
     ensures { (socket : Socket) (filter : Filter) → AreConditionsInRange filter
         → meaning (λ c. kernel_evaluates socket (code_of c) (arguments c)) filter
         ≡ meaning (meets socket) filter }
@@ -117,20 +115,25 @@ pub fn programs_select_by_filter()
 /// most one verdict.
 #[tactic(auto, using(crate::proofs::Verdicts::one_verdict))]
 pub fn one_verdict()
-    // `Runs condition_met program verdict`: a run of the program has this verdict: whether the
-    // socket is selected. `condition_met code arguments`: whether the condition of an operation is
-    // met.
+    // For all results of the conditions, and for all programs: two verdicts `v` and `w` of a run
+    // are equal. `Runs condition_met program verdict`: a run of the program has this verdict:
+    // whether the socket is selected. `condition_met code arguments`: whether the condition of an
+    // operation is met.
     ensures { (condition_met : ℕ → List ℕ → Bool) (program : List ℕ) (v w : Bool)
         → Runs condition_met program v → Runs condition_met program w → v ≡ w }
 {}
 
 /// States that `==` holds if and only if two attributes of requests have the same kind and the same
 /// content.
-pub fn equal_request_attributes(v: &RequestAttribute<'_>, w: &RequestAttribute<'_>) -> bool
+pub fn equal_request_attributes(
+    attribute: &RequestAttribute<'_>,
+    other: &RequestAttribute<'_>,
+) -> bool
     // `request_attribute_content`: a program as a list of bytes, or a protocol.
-    ensures { IsTrue result ↔ (request_attribute_content v.now ≡ request_attribute_content w.now) }
+    ensures { IsTrue result
+        ↔ (request_attribute_content attribute.now ≡ request_attribute_content other.now) }
 {
-    v == w
+    attribute == other
 }
 
 /// States that a copy has the same kind and content, and that `clone` never fails.
@@ -138,6 +141,7 @@ pub fn copied_request_attribute<'a>(
     attribute: &RequestAttribute<'a>,
 ) -> Result<RequestAttribute<'a>, AllocError>
     ensures ok { IsOk result }
+    // `request_attribute_content`: a program as a list of bytes, or a protocol.
     ensures same { IfOk result (λ copy. request_attribute_content copy
         ≡ request_attribute_content attribute.now) }
 {
@@ -153,40 +157,41 @@ pub fn copied_filter<'a>(filter: &Filter<'a>) -> Result<Filter<'a>, AllocError>
 }
 
 /// States that `==` holds if and only if two errors are the same.
-pub fn equal_assemble_errors(v: &AssembleError, w: &AssembleError) -> bool
-    ensures { IsTrue result ↔ (v.now ≡ w.now) }
+pub fn equal_assemble_errors(error: &AssembleError, other: &AssembleError) -> bool
+    ensures { IsTrue result ↔ (error.now ≡ other.now) }
 {
-    v == w
+    error == other
 }
 
 /// States that `==` holds if and only if two requests have the same header, record, protocol and
 /// program.
-pub fn equal_request_views(v: &RequestView<'_>, w: &RequestView<'_>) -> bool
+pub fn equal_request_views(view: &RequestView<'_>, other: &RequestView<'_>) -> bool
     // `request_view_model`: the view with its program as a list of bytes.
-    ensures { IsTrue result ↔ (request_view_model v.now ≡ request_view_model w.now) }
+    ensures { IsTrue result ↔ (request_view_model view.now ≡ request_view_model other.now) }
 {
-    v == w
+    view == other
 }
 
 /// States that `==` holds if and only if two requests have the same header, record and attributes'
 /// bytes.
 pub fn equal_record_request_views<R: Exact>(
-    v: &RecordRequestView<'_, R>,
-    w: &RecordRequestView<'_, R>,
+    view: &RecordRequestView<'_, R>,
+    other: &RecordRequestView<'_, R>,
 ) -> bool
     // `record_request_view_model`: the view with the bytes after its record as a list.
-    ensures { IsTrue result ↔ (record_request_view_model v.now ≡ record_request_view_model w.now) }
+    ensures { IsTrue result
+        ↔ (record_request_view_model view.now ≡ record_request_view_model other.now) }
 {
-    v == w
+    view == other
 }
 
 /// States that `==` holds if and only if two requests are of the same family and have the same
 /// content.
-pub fn equal_any_request_views(v: &AnyRequestView<'_>, w: &AnyRequestView<'_>) -> bool
+pub fn equal_any_request_views(view: &AnyRequestView<'_>, other: &AnyRequestView<'_>) -> bool
     // `any_request_view_model`: the family, and the model of the view of its request.
-    ensures { IsTrue result ↔ (any_request_view_model v.now ≡ any_request_view_model w.now) }
+    ensures { IsTrue result ↔ (any_request_view_model view.now ≡ any_request_view_model other.now) }
 {
-    v == w
+    view == other
 }
 
 /// States the numeric value of each constant: `PairsAreEqual` states that both numbers of each pair

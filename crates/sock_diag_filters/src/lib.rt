@@ -4,6 +4,7 @@
 
 mod any;
 mod assembly;
+mod codes;
 mod condition;
 mod equality;
 mod filter;

@@ -15,13 +15,13 @@ use netlink_core::{
 use sock_diag_records::inet::{INET_REQUEST_LEN, InetRequest};
 pub use sock_diag_records::inet::{INET_DIAG_REQ_BYTECODE, INET_DIAG_REQ_PROTOCOL};
 
-/// The number of bytes before the attributes: 16 of the netlink header and 56 of
+/// The number of bytes before the attributes, 72: 16 of the netlink header and 56 of
 /// `struct inet_diag_req_v2`.
 pub const REQUEST_FRONT: usize = NETLINK_HEADER_LEN + INET_REQUEST_LEN;
 
 // The maximum number of bytes of the attributes, so that the length of the message fits the length
-// field of its header.
-const MOST_ATTRIBUTES: usize = 4294967223;
+// field of its header: 2^32 - 1, less the 72 bytes before the attributes.
+const MAX_ATTRIBUTES_LEN: usize = 4294967223;
 
 /// An attribute of a request for IPv4 or IPv6 sockets. If there are several of one kind, the kernel
 /// uses the last.
@@ -37,9 +37,11 @@ pub enum RequestAttribute<'a> {
 impl Nla for RequestAttribute<'_> {
     ghost use Rattle.sock_diag_filters.specs.ReadBack.{IsRequestAttributeInRange};
 
+    // The type and the value of the attribute.
     ghost attribute = { request_attribute };
 
-    // A program has at most 65,531 bytes, and a protocol is below 2^32.
+    // A program has at most 65,531 bytes, as `emit_value` requires, and a protocol is below 2^32.
+    // It is stated since `laws::request_round_trips` assumes it.
     ghost in_range = { IsRequestAttributeInRange };
 
     fn value_len(&self) -> usize {
@@ -89,7 +91,8 @@ impl Emitable for RequestWithAttributes<'_> {
 
     // `AreWritableWithin attributes limit`: each value has at most 65,531 bytes, and all attributes
     // with headers and paddings have at most `limit` bytes. 4,294,967,223 is 2^32 - 1 - 72: the
-    // largest length of a message, less the bytes before its attributes.
+    // largest length of a message, less the bytes before its attributes. The header and the request
+    // are always writable.
     ghost writable = { λ r. AreWritableWithin (map request_attribute r.attributes.now) 4294967223 };
 
     // `IsRequestInRange header request attributes`: each number of the header that is serialized,
@@ -99,7 +102,7 @@ impl Emitable for RequestWithAttributes<'_> {
     /// Returns whether each program has at most 65,531 bytes, and the length of the message fits
     /// the length field of its header.
     fn is_writable(&self) -> bool {
-        nlas_len_within(self.attributes, MOST_ATTRIBUTES).is_some()
+        nlas_len_within(self.attributes, MAX_ATTRIBUTES_LEN).is_some()
     }
 
     fn buffer_len(&self) -> usize {
@@ -116,10 +119,15 @@ impl Emitable for RequestWithAttributes<'_> {
 
 // Writes the header with the length `len`, and then the value. The buffer has the length of both.
 fn write_front<R: Emitable>(header: &NetlinkHeader, len: u32, value: &R, front: &mut [u8])
+    // `R.writable value`: its lengths fit their fields. `R.bytes value`: the bytes that it
+    // serializes to. `header_with_length header len`: the header with this length. `header_bytes`:
+    // its 16 bytes.
     requires writable { R.writable value.now }
-    requires whole { length front.old ≡ 16 + length (R.bytes value.now) }
+    requires whole { length front.old ≡ NETLINK_HEADER_LEN + length (R.bytes value.now) }
     ensures written { front.new
         ≡ header_bytes (header_with_length header.now len) ++ R.bytes value.now }
+    // Each number of the header and of the value fits its field. This is so for all Rust values; it
+    // is stated since `emit` promises it.
     ensures header_in_range { FitFields header_fields
         (header_values (header_with_length header.now len)) }
     ensures in_range { R.in_range value.now }
@@ -131,6 +139,8 @@ fn write_front<R: Emitable>(header: &NetlinkHeader, len: u32, value: &R, front: 
 
 // Serializes the value to a buffer of the same length.
 fn write_all<R: Emitable>(value: &R, buffer: &mut [u8])
+    // `R.writable value`: its lengths fit their fields. `R.bytes value`: the bytes that it
+    // serializes to. `R.in_range value`: each of its numbers fits its field, which `emit` promises.
     requires writable { R.writable value.now }
     requires whole { length buffer.old ≡ length (R.bytes value.now) }
     ensures written { buffer.new ≡ R.bytes value.now }
@@ -141,8 +151,11 @@ fn write_all<R: Emitable>(value: &R, buffer: &mut [u8])
 
 // Serializes the header, with the length `len`, to a buffer of 16 bytes.
 fn write_header(header: &NetlinkHeader, len: u32, buffer: &mut [u8])
-    requires { length buffer.old ≡ 16 }
+    requires { length buffer.old ≡ NETLINK_HEADER_LEN }
+    // `header_with_length header len`: the header with this length.
     ensures written { buffer.new ≡ header_bytes (header_with_length header.now len) }
+    // Each number of the header fits its field. This is so for all Rust values; it is stated since
+    // `emit` promises it.
     ensures in_range { FitFields header_fields (header_values (header_with_length header.now len)) }
 {
     let (first, rest) = buffer.split_at_mut(4);

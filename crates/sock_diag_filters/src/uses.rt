@@ -7,7 +7,10 @@ ghost use Rattle.sock_diag_filters.specs.Requests.{request_bytes};
 ghost use Rattle.sock_diag_filters.specs.Run.{Runs};
 ghost use Rattle.sock_diag_filters.specs.Uses.{example_request_header, tcp_request_with};
 ghost use Rattle.sock_diag_filters.specs.Uses.{close_request_bytes, zero_socket_id};
-ghost use Rattle.sock_diag_filters.specs.Uses.{program_attribute};
+ghost use Rattle.sock_diag_filters.specs.Uses.{acknowledged_flags, all_states, dump_flags};
+ghost use Rattle.sock_diag_filters.specs.Uses.{listen_state, program_attribute};
+ghost use Rattle.sock_diag_filters.specs.declared.codes.TheConstants.{INET_DIAG_BC_S_GE};
+ghost use Rattle.sock_diag_filters.specs.declared.codes.TheConstants.{INET_DIAG_BC_S_LE};
 ghost use Rattle.sock_diag_filters.specs.declared.assembly.AssembleError.TheVariants.{Memory};
 
 use crate::{
@@ -36,20 +39,23 @@ pub fn listening_on(
     last: u16,
     sequence_number: u32,
 ) -> Result<Vec<u8>, AssembleError>
-    // There is a program that the kernel accepts (`IsAudited`), and each run of it has the verdict
-    // of the two comparisons, whatever they return: `found code arguments` is the result of an
-    // operation, `port_bytes` are the arguments of a comparison with a port, and
-    // `Runs found program verdict` is a run with these results.
-    //
-    // `request_bytes header request attributes`: the bytes of the message. The header has the
-    // flags NLM_F_REQUEST and NLM_F_DUMP, and the sequence number. The request has the state LISTEN
-    // (bit 10) and a socket id of zeros. The attribute is this program.
+    // There is a program with three properties:
+    // - The kernel accepts it (`IsAudited program`).
+    // - Each run of it selects a socket if and only if both comparisons are met. This holds for all
+    //   results of the comparisons: `condition_met code arguments` is the assumed result of an
+    //   operation, and `Runs condition_met program verdict` is a run with these results.
+    //   `port_bytes port` are the arguments of a comparison with this port.
+    // - The message carries it: `request_bytes header request attributes` are the bytes of the
+    //   message. The header has the flags NLM_F_REQUEST and NLM_F_DUMP, and the sequence number.
+    //   The request has the state LISTEN (bit 10) and a socket id of zeros. The only attribute has
+    //   the program.
     ensures asked { IfOk result (λ message. (program : List ℕ) × IsAudited program
-        × ((found : ℕ → List ℕ → Bool)
-        → Runs found program (found 2 (port_bytes first) && found 3 (port_bytes last)))
+        × ((condition_met : ℕ → List ℕ → Bool) → Runs condition_met program
+        (condition_met INET_DIAG_BC_S_GE (port_bytes first)
+        && condition_met INET_DIAG_BC_S_LE (port_bytes last)))
         × (message.items
-        ≡ request_bytes (example_request_header SOCK_DIAG_BY_FAMILY 0x301 sequence_number)
-        (tcp_request_with 0x400 zero_socket_id) (program_attribute program ∷ []))) }
+        ≡ request_bytes (example_request_header SOCK_DIAG_BY_FAMILY dump_flags sequence_number)
+        (tcp_request_with listen_state zero_socket_id) (program_attribute program ∷ []))) }
     ensures fails { IfErr result (λ e. e ≡ Memory) }
 {
     let from = Filter::Condition(Condition::SourcePort(Comparison::AtLeast, first));
@@ -75,9 +81,13 @@ pub fn listening_on(
 /// all states, and no attributes. The socket is identified by its addresses, ports, interface and
 /// cookie; the family of the request is that of `source_address`. The kernel requires
 /// `CAP_NET_ADMIN`.
+///
+/// The contract states the message twice: as the bytes of its header, its request and no attributes
+/// (`request_bytes header request []`), and written out (`close_request_bytes`).
 pub fn close_tcp(socket_id: SocketId, sequence_number: u32) -> [u8; REQUEST_FRONT]
-    ensures written { result ≡ request_bytes (example_request_header SOCK_DESTROY 5 sequence_number)
-        (tcp_request_with 0xffffffff socket_id) [] }
+    ensures written { result
+        ≡ request_bytes (example_request_header SOCK_DESTROY acknowledged_flags sequence_number)
+        (tcp_request_with all_states socket_id) [] }
     ensures bytes { result ≡ close_request_bytes socket_id sequence_number }
 {
     let request = RequestWithAttributes {
@@ -102,8 +112,8 @@ fn header(message_type: u16, flags: u16, sequence_number: u32) -> NetlinkHeader
     }
 }
 
-// Returns the request for TCP sockets in these states, or for the TCP socket with this identity. It
-// requests no attributes.
+// Returns the request for the TCP sockets in these states and with this socket id. It requests no
+// attributes. `states.0` is the set of states as a number.
 fn tcp(states: StateFlags, socket_id: SocketId) -> InetRequest
     ensures { result ≡ tcp_request_with states.0 socket_id }
 {

@@ -88,8 +88,10 @@ struct Found<'a> {
 }
 
 impl<'a> Found<'a> {
-    // Returns the values after one more attribute.
+    // Returns the values after one more attribute, which is `None` if it is of another type.
     fn with(self, decoded: Option<RequestAttribute<'a>>) -> Found<'a>
+        // `found_attributes_after found attribute`: the values after one more attribute.
+        // `self.entry` and `decoded.entry` are the arguments as they were passed.
         ensures { result ≡ found_attributes_after self.entry decoded.entry }
     {
         match decoded {
@@ -108,8 +110,10 @@ impl<'a> Found<'a> {
 
 // Returns the last program and the last protocol in the attributes, or the first error.
 fn find_attributes<'a>(bytes: &'a [u8]) -> Result<Found<'a>, DecodeError>
+    // `decode_request_attribute`: the content of an attribute, or its error.
     // `DecodeTo decode bytes contents`: the bytes split into attributes that decode to these
-    // contents. `HasAttributeError decode bytes e`: `e` is the first error in the bytes.
+    // contents. `HasLastContents found contents`: `found` has the last program and the last
+    // protocol of them. `HasAttributeError decode bytes e`: `e` is the first error in the bytes.
     ensures value { IfOk result (λ found. (decoded : List RequestContent)
         × DecodeTo decode_request_attribute bytes.entry.now decoded
         × HasLastContents found decoded) }
@@ -127,8 +131,12 @@ fn find_attributes<'a>(bytes: &'a [u8]) -> Result<Found<'a>, DecodeError>
     Ok(found)
 }
 
-// Parses an attribute. Returns `None` for an attribute of another kind.
+// Parses an attribute. Returns `None` for an attribute that is neither a program nor a protocol.
+// Fails with `WrongLength` if a protocol has a length other than 4.
 fn decode<'a>(attribute: &NlaBuffer<'a>) -> Result<Option<RequestAttribute<'a>>, DecodeError>
+    // The result is that of `decode_request_attribute`, which has `other_content` in place of
+    // `None` (`optional_request_content`). `buffered_attribute`: the type and the value of the
+    // attribute.
     ensures { decode_request_attribute (buffered_attribute attribute.entry.now)
         ≡ map_ok optional_request_content result }
 {

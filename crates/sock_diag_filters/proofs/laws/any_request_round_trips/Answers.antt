@@ -5,12 +5,12 @@ use Rattle.sock_diag_filters.proofs.AnyReadBack.{serialized_record_request_parse
 use Rattle.sock_diag_filters.proofs.laws.any_request_round_trips.Goals as goal
 
 pub returns-clause-records : goal.returns-clause-records
-returns-clause-records c = λ family h request attributes other whole asks.
-    serialized_record_request_parses family h request attributes whole other asks
+returns-clause-records c = λ family r other whole asks.
+    serialized_record_request_parses family r whole other asks
 
 pub returns-clause-records_accepted : goal.returns-clause-records_accepted
-returns-clause-records_accepted c = λ family h request attributes e whole refused.
-    serialized_record_request_is_accepted family h request attributes whole e refused
+returns-clause-records_accepted c = λ family r e whole refused.
+    serialized_record_request_is_accepted family r whole e refused
 
 pub returns-clause-inet : goal.returns-clause-inet
 returns-clause-inet c = λ h request attributes other whole asks.
