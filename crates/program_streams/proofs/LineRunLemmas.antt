@@ -10,11 +10,20 @@ use Rattle.std.proofs.lemmas.List.Concat.{flat_map-append}
 use Rattle.std.proofs.lemmas.List.Folds.{list_all-append, list_all-map}
 use Rattle.std.proofs.Math.Seq.{take-append_seam}
 use Rattle.program_streams.specs.Lines.{SplitsIntoLines, all_lines}
-use Rattle.program_streams.specs.LineRun.{AnswersInput, answer_lines}
+use Rattle.program_streams.specs.LineRun.{AnswersInput, RunStreams, answer_lines}
 use Rattle.program_streams.specs.private.LineRun.{WritesPartOfText, all_answers_good}
 use Rattle.program_streams.proofs.LinesLemmas.{SplitsIntoLines-append, SplitsIntoLines-one_way}
 use Rattle.program_streams.specs.declared.lines.RunError.{RunError}
 use Rattle.program_streams.specs.declared.lines.RunError.TheVariants.{Read, Write, Memory}
+
+-- the streams of a run, by what was left to read and what had been written before and after it
+abbrev pub streams_of : (left left' held held' : Option (List ℕ)) → RunStreams
+streams_of left left' held held' = record {
+  left_before = left;
+  left_after = left';
+  held_before = held;
+  held_after = held';
+}
 
 -- the last line follows the complete lines
 all_lines-append : (whole : List (List ℕ)) (rest : List ℕ) → all_lines whole rest
@@ -72,7 +81,7 @@ module _ {r r' c c' : Option (List ℕ)} {whole : List (List ℕ)} {rest written
   pub run_failed : (f : List ℕ → List ℕ) (good : List ℕ → Bool) (n : ℕ) (c'' : Option (List ℕ))
       (text more : List ℕ) (e : RunError) → written ≡ answer_lines f (take n whole)
       → answer_lines f (all_lines whole rest) ≡ (written ++ text) ++ more
-      → WritesPartOfText c' c'' text e → AnswersInput f r r' c c'' good (Err e)
+      → WritesPartOfText c' c'' text e → AnswersInput f (streams_of r r' c c'') good (Err e)
   run_failed f good n c'' text more Read first begins wrote = absurd wrote
   run_failed f good n c'' text more Memory first begins wrote =
       let none = Appends-kept c' c' c'' [] (Appends-nil c') wrote in
@@ -90,7 +99,7 @@ pub run_complete : (answers : List ℕ → List ℕ → Type 0) (good : List ℕ
     (a : List ℕ → List ℕ)
     → ((f : List ℕ → List ℕ) → ((line : List ℕ) → answers line (f line)) → a ≡ f)
     → (r r' c c' : Option (List ℕ)) (result : Result Bool RunError) → OnOk result (IsAtEnd r')
-    → AnswersInput a r r' c c' good result
+    → AnswersInput a (streams_of r r' c c') good result
     → OnOk result (IfSome r (λ text. (f : List ℕ → List ℕ) (whole : List (List ℕ)) (rest : List ℕ)
     → ((line : List ℕ) → answers line (f line))
     → SplitsIntoLines text whole rest → Appends c c' (answer_lines f (all_lines whole rest))))

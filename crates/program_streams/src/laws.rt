@@ -5,10 +5,10 @@ ghost use Rattle.std.specs.Prelude.{◌≡◌, IsOk, IfOk};
 use crate::error_text::ErrorText;
 use std::alloc::AllocError;
 
-/// Copies an error's text by `clone`, which never fails and returns an equal value.
-pub fn copied_error_text(v: &ErrorText) -> Result<ErrorText, AllocError>
+/// Returns a clone of an error's text. `clone` never fails, and returns an equal value.
+pub fn copied_error_text(text: &ErrorText) -> Result<ErrorText, AllocError>
     ensures ok { IsOk result }
-    ensures same { IfOk result (λ copy. copy ≡ v.now) }
+    ensures same { IfOk result (λ copy. copy ≡ text.now) }
 {
-    v.clone()
+    text.clone()
 }

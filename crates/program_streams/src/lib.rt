@@ -9,5 +9,5 @@ mod lines;
 mod streams;
 
 pub use error_text::{ErrorText, hex_digits};
-pub use lines::{LineAnswers, PromptRead, RunError, Start, serve};
+pub use lines::{LineAnswers, PromptRead, RunError, RunStart, serve};
 pub use streams::{ReadError, Sink, Source, WriteError, os_error_end, send, try_send};

@@ -6,10 +6,10 @@ ghost use Rattle.std.specs.Io.KnownBytes.{Appends, Consumes, IsAtEnd, ReadConsum
 ghost use Rattle.std.specs.Io.{ReadsAtMost};
 ghost use Rattle.program_streams.specs.ErrorText.{run_error_text};
 ghost use Rattle.program_streams.specs.Lines.{SplitsIntoLines, all_lines};
-ghost use Rattle.program_streams.specs.LineRun.{AnswersInput, answer_lines};
-ghost use Rattle.program_streams.specs.private.LineRun.{AnswersCompleteLines, HasNoLineFeed};
-ghost use Rattle.program_streams.specs.private.LineRun.{WritesAllText, all_answers_good};
-ghost use Rattle.program_streams.specs.private.LineRun.{with_line_feed};
+ghost use Rattle.program_streams.specs.LineRun.{AnswersEachLine, AnswersInput, answer_lines};
+ghost use Rattle.program_streams.specs.LineRun.{with_line_feed};
+ghost use Rattle.program_streams.specs.private.LineRun.{AnswersChunk, HasNoLineFeed};
+ghost use Rattle.program_streams.specs.private.LineRun.{WritesText, all_answers_good};
 ghost use Rattle.program_streams.specs.declared.lines.RunError.TheVariants.{Memory, Read, Write};
 ghost use Rattle.program_streams.specs.declared.streams.ReadError.{ReadError};
 ghost use Rattle.program_streams.specs.declared.streams.WriteError.{WriteError};
@@ -33,6 +33,7 @@ pub enum RunError {
 }
 
 impl fmt::Display for RunError {
+    // run_error_text error: "reading failed", "writing failed" or "out of memory".
     ghost output = { λ error. Some (run_error_text error) };
 
     fn fmt<W: fmt::Write>(&self, f: &mut fmt::Formatter<W>) -> fmt::Result {
@@ -47,6 +48,7 @@ impl fmt::Display for RunError {
 impl Error for RunError {}
 
 impl From<ReadError> for RunError {
+    // The result is `Read`.
     ghost from_gives = { λ _ e. e ≡ Read };
 
     fn from(_error: ReadError) -> RunError {
@@ -55,6 +57,7 @@ impl From<ReadError> for RunError {
 }
 
 impl From<WriteError> for RunError {
+    // The result is `Write`.
     ghost from_gives = { λ _ e. e ≡ Write };
 
     fn from(_error: WriteError) -> RunError {
@@ -63,6 +66,7 @@ impl From<WriteError> for RunError {
 }
 
 impl From<AllocError> for RunError {
+    // The result is `Memory`.
     ghost from_gives = { λ _ e. e ≡ Memory };
 
     fn from(_e: AllocError) -> RunError {
@@ -71,6 +75,7 @@ impl From<AllocError> for RunError {
 }
 
 impl<T: Drop> From<AllocFailed<T>> for RunError {
+    // The result is `Memory`.
     ghost from_gives = { λ _ e. e ≡ Memory };
 
     fn from(_e: AllocFailed<T>) -> RunError {
@@ -78,95 +83,110 @@ impl<T: Drop> From<AllocFailed<T>> for RunError {
     }
 }
 
-/// The number of bytes that a read requests. An answer line is at most nine times as long as its
-/// line with the line feed. So the answers that are buffered before a write have at most 72 KiB, in
-/// addition to the answer to a line that began in an earlier read.
+/// The number of bytes that a read requests. In the protocol of `sock_diag_lines`, an answer line
+/// is at most nine times as long as its line, both with their line feeds: `bad line` answers an
+/// empty line. So the answers that are buffered before a write have at most 72 KiB, in addition to
+/// the answer to a line that began in an earlier read.
 const CHUNK: usize = 8192;
 
 /// The largest capacity, in bytes, that a buffer retains from line to line.
 const RETAINED_CAPACITY: usize = 131072;
 
-/// The state of a reader and a writer when a run starts, and the answer to each line. It exists in
-/// contracts only.
-pub trait Start {
-    // The bytes that were left to read, if they are known.
-    ghost remaining: { Option (List ℕ) };
+/// The state of a reader and a writer when a run starts, and the answer to each line. It is for
+/// contracts only, and has no methods.
+pub trait RunStart {
+    // The bytes that were left to read when the run started, if they are known, else `None`.
+    ghost left_before: { Option (List ℕ) };
 
-    // The bytes that had been written, if they are known.
-    ghost contents: { Option (List ℕ) };
+    // The bytes that had been written when the run started, if they are known, else `None`.
+    ghost held_before: { Option (List ℕ) };
 
     // The answer to each line.
     ghost answer: { List ℕ → List ℕ };
 }
 
-/// A reader that can be read only if the answers to all complete lines so far have been written.
-/// Generic code that has no other bound on a reader can read in no other way, and cannot claim that
-/// a read failed if none did.
+/// A reader that can be read only if the answers to all complete lines so far have been written. So
+/// [`serve`], which has no other bound on its reader, answers each line before it reads again, and
+/// cannot claim that a read failed if none did.
 pub trait PromptRead {
-    // The bytes that are left to read, if they are known.
+    // The bytes that are left to read, if they are known, else `None`.
     ghost left: { Self → Option (List ℕ) };
 
-    // This number of reads was made.
+    // reads reader n: `n` reads were made. For a reader that does not count them it always holds.
     ghost reads: { Self → ℕ → Type 0 };
 
-    // A read failed.
+    // failed reader: a read failed.
     ghost failed: { Self → Type 0 };
 
-    /// Reads once into `piece`, and returns the number of bytes that were read: 0 only at the end
-    /// of the input, or if `piece` is empty. If the read fails, nothing was read.
-    fn read_prompt<S: Start, W: Sink>(
+    /// Reads once into `chunk`, and returns the number of bytes that were read: 0 only at the end
+    /// of the input, or if `chunk` is empty. If the read fails, nothing was read. `output` and
+    /// `line` are for the precondition only: all complete lines that were read before must be
+    /// answered.
+    fn read_prompt<S: RunStart, W: Sink>(
         &mut self,
         output: &W,
         line: &[u8],
-        piece: &mut [u8],
+        chunk: &mut [u8],
     ) -> Result<usize, ReadError>
-        // `S` has the state at the start of the run and the answer to each line. The bytes that
-        // were read since then are the complete lines `whole`, and then `line`. What was written
-        // since then are the answers to the lines `whole`.
+        // The answers to all complete lines that were read since the start of the run have been
+        // written, and nothing else:
+        // - Consumes: `text` was read since the start (`S.left_before`).
+        // - SplitsIntoLines: it is the complete lines `whole`, and then `line`, which has no line
+        //   feed yet.
+        // - Appends: the answers to `whole`, each with a line feed, were written since the start
+        //   (`S.held_before`). W.held output: the bytes that have been written.
+        // If it was not known at the start what was left to read, or what had been written
+        // (`None`), `Consumes` or `Appends` requires nothing.
         requires { (whole : List (List ℕ)) × (text : List ℕ)
-            × Consumes S.remaining (left self.old) text × SplitsIntoLines text whole line.now
-            × Appends S.contents (W.held output.now) (answer_lines S.answer whole) }
-        // On `Ok(n)`, `n` is at most the length of `piece`.
-        ensures bound { ReadsAtMost result piece.new }
-        // On `Ok(n)`, the first `n` bytes of `piece` were removed from the start of the bytes that
-        // were left, if these are known. If `n` is 0 and `piece` is not empty, none were left. On
+            × Consumes S.left_before (left self.old) text × SplitsIntoLines text whole line.now
+            × Appends S.held_before (W.held output.now) (answer_lines S.answer whole) }
+        // On `Ok(n)`, `n` is at most the length of `chunk`.
+        ensures bound { ReadsAtMost result chunk.new }
+        // On `Ok(n)`, the first `n` bytes of `chunk` were removed from the start of the bytes that
+        // were left, if these are known. If `n` is 0 and `chunk` is not empty, none were left. On
         // `Err`, the bytes that are left are unchanged.
-        ensures bytes { ReadConsumes (left self.old) (left self.new) result piece.new }
-        // One more read was made, also if it failed.
+        ensures bytes { ReadConsumes (left self.old) (left self.new) result chunk.new }
+        // One more read was made, also if it failed: if `n` reads were made before the call, n + 1
+        // were made after it.
         ensures counted { (n : ℕ) → reads self.old n → reads self.new (n + 1) }
+        // The call fails only if a read failed.
         ensures cause { OnErr result (failed self.new) };
 }
 
 impl<R: Source> PromptRead for R {
+    // The bytes that are left in the source.
     ghost left = { λ r. R.left r };
 
     // A source does not count reads: this always holds.
     ghost reads = { λ _ _. ⊤ };
 
+    // A read of the source failed, with some error.
     ghost failed = { λ r. (e : ReadError) × R.failed r e };
 
-    fn read_prompt<S: Start, W: Sink>(
+    fn read_prompt<S: RunStart, W: Sink>(
         &mut self,
         _output: &W,
         _line: &[u8],
-        piece: &mut [u8],
+        chunk: &mut [u8],
     ) -> Result<usize, ReadError> {
-        self.read_some(piece)
+        self.read_some(chunk)
     }
 }
 
-/// The service that answers lines: it parses a line as a request, and appends the answer.
+/// The service that answers lines: it parses a line as a request, and appends the answer. It is a
+/// trait so that the loop of `serve` and its proof do not depend on a protocol; the protocol of
+/// `sock_diag_lines` is its only implementation.
 pub trait LineAnswers {
     /// The request in a line, without the bytes that it is about.
     type Request: Drop;
 
-    // The text is an answer to the line.
-    ghost answers: { List ℕ → List ℕ → Type 0 };
+    // is_answer line text: the text is an answer to the line.
+    ghost is_answer: { List ℕ → List ℕ → Type 0 };
 
-    // The line contains this request, about these bytes.
-    ghost asks: { List ℕ → Self.Request → List ℕ → Type 0 };
+    // parses_as line request bytes: the line parses as this request, about these bytes.
+    ghost parses_as: { List ℕ → Self.Request → List ℕ → Type 0 };
 
-    // Whether an answer is a good one.
+    // good answer: whether the answer is a good one. The protocol defines which ones are.
     ghost good: { List ℕ → Bool };
 
     /// Parses the request in a line, and replaces the content of `bytes` by the bytes that it is
@@ -176,28 +196,30 @@ pub trait LineAnswers {
         bytes: &mut Vec<u8>,
         line: &[u8],
     ) -> Result<Self::Request, AllocError>
-        ensures { IfOk result (λ asked. asks line.now asked bytes.new.items) };
+        ensures { IfOk result (λ request. parses_as line.now request bytes.new.items) };
 
     /// Appends the answer to the text, and returns whether it is a good one. Fails only if an
     /// allocation fails; then a part of the answer may have been appended.
     fn push_answer(
         alloc: Global,
         text: &mut Vec<u8>,
-        asked: Self::Request,
+        request: Self::Request,
         bytes: &[u8],
     ) -> Result<bool, AllocError>
-        // For each line that contains this request about these bytes, and each answer to this line:
-        // the answer was appended, and the result is whether it is a good one.
-        ensures { IfOk result (λ is_good. (line answer : List ℕ) → asks line asked bytes.now
-            → answers line answer
+        // The line of the request is not an argument. So this is stated for each line that parses
+        // as this request about these bytes, and for each answer to it: the answer was appended,
+        // and the result is whether it is a good one.
+        ensures { IfOk result (λ is_good. (line answer : List ℕ)
+            → parses_as line request bytes.now → is_answer line answer
             → (text.new.items ≡ text.old.items ++ answer) × (is_good ≡ good answer)) };
 }
 
-impl Start for Brand {
-    // For callers: `Brand` is the type argument, and the proof of the call picks the members.
-    ghost remaining = { None };
+impl RunStart for Brand {
+    // A caller of `serve` that has no type with these members writes `Brand` for `S`. The proof of
+    // the call then chooses the members. The values below are placeholders.
+    ghost left_before = { None };
 
-    ghost contents = { None };
+    ghost held_before = { None };
 
     ghost answer = { λ line. line };
 }
@@ -226,179 +248,226 @@ struct LineBuffers {
 /// Before each read, the answers to all complete lines that were read have been written to
 /// `output`: `read_prompt` requires this, and `serve` has no other way to read. A call that failed
 /// is not repeated; the contract does not state this.
-pub fn serve<S: Start, A: LineAnswers, R: PromptRead, W: Sink>(
+pub fn serve<S: RunStart, A: LineAnswers, R: PromptRead, W: Sink>(
     alloc: Global,
     input: &mut R,
     output: &mut W,
 ) -> Result<bool, RunError>
-    // `S` has the state when the run starts: the bytes that are left to read and those that have
-    // been written, if they are known. No read was made yet.
-    requires start { (S.remaining ≡ R.left input.old) × (S.contents ≡ W.held output.old)
+    // `S` has the state when the run starts: the bytes that are left to read (`R.left`) and those
+    // that have been written (`W.held`), if they are known. No read was made yet
+    // (`R.reads input.old 0`).
+    requires start { (S.left_before ≡ R.left input.old) × (S.held_before ≡ W.held output.old)
         × R.reads input.old 0 }
-    // `S` has an answer to each line.
-    requires right { (line : List ℕ) → A.answers line (S.answer line) }
-    // If the run succeeds, no bytes are left to read, if these are known.
+    // AnswersEachLine is_answer answer: `answer line`, which `S` has, is an answer to each line.
+    requires right { AnswersEachLine A.is_answer S.answer }
+    // If the run succeeds, and it is known which bytes are left to read, none are left.
     ensures ended { OnOk result (IsAtEnd (R.left input.new)) }
+    // If the run succeeds, the last call to the output flushed it.
     ensures flushed { OnOk result (W.flushed output.new) }
-    // A text was read. For each result, what has been written: see `HasWrittenAnswers`.
-    ensures answered { AnswersInput S.answer S.remaining (R.left input.new) S.contents
-        (W.held output.new) A.good result }
+    // AnswersInput answer streams good result: a text was read, and what has been written are the
+    // answers to its lines, for each result as described above. On success the result is whether
+    // each answer is a good one. The record has the streams before and after the run.
+    ensures answered { AnswersInput S.answer (record {
+      left_before = S.left_before;
+      left_after = R.left input.new;
+      held_before = S.held_before;
+      held_after = W.held output.new;
+    }) A.good result }
+    // `Read` only if a read failed, or 2^64 - 1 reads were made.
     ensures read_cause { IfErr result (λ e. e ≡ RunError.Read
         → R.failed input.new ⊎ R.reads input.new (2 ^ 64 - 1)) }
+    // `Write` only if a write or the flush failed, with some error, or a write took no bytes.
     ensures write_cause { IfErr result (λ e. e ≡ RunError.Write
         → (error : WriteError) × W.failed output.new error) }
 {
-    let mut kept = LineBuffers {
+    let mut buffers = LineBuffers {
         line: Vec::new(alloc),
         bytes: Vec::new(alloc),
         answers: Vec::new(alloc),
     };
     let mut chunk = [0u8; CHUNK];
     let mut is_good = true;
-    'reads: for _made in 0..u64::MAX {
-        let count = input.read_prompt::<S, W>(output, kept.line.as_slice(), &mut chunk)?;
+    'reads: for _reads_made in 0..u64::MAX {
+        let count = input.read_prompt::<S, W>(output, buffers.line.as_slice(), &mut chunk)?;
         if count == 0 {
-            let is_last_good = finish::<S, A, W>(alloc, &mut kept, output)?;
+            // The input is at its end.
+            let is_last_good = finish::<S, A, W>(alloc, &mut buffers, output)?;
             return Ok(is_good & is_last_good);
         }
-        let is_piece_good = take_piece::<S, A>(alloc, &mut kept, &chunk[..count])?;
-        is_good &= is_piece_good;
-        send(output, kept.answers.as_slice())?;
-        empty(alloc, &mut kept.answers);
+        let is_chunk_good = answer_chunk::<S, A>(alloc, &mut buffers, &chunk[..count])?;
+        is_good &= is_chunk_good;
+        send(output, buffers.answers.as_slice())?;
+        clear_buffer(alloc, &mut buffers.answers);
     }
     Err(RunError::Read)
 }
 
 /// Answers the last line, if it has bytes but no line feed, and flushes. Returns whether its answer
-/// is a good one, or `true` if there is no such line.
-fn finish<S: Start, A: LineAnswers, W: Sink>(
+/// is a good one, or `true` if there is no such line. No answers may be buffered.
+///
+/// Fails with `Write` if a write or the flush failed; then a prefix of the answer has been written.
+/// Fails with `Memory` if an allocation failed; then nothing has been written.
+fn finish<S: RunStart, A: LineAnswers, W: Sink>(
     alloc: Global,
-    kept: &mut LineBuffers,
+    buffers: &mut LineBuffers,
     output: &mut W,
 ) -> Result<bool, RunError>
-    requires { (kept.old.answers.items ≡ []) × ((line : List ℕ) → A.answers line (S.answer line)) }
-    ensures written { WritesAllText (W.held output.old) (W.held output.new)
-        (answer_lines S.answer (all_lines [] kept.old.line.items)) result }
+    // AnswersEachLine is_answer answer: `answer line` is an answer to each line.
+    requires { (buffers.old.answers.items ≡ []) × AnswersEachLine A.is_answer S.answer }
+    // all_lines [] rest: the list of the last line `rest`, or the empty list if it has no bytes; no
+    // complete lines are left (`[]`). answer_lines answer lines: the answers to the lines, each
+    // followed by a line feed. WritesText held held' text result: the text was written if the step
+    // succeeded, else a prefix of it or nothing. all_answers_good good answer lines: each of these
+    // answers is a good one.
+    ensures written { WritesText (W.held output.old) (W.held output.new)
+        (answer_lines S.answer (all_lines [] buffers.old.line.items)) result }
     ensures judged { IfOk result (λ is_good.
-        is_good ≡ all_answers_good A.good S.answer (all_lines [] kept.old.line.items)) }
+        is_good ≡ all_answers_good A.good S.answer (all_lines [] buffers.old.line.items)) }
     ensures flushed { OnOk result (W.flushed output.new) }
+    // `Write` only if a write or the flush failed, with some error.
     ensures cause { IfErr result (λ e. e ≡ RunError.Write
         → (error : WriteError) × W.failed output.new error) }
 {
-    let is_good = end_last_line::<S, A>(alloc, kept)?;
-    send(output, kept.answers.as_slice())?;
+    let is_good = end_last_line::<S, A>(alloc, buffers)?;
+    send(output, buffers.answers.as_slice())?;
     output.flush()?;
     Ok(is_good)
 }
 
-/// Appends the answer to the last line, if it has bytes but no line feed. Returns whether it is a
-/// good one, or `true` if there is no such line.
-fn end_last_line<S: Start, A: LineAnswers>(
+/// Appends the answer to the last line, if it has bytes but no line feed, to the buffer of answers,
+/// which must be empty. Returns whether it is a good one, or `true` if there is no such line. Fails
+/// only if an allocation fails.
+fn end_last_line<S: RunStart, A: LineAnswers>(
     alloc: Global,
-    kept: &mut LineBuffers,
+    buffers: &mut LineBuffers,
 ) -> Result<bool, AllocError>
-    requires { (kept.old.answers.items ≡ []) × ((line : List ℕ) → A.answers line (S.answer line)) }
-    ensures added { OnOk result (kept.new.answers.items
-        ≡ answer_lines S.answer (all_lines [] kept.old.line.items)) }
+    // AnswersEachLine is_answer answer: `answer line` is an answer to each line.
+    requires { (buffers.old.answers.items ≡ []) × AnswersEachLine A.is_answer S.answer }
+    // all_lines [] rest: the list of the last line `rest`, or the empty list if it has no bytes; no
+    // complete lines are left (`[]`). answer_lines answer lines: the answers to the lines, each
+    // followed by a line feed. all_answers_good good answer lines: each of these answers is a good
+    // one.
+    ensures added { OnOk result (buffers.new.answers.items
+        ≡ answer_lines S.answer (all_lines [] buffers.old.line.items)) }
     ensures judged { IfOk result (λ is_good.
-        is_good ≡ all_answers_good A.good S.answer (all_lines [] kept.old.line.items)) }
+        is_good ≡ all_answers_good A.good S.answer (all_lines [] buffers.old.line.items)) }
 {
-    if kept.line.is_empty() {
+    if buffers.line.is_empty() {
         return Ok(true);
     }
-    end_line::<S, A>(alloc, kept, &[])
+    end_line::<S, A>(alloc, buffers, &[])
 }
 
-/// Appends the answers to the lines that end in a piece of the input, and returns whether each is a
-/// good one. Appends the bytes after the last of these lines to `kept.line`.
-fn take_piece<S: Start, A: LineAnswers>(
+/// Appends the answers to the lines that end in a chunk of the input, and returns whether each is a
+/// good one. The first of these lines begins with the content of `buffers.line`, the bytes since
+/// the last line feed. The bytes after the last one are in `buffers.line` then. Fails only if an
+/// allocation fails.
+fn answer_chunk<S: RunStart, A: LineAnswers>(
     alloc: Global,
-    kept: &mut LineBuffers,
-    piece: &[u8],
+    buffers: &mut LineBuffers,
+    chunk: &[u8],
 ) -> Result<bool, AllocError>
-    requires { HasNoLineFeed kept.old.line.items
-        × ((line : List ℕ) → A.answers line (S.answer line)) }
-    ensures { IfOk result (AnswersCompleteLines S.answer A.good (kept.old.line.items ++ piece.now)
-        kept.new.line.items kept.old.answers.items kept.new.answers.items) }
+    // HasNoLineFeed line: none of its bytes is a line feed. AnswersEachLine is_answer answer:
+    // `answer line` is an answer to each line.
+    requires { HasNoLineFeed buffers.old.line.items × AnswersEachLine A.is_answer S.answer }
+    // AnswersChunk answer good before chunk after is_good: the lines that end in the chunk were
+    // answered, and `is_good`, here the returned value, is whether each answer is a good one.
+    ensures { IfOk result
+        (AnswersChunk S.answer A.good buffers.old chunk.now buffers.new) }
 {
     let mut is_good = true;
-    let mut rest = piece;
+    let mut rest = chunk;
     'lines: while let Some(end) = memchr(b'\n', rest) {
-        let is_line_good = end_line::<S, A>(alloc, kept, &rest[..end])?;
+        let is_line_good = end_line::<S, A>(alloc, buffers, &rest[..end])?;
         is_good &= is_line_good;
         rest = &rest[end + 1..];
     }
-    kept.line.extend_from_slice(rest)?;
+    buffers.line.extend_from_slice(rest)?;
     Ok(is_good)
 }
 
-/// Appends the answer to the line whose last bytes are `end`, returns whether it is a good one, and
-/// starts the next line. The memory of a long line is freed before its answer is allocated.
-fn end_line<S: Start, A: LineAnswers>(
+/// Appends the answer to a line, and returns whether it is a good one. The line is the content of
+/// `buffers.line` and then `end`; after the call `buffers.line` is empty, for the next line. Fails
+/// only if an allocation fails. The memory of a long line is freed before its answer is allocated.
+fn end_line<S: RunStart, A: LineAnswers>(
     alloc: Global,
-    kept: &mut LineBuffers,
+    buffers: &mut LineBuffers,
     end: &[u8],
 ) -> Result<bool, AllocError>
-    requires { (line : List ℕ) → A.answers line (S.answer line) }
-    ensures added { OnOk result ((kept.new.line.items ≡ [])
-        × (kept.new.answers.items ≡ kept.old.answers.items
-        ++ with_line_feed (S.answer (kept.old.line.items ++ end.now)))) }
+    // AnswersEachLine is_answer answer: `answer line` is an answer to each line.
+    requires { AnswersEachLine A.is_answer S.answer }
+    // S.answer line: the answer to a line. with_line_feed text: the text followed by a line feed.
+    ensures added { OnOk result ((buffers.new.line.items ≡ [])
+        × (buffers.new.answers.items ≡ buffers.old.answers.items
+        ++ with_line_feed (S.answer (buffers.old.line.items ++ end.now)))) }
+    // A.good answer: the protocol counts this answer as a good one.
     ensures judged { IfOk result (λ is_good.
-        is_good ≡ A.good (S.answer (kept.old.line.items ++ end.now))) }
-    ensures capacities { OnOk result ((vec_capacity kept.new.line ≤ 131072)
-        × (vec_capacity kept.new.bytes ≤ 131072)) }
+        is_good ≡ A.good (S.answer (buffers.old.line.items ++ end.now))) }
+    // `line`, and `bytes`, which has the bytes of the request, retain at most this memory.
+    ensures capacities { OnOk result ((vec_capacity buffers.new.line ≤ RETAINED_CAPACITY)
+        × (vec_capacity buffers.new.bytes ≤ RETAINED_CAPACITY)) }
 {
-    let asked = read_line::<A>(alloc, kept, end)?;
-    empty(alloc, &mut kept.line);
-    let is_good = add_answer_line::<S, A>(alloc, &mut kept.answers, asked, kept.bytes.as_slice())?;
-    empty(alloc, &mut kept.bytes);
+    let request = read_line::<A>(alloc, buffers, end)?;
+    clear_buffer(alloc, &mut buffers.line);
+    let bytes = buffers.bytes.as_slice();
+    let is_good = add_answer_line::<S, A>(alloc, &mut buffers.answers, request, bytes)?;
+    clear_buffer(alloc, &mut buffers.bytes);
     Ok(is_good)
 }
 
-/// Parses the request in the line whose last bytes are `end`. A line that began in this piece is
-/// parsed without a copy.
+/// Parses the request in a line: the content of `buffers.line` and then `end`. The bytes that it is
+/// about are in `buffers.bytes` then. Fails only if an allocation fails. A line that began in this
+/// chunk is parsed without a copy.
 fn read_line<A: LineAnswers>(
     alloc: Global,
-    kept: &mut LineBuffers,
+    buffers: &mut LineBuffers,
     end: &[u8],
 ) -> Result<A::Request, AllocError>
-    ensures asked { IfOk result (λ asked. A.asks (kept.old.line.items ++ end.now) asked
-        kept.new.bytes.items) }
-    ensures others { OnOk result (kept.new.answers.items ≡ kept.old.answers.items) }
+    ensures request { IfOk result (λ request.
+        A.parses_as (buffers.old.line.items ++ end.now) request buffers.new.bytes.items) }
+    // The buffer of answers is unchanged.
+    ensures others { OnOk result (buffers.new.answers.items ≡ buffers.old.answers.items) }
 {
-    if kept.line.is_empty() {
-        return A::read_request(alloc, &mut kept.bytes, end);
+    if buffers.line.is_empty() {
+        // The whole line is in `end`.
+        return A::read_request(alloc, &mut buffers.bytes, end);
     }
-    kept.line.extend_from_slice(end)?;
-    A::read_request(alloc, &mut kept.bytes, kept.line.as_slice())
+    buffers.line.extend_from_slice(end)?;
+    A::read_request(alloc, &mut buffers.bytes, buffers.line.as_slice())
 }
 
-/// Appends the answer line to a request, and returns whether the answer is a good one.
-fn add_answer_line<S: Start, A: LineAnswers>(
+/// Appends the answer to a request, followed by a line feed, and returns whether the answer is a
+/// good one. Fails only if an allocation fails.
+fn add_answer_line<S: RunStart, A: LineAnswers>(
     alloc: Global,
     answers: &mut Vec<u8>,
-    asked: A::Request,
+    request: A::Request,
     bytes: &[u8],
 ) -> Result<bool, AllocError>
-    requires { (line : List ℕ) → A.answers line (S.answer line) }
-    ensures { IfOk result (λ is_good. (line : List ℕ) → A.asks line asked bytes.now
+    // AnswersEachLine is_answer answer: `answer line` is an answer to each line.
+    requires { AnswersEachLine A.is_answer S.answer }
+    // The line of the request is not an argument. So this is stated for each line that parses as
+    // this request about these bytes. with_line_feed text: the text followed by a line feed.
+    ensures { IfOk result (λ is_good. (line : List ℕ) → A.parses_as line request bytes.now
         → (answers.new.items ≡ answers.old.items ++ with_line_feed (S.answer line))
         × (is_good ≡ A.good (S.answer line))) }
 {
-    let is_good = A::push_answer(alloc, answers, asked, bytes)?;
+    let is_good = A::push_answer(alloc, answers, request, bytes)?;
     answers.push(b'\n')?;
     Ok(is_good)
 }
 
-/// Empties the buffer. Frees its memory only if its capacity is above `RETAINED_CAPACITY`.
-fn empty(alloc: Global, room: &mut Vec<u8>)
-    ensures emptied { room.new.items ≡ [] }
-    ensures bound { vec_capacity room.new ≤ 131072 }
-    ensures keeps { vec_capacity room.old ≤ 131072 → vec_capacity room.new ≡ vec_capacity room.old }
+/// Empties the buffer. Frees its memory if and only if its capacity is above `RETAINED_CAPACITY`
+/// bytes; else the capacity is unchanged.
+fn clear_buffer(alloc: Global, buffer: &mut Vec<u8>)
+    ensures emptied { buffer.new.items ≡ [] }
+    ensures bound { vec_capacity buffer.new ≤ RETAINED_CAPACITY }
+    ensures keeps { vec_capacity buffer.old ≤ RETAINED_CAPACITY
+        → vec_capacity buffer.new ≡ vec_capacity buffer.old }
 {
-    if room.capacity() > RETAINED_CAPACITY {
-        *room = Vec::new(alloc);
+    if buffer.capacity() > RETAINED_CAPACITY {
+        *buffer = Vec::new(alloc);
     } else {
-        room.clear();
+        buffer.clear();
     }
 }

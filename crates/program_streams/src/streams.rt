@@ -1,13 +1,13 @@
 //! Reading and writing: single calls, whose errors are classified, and whole texts.
 
-ghost use Rattle.std.specs.Prelude.{◌≡◌, ◌↔◌, ◌<◌, ◌≤◌, ◌==◌, ◌++◌, if◌then◌else◌, ℕ, List, Option};
-ghost use Rattle.std.specs.Prelude.{◌≢◌, length, IfOk, IfErr, MatchResult, OnOk, Some, ⊤};
+ghost use Rattle.std.specs.Prelude.{◌≡◌, ◌<◌, ◌≤◌, ◌==◌, ◌++◌, if◌then◌else◌, ℕ, List, Option};
+ghost use Rattle.std.specs.Prelude.{length, IfOk, IfErr, MatchResult, OnOk, Some, ⊤};
 ghost use Rattle.std.specs.Io.KnownBytes.{Appends, Keeps, ReadConsumes, WriteAppends};
 ghost use Rattle.std.specs.Io.{ReadsAtMost};
 ghost use Rattle.std.specs.IoError.{error_kind, raw_os_error};
 ghost use Rattle.program_streams.specs.ErrorText.{error_text_bytes};
+ghost use Rattle.program_streams.specs.Streams.{IsReadErrorFor, IsWriteErrorFor};
 ghost use Rattle.program_streams.specs.Streams.{WritesAllOrFails, error_number};
-ghost use Rattle.program_streams.specs.Streams.{numbered_read_error, numbered_write_error};
 ghost use Rattle.program_streams.specs.Streams.{os_error_end, read_error_text, write_error_text};
 ghost use Rattle.program_streams.specs.declared.streams.ReadError.{ReadError};
 ghost use Rattle.program_streams.specs.declared.streams.WriteError.{WriteError};
@@ -16,6 +16,21 @@ use crate::error_text::ErrorText;
 use std::error::Error;
 use std::io::{ErrorKind, Read, Write};
 use std::{fmt, io};
+
+/// `EIO` of errno(3).
+const EIO: u32 = 5;
+
+/// `EBADF` of errno(3).
+const EBADF: u32 = 9;
+
+/// `EFBIG` of errno(3).
+const EFBIG: u32 = 27;
+
+/// `ENOSPC` of errno(3).
+const ENOSPC: u32 = 28;
+
+/// `EDQUOT` of errno(3).
+const EDQUOT: u32 = 122;
 
 /// The reason why a read failed.
 #[derive(Clone, Copy, Debug, PartialEq, Eq)]
@@ -31,6 +46,8 @@ pub enum ReadError {
 impl ReadError {
     /// Returns the text of the error.
     pub fn text(&self) -> ErrorText
+        // error_text_bytes text: the bytes that the parts of the text are joined to.
+        // read_error_text error: the text for each error, as below.
         ensures { error_text_bytes result ≡ read_error_text self.now }
     {
         match self {
@@ -48,6 +65,7 @@ impl ReadError {
 }
 
 impl fmt::Display for ReadError {
+    // The same text as `text` returns.
     ghost output = { λ error. Some (read_error_text error) };
 
     fn fmt<W: fmt::Write>(&self, f: &mut fmt::Formatter<W>) -> fmt::Result {
@@ -72,6 +90,8 @@ pub enum WriteError {
 impl WriteError {
     /// Returns the text of the error.
     pub fn text(&self) -> ErrorText
+        // error_text_bytes text: the bytes that the parts of the text are joined to.
+        // write_error_text error: the text for each error, as below.
         ensures { error_text_bytes result ≡ write_error_text self.now }
     {
         match self {
@@ -87,6 +107,7 @@ impl WriteError {
 }
 
 impl fmt::Display for WriteError {
+    // The same text as `text` returns.
     ghost output = { λ error. Some (write_error_text error) };
 
     fn fmt<W: fmt::Write>(&self, f: &mut fmt::Formatter<W>) -> fmt::Result {
@@ -97,33 +118,35 @@ impl fmt::Display for WriteError {
 
 impl Error for WriteError {}
 
-/// Returns the end of a text about a failed read or write, after the errno(3): what the number
-/// means, for those that reads and writes have most often, and a parenthesis.
+/// Returns the end of the text of a failed read or write, which follows its number of errno(3),
+/// `code`. For five numbers, those that reads and writes have most often, it is a colon, the
+/// meaning of the number, and the closing parenthesis. For others it is only the parenthesis.
 pub fn os_error_end(code: u32) -> &'static str
+    // On the right is the definition of the same name, which has the six texts.
     ensures { result.now ≡ os_error_end code }
 {
-    if code == 5 {
+    if code == EIO {
         ": input/output error)"
-    } else if code == 9 {
+    } else if code == EBADF {
         ": bad file descriptor)"
-    } else if code == 27 {
+    } else if code == EFBIG {
         ": file too large)"
-    } else if code == 28 {
+    } else if code == ENOSPC {
         ": no space left on device)"
-    } else if code == 122 {
+    } else if code == EDQUOT {
         ": disk quota exceeded)"
     } else {
         ")"
     }
 }
 
-/// An input. Generic code that has no other bound on it cannot report an error of a read unless a
-/// read failed with this error.
+/// An input. Generic code that has no other bound on it cannot claim that a read failed with an
+/// error, unless one did.
 pub trait Source {
-    // The bytes that are left to read, if they are known.
+    // The bytes that are left to read, if they are known, else `None`.
     ghost left: { Self → Option (List ℕ) };
 
-    // A read failed with this error.
+    // failed source error: a read failed with this error.
     ghost failed: { Self → ReadError → Type 0 };
 
     /// Reads once, to the start of `bytes`. Returns the number of bytes that were read. It is 0
@@ -135,10 +158,12 @@ pub trait Source {
         // If `n` is returned, the first `n` bytes of `bytes` were consumed; if it is 0 and `bytes`
         // is not empty, none remain. If the read fails, the remaining bytes are unchanged.
         ensures bytes { ReadConsumes (left self.old) (left self.new) result bytes.new }
+        // An error is returned only if a read failed with it.
         ensures cause { IfErr result (λ e. failed self.new e) };
 }
 
 impl<R: Read> Source for R {
+    // The bytes that are left in the reader, as std states them.
     ghost left = { λ r. R.remaining r };
 
     // A reader of std does not record failures: this always holds.
@@ -149,13 +174,16 @@ impl<R: Read> Source for R {
     }
 }
 
-/// Returns the count of a read, or the error of a failed one.
+/// Returns the count of a read, or the error of a failed one: `Directory` if and only if the kind
+/// of the error is `IsADirectory`, else the error with the system's number, if there is one that is
+/// not negative, else `Other`.
 fn read_outcome(outcome: io::Result<usize>) -> Result<usize, ReadError>
+    // error_kind and raw_os_error: the kind and the number of the error of std. IsReadErrorFor
+    // is_directory number e: `e` is `Directory` if and only if the first argument holds, else the
+    // error with this number.
     ensures { MatchResult outcome (λ n. result ≡ Ok n)
         (λ error. (e : ReadError) × (result ≡ Err e)
-        × ((e ≡ ReadError.Directory) ↔ (error_kind error ≡ ErrorKind.IsADirectory))
-        × (e ≢ ReadError.Directory
-        → e ≡ numbered_read_error (error_number (raw_os_error error)))) }
+        × IsReadErrorFor (error_kind error ≡ ErrorKind.IsADirectory) (raw_os_error error) e) }
 {
     match outcome {
         Ok(count) => Ok(count),
@@ -163,11 +191,13 @@ fn read_outcome(outcome: io::Result<usize>) -> Result<usize, ReadError>
     }
 }
 
-/// Returns the error of a failed read, by its kind and the system's number.
+/// Returns the error of a failed read, by its kind and the system's number: `Directory` if and only
+/// if the kind is `IsADirectory`, else the error with the number, if there is one that is not
+/// negative, else `Other`.
 fn read_failure(kind: ErrorKind, code: Option<i32>) -> ReadError
-    ensures directory { (result ≡ ReadError.Directory) ↔ (kind ≡ ErrorKind.IsADirectory) }
-    ensures other { result ≢ ReadError.Directory
-        → result ≡ numbered_read_error (error_number code) }
+    // IsReadErrorFor is_directory number e: `e` is `Directory` if and only if the first argument
+    // holds, else the error with this number.
+    ensures { IsReadErrorFor (kind ≡ ErrorKind.IsADirectory) code result }
 {
     match (kind, error_number(code)) {
         (ErrorKind::IsADirectory, _) => ReadError::Directory,
@@ -178,6 +208,7 @@ fn read_failure(kind: ErrorKind, code: Option<i32>) -> ReadError
 
 /// Returns the system's number of an error, if it has one that is not negative.
 fn error_number(code: Option<i32>) -> Option<u32>
+    // On the right is the definition of the same name, from `Option ℤ` to `Option ℕ`.
     ensures { result ≡ error_number code }
 {
     match code {
@@ -186,13 +217,15 @@ fn error_number(code: Option<i32>) -> Option<u32>
     }
 }
 
-/// An output. Generic code that has no other bound on it cannot report an error of a write or a
-/// flush unless one failed with this error, nor a flush unless it flushed.
+/// An output. Generic code that has no other bound on it cannot claim that a write or a flush
+/// failed with an error, unless one did. It cannot claim that the output was flushed, unless its
+/// last call flushed it.
 pub trait Sink {
-    // The bytes that have been written, if they are known.
+    // The bytes that have been written, if they are known, else `None`.
     ghost held: { Self → Option (List ℕ) };
 
-    // A write failed or accepted no bytes, or a flush failed, with this error.
+    // failed sink error: a write or a flush failed with this error. A write that accepted no bytes
+    // counts as failed.
     ghost failed: { Self → WriteError → Type 0 };
 
     // The last call flushed the output.
@@ -202,8 +235,10 @@ pub trait Sink {
     /// least one. If `bytes` is empty, the call fails. If it fails, nothing was written.
     fn write_some(&mut self, bytes: &[u8]) -> Result<usize, WriteError>
         ensures some { IfOk result (λ n. (0 < n) × (n ≤ length bytes.now)) }
-        // If `n` is returned, the first `n` of the bytes were written. If not, none were.
+        // If `n` is returned, the first `n` of the bytes were written. If the call fails, none
+        // were.
         ensures bytes { WriteAppends (held self.old) (held self.new) result bytes.now }
+        // An error is returned only if a write failed with it.
         ensures cause { IfErr result (λ e. failed self.new e) };
 
     /// Flushes the output once.
@@ -211,10 +246,12 @@ pub trait Sink {
         // What has been written is unchanged.
         ensures bytes { Keeps (held self.old) (held self.new) }
         ensures done { OnOk result (flushed self.new) }
+        // An error is returned only if a flush failed with it.
         ensures cause { IfErr result (λ e. failed self.new e) };
 }
 
 impl<W: Write> Sink for W {
+    // The bytes that the writer has received, as std states them.
     ghost held = { λ w. W.contents w };
 
     // A writer of std does not record failures and flushes: these two always hold.
@@ -231,14 +268,18 @@ impl<W: Write> Sink for W {
     }
 }
 
-/// Returns the count of a write, or the error of one that failed or accepted no bytes.
+/// Returns the count of a write, or the error of one that accepted no bytes or failed. If it
+/// accepted no bytes, the error is `Other`. If it failed, the error is `Closed` if and only if its
+/// kind is `BrokenPipe`, else the one with the system's number, if there is one that is not
+/// negative, else `Other`.
 fn write_outcome(outcome: io::Result<usize>) -> Result<usize, WriteError>
+    // error_kind and raw_os_error: the kind and the number of the error of std. IsWriteErrorFor
+    // is_broken_pipe number e: `e` is `Closed` if and only if the first argument holds, else the
+    // error with this number.
     ensures { MatchResult outcome
         (λ n. result ≡ (if n == 0 then Err WriteError.Other else Ok n))
         (λ error. (e : WriteError) × (result ≡ Err e)
-        × ((e ≡ WriteError.Closed) ↔ (error_kind error ≡ ErrorKind.BrokenPipe))
-        × (e ≢ WriteError.Closed
-        → e ≡ numbered_write_error (error_number (raw_os_error error)))) }
+        × IsWriteErrorFor (error_kind error ≡ ErrorKind.BrokenPipe) (raw_os_error error) e) }
 {
     match outcome {
         Ok(0) => Err(WriteError::Other),
@@ -247,13 +288,16 @@ fn write_outcome(outcome: io::Result<usize>) -> Result<usize, WriteError>
     }
 }
 
-/// Returns `Ok` if a flush succeeded, or the error of a failed one.
+/// Returns `Ok` if a flush succeeded, or the error of a failed one: `Closed` if and only if its
+/// kind is `BrokenPipe`, else the error with the system's number, if there is one that is not
+/// negative, else `Other`.
 fn flush_outcome(outcome: io::Result<()>) -> Result<(), WriteError>
+    // error_kind and raw_os_error: the kind and the number of the error of std. IsWriteErrorFor
+    // is_broken_pipe number e: `e` is `Closed` if and only if the first argument holds, else the
+    // error with this number.
     ensures { MatchResult outcome (λ _. result ≡ Ok tt)
         (λ error. (e : WriteError) × (result ≡ Err e)
-        × ((e ≡ WriteError.Closed) ↔ (error_kind error ≡ ErrorKind.BrokenPipe))
-        × (e ≢ WriteError.Closed
-        → e ≡ numbered_write_error (error_number (raw_os_error error)))) }
+        × IsWriteErrorFor (error_kind error ≡ ErrorKind.BrokenPipe) (raw_os_error error) e) }
 {
     match outcome {
         Ok(()) => Ok(()),
@@ -261,11 +305,13 @@ fn flush_outcome(outcome: io::Result<()>) -> Result<(), WriteError>
     }
 }
 
-/// Returns the error of a failed write or flush, by its kind and the system's number.
+/// Returns the error of a failed write or flush, by its kind and the system's number: `Closed` if
+/// and only if the kind is `BrokenPipe`, else the error with the number, if there is one that is
+/// not negative, else `Other`.
 fn write_failure(kind: ErrorKind, code: Option<i32>) -> WriteError
-    ensures closed { (result ≡ WriteError.Closed) ↔ (kind ≡ ErrorKind.BrokenPipe) }
-    ensures other { result ≢ WriteError.Closed
-        → result ≡ numbered_write_error (error_number code) }
+    // IsWriteErrorFor is_broken_pipe number e: `e` is `Closed` if and only if the first argument
+    // holds, else the error with this number.
+    ensures { IsWriteErrorFor (kind ≡ ErrorKind.BrokenPipe) code result }
 {
     match (kind, error_number(code)) {
         (ErrorKind::BrokenPipe, _) => WriteError::Closed,
@@ -277,16 +323,18 @@ fn write_failure(kind: ErrorKind, code: Option<i32>) -> WriteError
 /// Writes all of `bytes`. Does not repeat a failed write: if one fails, a prefix of `bytes` has
 /// been written.
 pub fn send<W: Sink>(output: &mut W, bytes: &[u8]) -> Result<(), WriteError>
+    // Appends held held' bytes: the bytes were appended to what had been written (`W.held`), if
+    // this was known, here all of `bytes`.
     ensures written { OnOk result (Appends (W.held output.old) (W.held output.new) bytes.now) }
-    // W.failed: a write failed with this error. front: the bytes that were written.
+    // W.failed: a write failed with this error. A prefix of the bytes was written (`sent`).
     ensures stopped { IfErr result (λ e. W.failed output.new e
-        × (front : List ℕ) × (rest : List ℕ) × (bytes.now ≡ front ++ rest)
-        × Appends (W.held output.old) (W.held output.new) front) }
+        × (sent : List ℕ) × (unsent : List ℕ) × (bytes.now ≡ sent ++ unsent)
+        × Appends (W.held output.old) (W.held output.new) sent) }
 {
-    let mut rest = bytes;
-    'writes: while !rest.is_empty() {
-        let count = output.write_some(rest)?;
-        rest = &rest[count..];
+    let mut unsent = bytes;
+    'writes: while !unsent.is_empty() {
+        let count = output.write_some(unsent)?;
+        unsent = &unsent[count..];
     }
     Ok(())
 }
@@ -294,7 +342,8 @@ pub fn send<W: Sink>(output: &mut W, bytes: &[u8]) -> Result<(), WriteError>
 /// Writes the text. If a write fails, a prefix of the text has been written. The failure is not
 /// reported.
 pub fn try_send<W: Sink>(output: &mut W, text: &[u8])
-    // All of the text was written; or a prefix of it, and a write failed.
+    // WritesAllOrFails held held' failed text: all of the text was written; or a prefix of it was
+    // written, and a write failed, with some error (`W.failed`).
     ensures { WritesAllOrFails (W.held output.old) (W.held output.new)
         ((e : WriteError) × W.failed output.new e) text.now }
 {

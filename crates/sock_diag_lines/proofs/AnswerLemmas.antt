@@ -10,11 +10,9 @@ use Rattle.std.proofs.lemmas.List.Splits.{slice_split_first, slice_split_none}
 use Rattle.netlink_core.specs.Bytes.{IsBytes}
 use Rattle.sock_diag_lines.specs.Answer.{IsAnswerOf, IsRequest, name_entry}
 use Rattle.sock_diag_lines.specs.private.LineRequest.{IsAnswerTo, IsBadLine, IsParsedAs}
-use Rattle.sock_diag_lines.specs.DumpLine.{IsDumpRequest, IsDumpAnswer, dump_text}
-use Rattle.sock_diag_lines.specs.HexField.{IsHexField}
-use Rattle.sock_diag_lines.specs.private.ReadDump.{AreHexFields, IsWritable}
-use Rattle.sock_diag_lines.specs.AnswerText.{IsAnswerUnder}
-use Rattle.sock_diag_lines.specs.private.Text.{is_space}
+use Rattle.sock_diag_lines.specs.DumpLine.{IsDumpRequest, IsDumpAnswer, IsWritableDump, dump_text}
+use Rattle.sock_diag_lines.specs.HexField.{AreHexFields, IsHexField, is_space}
+use Rattle.sock_diag_lines.specs.AnswerText.{AreEquivalentUnder, HasWritableValue, IsAnswerUnder}
 use Rattle.sock_diag_lines.specs.declared.answers.LineRequest.{LineRequest}
 use Rattle.sock_diag_lines.specs.declared.answers.LineRequest.TheVariants.{Field, Dump, Nothing}
 use Rattle.sock_diag_lines.specs.declared.answers.Name.{Name}
@@ -27,7 +25,6 @@ use Rattle.sock_diag_lines.proofs.FieldLaws.{IsBytes-field}
 use Rattle.sock_diag_lines.proofs.FieldLists.{field_or_not, one_field, one_list_of_bytes}
 use Rattle.sock_diag_lines.proofs.FieldLists.{row_or_not}
 use Rattle.sock_diag_lines.proofs.NameLaws.{name_answer_laws}
-use Rattle.sock_diag_lines.proofs.SubjectLaws.{AreEquivalentUnder, IsAccepted}
 
 -- ---- names
 
@@ -140,7 +137,7 @@ field_answers : (line : List ℕ) (name : Name) (bytes text : List ℕ) → IsRe
 field_answers line name bytes text (t, e, field) tells =
     let cut = ap (slice_split is_space) e ∙ (spelling_of_name name).1 t in
     record {
-      asked = λ other bytes' also.
+      named = λ other bytes' also.
           let here = request_is_named line _ t cut _ _ (spelling_of_name other).1 also in
           rw (← one_name name other here.0, ← one_field t bytes bytes' field here.1) tells;
       dumped = λ datagrams dump.
@@ -155,7 +152,7 @@ dump_answers : (line : List ℕ) (datagrams : List (List ℕ)) (text : List ℕ)
 dump_answers line datagrams text (t, e, fields) tells =
     let cut = ap (slice_split is_space) e in
     record {
-      asked = λ name bytes asked.
+      named = λ name bytes asked.
           absurd (not_dump name
           (sym (request_is_named line _ t cut _ _ (spelling_of_name name).1 asked).0));
       dumped = λ others also.
@@ -168,7 +165,7 @@ dump_answers line datagrams text (t, e, fields) tells =
 bad_line_answers : (line text : List ℕ) → IsBadLine line → text ≡ codes "bad line"
     → IsAnswerOf line text
 bad_line_answers line text none e = record {
-  asked = λ name bytes asked. absurd (none.unnamed name bytes asked);
+  named = λ name bytes asked. absurd (none.unnamed name bytes asked);
   dumped = λ datagrams dump. absurd (none.undumped datagrams dump);
   other = λ unnamed undumped. e;
 }
@@ -189,7 +186,7 @@ field_answer line name bytes asked =
     let in_range = IsBytes-field asked.0 bytes asked.2 in
     let text = some_answer (name_entry name).1 (name_answer_laws name).0 bytes in_range in
     let only = λ (other : List ℕ) (is : IsAnswerOf line other). same_answer (name_entry name).1
-    (name_answer_laws name).0 bytes other text.0 in_range (is.asked name bytes asked) text.1 in
+    (name_answer_laws name).0 bytes other text.0 in_range (is.named name bytes asked) text.1 in
     (text.0, field_answers line name bytes text.0 asked text.1, only)
 
 dump_answer : (line : List ℕ) (datagrams : List (List ℕ)) → IsDumpRequest line datagrams
@@ -248,7 +245,7 @@ read_answer line (Field name) bytes text asked tells =
     field_answers line name bytes text asked tells
 read_answer line (Dump dump) bytes text (datagrams, asked, read) tells =
     dump_answers line datagrams text asked
-    (answers_more IsWritable dump_text (λ d same. rw same read.1) (λ error never. absurd never)
+    (answers_more IsWritableDump dump_text (λ d same. rw same read.1) (λ error never. absurd never)
     (tells read.0 read.2))
 read_answer line Nothing bytes text none e = bad_line_answers line text none e
 
@@ -258,8 +255,8 @@ read_answer line Nothing bytes text none e = bad_line_answers line text none e
 -- and, except for `unixview`, only if they are
 pub same_answer_iff_equivalent : (name : Name) (line other bytes bytes' text text' : List ℕ)
     → IsAnswerOf line text → IsAnswerOf other text' → IsRequest line name bytes
-    → IsRequest other name bytes' → IsAccepted (name_entry name).1 bytes
-    → IsAccepted (name_entry name).1 bytes'
+    → IsRequest other name bytes' → HasWritableValue (name_entry name).1 bytes
+    → HasWritableValue (name_entry name).1 bytes'
     → (name ≢ name_variants.UnixView → text ≡ text' → AreEquivalentUnder (name_entry name).1 bytes
     bytes')
     × (AreEquivalentUnder (name_entry name).1 bytes bytes' → text ≡ text')
@@ -267,5 +264,5 @@ same_answer_iff_equivalent name line other bytes bytes' text text' is is' asked 
     let both = same_text_iff_equivalent (name_entry name).1 (name_answer_laws name).0 bytes bytes'
     text text'
     (IsBytes-field asked.0 bytes asked.2) (IsBytes-field asked'.0 bytes' asked'.2)
-    (is.asked name bytes asked) (is'.asked name bytes' asked') ok ok' in
+    (is.named name bytes asked) (is'.named name bytes' asked') ok ok' in
     (λ all. both.0 ((name_answer_laws name).1 all), both.1)

@@ -4,10 +4,10 @@ use Rattle.std.proofs.Common.{◌≡◌, ◌⊎◌, ◌∙◌, inl, inr, ℕ, Li
 use Rattle.std.proofs.lemmas.List.{append_cancel_left}
 use Rattle.netlink_core.specs.Bytes.{IsBytes}
 use Rattle.netlink_core.specs.declared.error.DecodeError.{DecodeError}
-use Rattle.sock_diag_lines.specs.AnswerText.{IsAnswerUnder, IsAnswerText, AnswerCodec}
-use Rattle.sock_diag_lines.specs.private.Text.{ok_text, refused_text, unwritable_text}
-use Rattle.sock_diag_lines.proofs.SubjectLaws.{AreEquivalentUnder, HasFullText, IsAccepted}
-use Rattle.sock_diag_lines.proofs.SubjectLaws.{AnswerLawsOf}
+use Rattle.sock_diag_lines.specs.AnswerText.{AnswerCodec, AreEquivalentUnder, HasWritableValue}
+use Rattle.sock_diag_lines.specs.AnswerText.{IsAnswerText, IsAnswerUnder, ok_text, refused_text}
+use Rattle.sock_diag_lines.specs.AnswerText.{unwritable_text}
+use Rattle.sock_diag_lines.proofs.SubjectLaws.{AnswerLawsOf, HasFullText}
 
 -- an answer under some values and errors is an answer under more of them
 pub answers_more : {Value : Type 0} (fits : Value → Type 0) (text_of : Value → List ℕ)
@@ -48,29 +48,29 @@ module _ {Value : Type 0} (fits : Value → Type 0) (text_of : Value → List �
 
 module _ (S : AnswerCodec) (laws : AnswerLawsOf S) where
   -- bytes have one value
-  pub bytes_have_one_value : (b : List ℕ) (v w : S.1.Value) → IsBytes b → S.1.parses b S.2 v
-      → S.1.parses b S.2 w → v ≡ w
+  pub bytes_have_one_value : (b : List ℕ) (v w : S.codec.Value) → IsBytes b
+      → S.codec.parses b S.param v → S.codec.parses b S.param w → v ≡ w
   bytes_have_one_value b v w h r s = (laws.equal_iff_equivalent b b v w h h r s).1
       ((laws.equal_iff_equivalent b b v v h h r r).0 refl)
 
   -- bytes have an answer
   pub some_answer : (b : List ℕ) → IsBytes b → (text : List ℕ) × IsAnswerUnder S b text
-  some_answer b h = has_text S.1.is_writable S.3 (S.1.parses b S.2)
-      (S.1.rejects b S.2) (laws.is_total b h) laws.fits_or_not
+  some_answer b h = has_text S.codec.is_writable S.text_of (S.codec.parses b S.param)
+      (S.codec.rejects b S.param) (laws.is_total b h) laws.fits_or_not
 
   -- bytes have at most one answer
   pub same_answer : (b x y : List ℕ) → IsBytes b → IsAnswerUnder S b x → IsAnswerUnder S b y → x ≡ y
-  same_answer b x y h = one_text S.1.is_writable S.3 (S.1.parses b S.2)
-      (S.1.rejects b S.2) (λ v w. bytes_have_one_value b v w h) (laws.is_exclusive b)
+  same_answer b x y h = one_text S.codec.is_writable S.text_of (S.codec.parses b S.param)
+      (S.codec.rejects b S.param) (λ v w. bytes_have_one_value b v w h) (laws.is_exclusive b)
       (laws.error_is_unique b) x y
 
   -- two inputs with writable values
   module _ (b c x y : List ℕ) (hb : IsBytes b) (hc : IsBytes c) (tells : IsAnswerUnder S b x)
-      (also : IsAnswerUnder S c y) (ok : IsAccepted S b) (ok' : IsAccepted S c) where
-    answer_is_ok_text : x ≡ ok_text (S.3 ok.0)
+      (also : IsAnswerUnder S c y) (ok : HasWritableValue S b) (ok' : HasWritableValue S c) where
+    answer_is_ok_text : x ≡ ok_text (S.text_of ok.0)
     answer_is_ok_text = same_answer b x _ hb tells (inl (ok.0, ok.1, ok.2, refl))
 
-    other_answer_is_ok_text : y ≡ ok_text (S.3 ok'.0)
+    other_answer_is_ok_text : y ≡ ok_text (S.text_of ok'.0)
     other_answer_is_ok_text = same_answer c y _ hc also (inl (ok'.0, ok'.1, ok'.2, refl))
 
     -- equivalent inputs have the same answer, and only they, if the text shows the whole value

@@ -30,10 +30,11 @@ use Rattle.netlink_packet_sock_diag.proofs.DumpRows.{dump_of_joined, items_of_ea
 use Rattle.netlink_packet_sock_diag.proofs.DumpRows.{equal_dumps, split_of_dump, reading_status}
 use Rattle.netlink_packet_sock_diag.proofs.DumpRows.{reading_has_no_error_number}
 use Rattle.sock_diag_lines.specs.declared.dump_line.ReadDump.{ReadDump}
-use Rattle.sock_diag_lines.specs.DumpLine.{IsDumpAnswer, dump_state_text, dump_text}
+use Rattle.sock_diag_lines.specs.DumpLine.{DumpOutcome, IsDumpAnswer, IsDumpOf, IsWritableDump}
+use Rattle.sock_diag_lines.specs.DumpLine.{dump_state_text, dump_text}
 use Rattle.sock_diag_lines.specs.HexField.{IsHexField, hex_field_of}
-use Rattle.sock_diag_lines.specs.private.ReadDump.{AnswersDump, DumpOutcome, FeedsOneDatagram}
-use Rattle.sock_diag_lines.specs.private.ReadDump.{HasMessages, IsDumpOf, IsReadDump, IsWritable}
+use Rattle.sock_diag_lines.specs.private.ReadDump.{AnswersDump, FeedsOneDatagram, HasMessages}
+use Rattle.sock_diag_lines.specs.private.ReadDump.{IsReadDump}
 use Rattle.sock_diag_lines.specs.private.ReadDump.{shown_end, state_or_error, texts_in}
 use Rattle.sock_diag_lines.proofs.Deciding.{each_or_not, message_fits_or_not}
 use Rattle.sock_diag_lines.proofs.MessageLaws.{netlink_message_answer_laws}
@@ -83,14 +84,15 @@ pub has_dump_text : (datagrams : List (List ℕ)) → AllByRecursion IsBytes dat
 has_dump_text datagrams in_range =
     let parts = items_of_each (IsItemOf message_codec) each_datagram_has_items datagrams in_range in
     let dump = has_dump [] (concatenation parts.0) in
-    has_text IsWritable dump_text (IsDumpOf datagrams) (λ error. ⊥)
+    has_text IsWritableDump dump_text (IsDumpOf datagrams) (λ error. ⊥)
     (inl ((dump.0, dump.1), (parts.0, parts.1, dump.2)))
     (λ d. each_or_not _ message_fits_or_not d.0)
 
 -- datagrams have at most one answer
 pub one_dump_text : (datagrams : List (List ℕ)) → AllByRecursion IsBytes datagrams → (x y : List ℕ)
     → IsDumpAnswer datagrams x → IsDumpAnswer datagrams y → x ≡ y
-one_dump_text datagrams in_range = one_text IsWritable dump_text (IsDumpOf datagrams) (λ error. ⊥)
+one_dump_text datagrams in_range =
+    one_text IsWritableDump dump_text (IsDumpOf datagrams) (λ error. ⊥)
     (one_dump_outcome datagrams in_range) (λ d error is never. never)
     (λ error other never also. absurd never)
 
@@ -99,8 +101,9 @@ pub answers_same_items : (datagrams others : List (List ℕ))
     → AllByRecursion IsBytes datagrams → HaveSameItems (IsItemOf message_codec) datagrams others
     → (text : List ℕ) → IsDumpAnswer datagrams text → IsDumpAnswer others text
 answers_same_items datagrams others in_range same text =
-    answers_more IsWritable dump_text (λ d. equal_dumps (IsItemOf message_codec) one_items datagrams
-    others in_range same [] d.0 d.1) (λ error never. never)
+    answers_more IsWritableDump dump_text
+    (λ d. equal_dumps (IsItemOf message_codec) one_items datagrams others in_range same [] d.0 d.1)
+    (λ error never. never)
 
 -- another split of the same bytes has the same answer
 pub answers_split : (datagrams others : List (List ℕ)) → AllByRecursion IsBytes others
@@ -108,7 +111,7 @@ pub answers_split : (datagrams others : List (List ℕ)) → AllByRecursion IsBy
     → concat datagrams ≡ concat others
     → (text : List ℕ) → IsDumpAnswer datagrams text → IsDumpAnswer others text
 answers_split datagrams others in_range split cut same text =
-    answers_more IsWritable dump_text
+    answers_more IsWritableDump dump_text
     (λ d is. split_of_dump (IsItemOf message_codec) each_datagram_has_items
     one_items others in_range cut [] d.0 d.1
     (rw same at (dump_of_split (IsItemOf message_codec) datagrams split [] d.0 d.1 is)))
@@ -231,7 +234,7 @@ reads_no_messages datagram dump reading = record {
 one_more_datagram : (datagrams : List (List ℕ)) (datagram : List ℕ) (old new : DumpOutcome)
     (items : List (Result (Payload Message) DecodeError))
     → AreItemsOf (IsItemOf message_codec) datagram items → IsDumpOf datagrams old
-    → ((old.1 ≡ Ok reading_status) × DumpOfItems old.0 items new.0 new.1)
+    → ((old.1 ≡ Ok reading_status) × DumpOfItems (old.0, items) (new.0, new.1))
     ⊎ ((old.1 ≢ Ok reading_status) × (new.0 ≡ old.0) × (new.1 ≡ old.1))
     → IsDumpOf (datagrams ++ datagram ∷ []) new
 one_more_datagram datagrams datagram old new items are (parts, each, dump) next =

@@ -12,7 +12,7 @@ use Rattle.netlink_packet_sock_diag.specs.Message.{message_codec, Message}
 use Rattle.netlink_packet_sock_diag.specs.laws.Message.{message_laws}
 use Rattle.sock_diag_lines.proofs.CanonicalLaws.{equal_by_serialized}
 use Rattle.sock_diag_lines.proofs.Deciding.{netlink_message_fits_or_not}
-use Rattle.sock_diag_lines.specs.private.Text.{number_then_rest}
+use Rattle.sock_diag_lines.specs.private.Text.{number_then_text}
 use Rattle.sock_diag_lines.proofs.FieldLaws.{decimal_digits, hex_field_of-same, word_and_rest}
 use Rattle.sock_diag_lines.specs.Answer.{name_entry}
 use Rattle.sock_diag_lines.specs.declared.answers.Name.TheVariants.{NetlinkMessage}
@@ -21,7 +21,7 @@ use Rattle.sock_diag_lines.proofs.SubjectLaws.{AnswerLawsOf, HasFullText}
 -- ---- numbers
 
 word-same : (m n : ℕ) (rest other : List ℕ) → m < 2 ^ 32 → n < 2 ^ 32
-    → number_then_rest m rest ≡ number_then_rest n other
+    → number_then_text m rest ≡ number_then_text n other
     → (m ≡ n) × (rest ≡ other)
 word-same m n rest other hm hn e =
     let both = word_and_rest (decimal m) (decimal n) rest other (decimal_digits m (omega arith))

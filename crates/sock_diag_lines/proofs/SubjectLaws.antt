@@ -21,19 +21,13 @@ pub record AnswerLaws {Value : Type 0} (parses : List ℕ → Value → Type 0)
   pub fits_or_not : (v : Value) → fits v ⊎ ¬ fits v
 
 abbrev pub AnswerLawsOf : AnswerCodec → Type 0
-AnswerLawsOf (_, C, p, text_of) =
-    AnswerLaws (λ b v. C.parses b p v) (λ b e. C.rejects b p e) C.is_writable (C.equivalent p)
+AnswerLawsOf S =
+    AnswerLaws (λ b v. S.codec.parses b S.param v) (λ b e. S.codec.rejects b S.param e)
+    S.codec.is_writable (S.codec.equivalent S.param)
 
 -- the text shows the whole value: writable values with equal texts are equal
 abbrev pub HasFullText : AnswerCodec → Type 0
-HasFullText (_, C, p, text_of) = (b c : List ℕ) (v w : C.Value) → IsBytes b → IsBytes c
-    → C.parses b p v → C.parses c p w → C.is_writable v → C.is_writable w → text_of v ≡ text_of w
+HasFullText S = (b c : List ℕ) (v w : S.codec.Value) → IsBytes b → IsBytes c
+    → S.codec.parses b S.param v → S.codec.parses c S.param w
+    → S.codec.is_writable v → S.codec.is_writable w → S.text_of v ≡ S.text_of w
     → v ≡ w
-
--- the bytes have a writable value
-abbrev pub IsAccepted : AnswerCodec → List ℕ → Type 0
-IsAccepted (_, C, p, text_of) b = (v : C.Value) × C.parses b p v × C.is_writable v
-
--- the bytes are equivalent: they differ only in ignored bits
-abbrev pub AreEquivalentUnder : AnswerCodec → List ℕ → List ℕ → Type 0
-AreEquivalentUnder (_, C, p, text_of) b c = C.equivalent p b c

@@ -5,30 +5,71 @@ use Rattle.netlink_core.specs.Codec.{Codec}
 use Rattle.netlink_core.specs.Errors.{error_code}
 use Rattle.netlink_core.specs.declared.error.DecodeError.{DecodeError}
 
--- IsAnswerText parses rejects is_writable text_of text: given are the values that the bytes parse
--- as (`parses`), the errors that reject them (`rejects`), whether a value is writable
--- (`is_writable`), and the text of a value. The answer is `ok ` and the text of a writable value;
--- `unwritable`, for a value that is not writable; or `refused ` and the code of an error in
--- decimal.
+-- the answer if the value is writable: `ok ` and the text of the value
+abbrev pub ok_text : List ℕ → List ℕ
+ok_text value_text = codes "ok " ++ value_text
+
+-- the answer if the value is not writable
+abbrev pub unwritable_text : List ℕ
+unwritable_text = codes "unwritable"
+
+-- the answer if the bytes are rejected: `refused ` and the code of the error in decimal
+abbrev pub refused_text : DecodeError → List ℕ
+refused_text error = codes "refused " ++ decimal (error_code error)
+
+-- `IsAnswerText parses rejects is_writable text_of text`: the text answers some bytes. They parse
+-- as the values of which `parses` holds, and are rejected with the errors of which `rejects` holds.
+-- The answer is `ok ` and the text of such a value (`text_of`), if it is writable (`is_writable`);
+-- `unwritable`, if it is not; or `refused ` and the code of such an error.
 abbrev pub IsAnswerText : {Value : Type 0} → (Value → Type 0) → (DecodeError → Type 0)
     → (Value → Type 0) → (Value → List ℕ) → List ℕ → Type 0
 IsAnswerText {Value} parses rejects is_writable text_of text =
-    ((value : Value) × parses value × is_writable value × (text ≡ codes "ok " ++ text_of value))
-    ⊎ (((value : Value) × parses value × (¬ is_writable value) × (text ≡ codes "unwritable"))
-    ⊎ ((e : DecodeError) × rejects e × (text ≡ codes "refused " ++ decimal (error_code e))))
+    ((value : Value) × parses value × is_writable value × (text ≡ ok_text (text_of value)))
+    ⊎ (((value : Value) × parses value × (¬ is_writable value) × (text ≡ unwritable_text))
+    ⊎ ((e : DecodeError) × rejects e × (text ≡ refused_text e)))
 
--- how bytes are parsed and shown: the type of the codec's parameter, the codec, its parameter, and
--- the text of a value
-abbrev pub AnswerCodec : Type 1
-AnswerCodec = (Param : Type 0) × (C : Codec Param) × Param × (C.Value → List ℕ)
+-- `IsAnswerToValue value is_writable text_of text`: the text answers bytes that parse as this value
+-- and are not rejected (`⊥`): `ok ` and the text of the value if it is writable, else `unwritable`
+abbrev pub IsAnswerToValue : {Value : Type 0} → Value → (Value → Type 0) → (Value → List ℕ)
+    → List ℕ → Type 0
+IsAnswerToValue value is_writable text_of text =
+    IsAnswerText (λ other. other ≡ value) (λ error. ⊥) is_writable text_of text
 
--- answer_codec C param: the codec `C` with this parameter; a value is shown as the hex field of the
--- bytes that it serializes to
+-- How bytes are parsed and shown: a codec, and the text of a value.
+pub record AnswerCodec : Type 1 where
+  -- the codec of the bytes, the type of its parameter, and the parameter
+  pub Param : Type 0
+  pub codec : Codec Param
+  pub param : Param
+  -- the text of a value in an answer
+  pub text_of : codec.Value → List ℕ
+
+-- `codec_with_text codec param text_of`: the codec with this parameter; a value is shown by
+-- `text_of`
+abbrev pub codec_with_text : {Param : Type 0} (codec : Codec Param) → Param
+    → (codec.Value → List ℕ) → AnswerCodec
+codec_with_text {Param} codec param text_of =
+    record { Param = Param; codec = codec; param = param; text_of = text_of }
+
+-- `answer_codec codec param`: the codec with this parameter; a value is shown as the hex field of
+-- the bytes that it serializes to
 abbrev pub answer_codec : {Param : Type 0} → Codec Param → Param → AnswerCodec
-answer_codec C param = (_, C, param, λ v. hex_field_of (C.serialized v))
+answer_codec codec param =
+    codec_with_text codec param (λ value. hex_field_of (codec.serialized value))
 
--- IsAnswerUnder (Param, C, p, text_of) b text: the text answers the bytes `b` under the codec `C`
--- and the parameter `p`; a value is shown by `text_of`
+-- `IsAnswerUnder answers bytes text`: the text answers the bytes, which are parsed and shown as
+-- `answers` says (`IsAnswerText`). `text` is the last argument, which the right side leaves out.
 abbrev pub IsAnswerUnder : AnswerCodec → List ℕ → List ℕ → Type 0
-IsAnswerUnder (_, C, p, text_of) b = IsAnswerText (C.parses b p)
-    (C.rejects b p) C.is_writable text_of
+IsAnswerUnder answers bytes = IsAnswerText
+    (answers.codec.parses bytes answers.param) (answers.codec.rejects bytes answers.param)
+    answers.codec.is_writable answers.text_of
+
+-- `HasWritableValue answers bytes`: the bytes parse as a writable value by the codec of `answers`
+abbrev pub HasWritableValue : AnswerCodec → List ℕ → Type 0
+HasWritableValue answers bytes = (value : answers.codec.Value)
+    × answers.codec.parses bytes answers.param value × answers.codec.is_writable value
+
+-- `AreEquivalentUnder answers bytes bytes'`: the two inputs are equivalent by the codec of
+-- `answers`: they differ only in ignored bits
+abbrev pub AreEquivalentUnder : AnswerCodec → List ℕ → List ℕ → Type 0
+AreEquivalentUnder answers bytes bytes' = answers.codec.equivalent answers.param bytes bytes'

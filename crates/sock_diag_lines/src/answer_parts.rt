@@ -1,20 +1,22 @@
-//! The parts of answers. Nothing but the text is allocated.
+//! The parts of answers. Each function appends to a text, and allocates nothing else. Except for
+//! `push_refused`, it fails only if an allocation fails. After a failure, a part may have been
+//! appended.
 
-ghost use Rattle.std.specs.Prelude.{◌≡◌, ◌≢◌, ◌∷◌, ◌++◌, decimal, OnOk, option_map};
+ghost use Rattle.std.specs.Prelude.{◌≡◌, ◌≢◌, ◌++◌, decimal, OnOk, option_map};
 ghost use Rattle.hex.specs.Hex.{encode_lower};
 ghost use Rattle.netlink_core.specs.declared.error.DecodeError.TheVariants.{Memory};
 ghost use Rattle.sock_diag_attributes.specs.NameModel.{name_view_model};
 ghost use Rattle.sock_diag_attributes.specs.NumbersModel.{numbers_view_model};
 ghost use Rattle.sock_diag_lines.specs.HexField.{hex_field_of};
-ghost use Rattle.sock_diag_lines.specs.private.Text.{ok_text, refused_text};
-ghost use Rattle.sock_diag_lines.specs.ViewLine.{comma_list, socket_name_text, or_none};
+ghost use Rattle.sock_diag_lines.specs.AnswerText.{ok_text, refused_text};
+ghost use Rattle.sock_diag_lines.specs.ViewLine.{comma_list, socket_name_text, value_field};
 
 use netlink_core::DecodeError;
 use netlink_packet_sock_diag::unix::nlas::{NameView, NumbersView};
 use std::alloc::AllocError;
 use std::io::Write;
 
-/// Start of an answer with the text of a value.
+/// Start of an answer that has the text of a value.
 pub(crate) const OK: &[u8] = b"ok ";
 
 /// The answer to bytes whose value is not writable.
@@ -29,12 +31,14 @@ pub(crate) fn push_number(text: &mut Vec<u8>, number: u64) -> Result<(), AllocEr
 {
     match write!(text, "{number}") {
         Ok(()) => Ok(()),
+        // Writing to a `Vec` fails only if an allocation fails.
         Err(_) => Err(AllocError),
     }
 }
 
-/// Appends bytes as a hex field.
+/// Appends bytes as a hex field: `-` for no bytes, else two hex digits for each byte.
 pub(crate) fn push_field(text: &mut Vec<u8>, bytes: &[u8]) -> Result<(), AllocError>
+    // `hex_field_of bytes`: this hex field.
     ensures { OnOk result (text.new.items ≡ text.old.items ++ hex_field_of bytes.now) }
 {
     if bytes.is_empty() {
@@ -43,11 +47,12 @@ pub(crate) fn push_field(text: &mut Vec<u8>, bytes: &[u8]) -> Result<(), AllocEr
     push_digits(text, bytes)
 }
 
-/// Appends two hex digits for each byte.
+/// Appends two hex digits in lower case for each byte.
 fn push_digits(text: &mut Vec<u8>, bytes: &[u8]) -> Result<(), AllocError>
     ensures { OnOk result (text.new.items ≡ text.old.items ++ encode_lower bytes.now) }
 {
     let start = text.len();
+    // More digits than a `usize` counts cannot be allocated.
     let Some(count) = bytes.len().checked_mul(2) else {
         return Err(AllocError);
     };
@@ -57,29 +62,33 @@ fn push_digits(text: &mut Vec<u8>, bytes: &[u8]) -> Result<(), AllocError>
     text.resize(end, 0)?;
     match hex::encode_to_slice(bytes, &mut text[start..]) {
         Ok(()) => Ok(()),
+        // The buffer has two bytes for each byte, as many as its digits.
         Err(_) => unreachable!(),
     }
 }
 
 /// Appends `ok` and bytes as a hex field.
-pub(crate) fn push_accepted(text: &mut Vec<u8>, written: &[u8]) -> Result<(), AllocError>
-    ensures { OnOk result (text.new.items ≡ text.old.items ++ ok_text (hex_field_of written.now)) }
+pub(crate) fn push_accepted(text: &mut Vec<u8>, bytes: &[u8]) -> Result<(), AllocError>
+    // `ok_text text`: `ok `, and then the text. `hex_field_of bytes`: the hex field of the bytes.
+    ensures { OnOk result (text.new.items ≡ text.old.items ++ ok_text (hex_field_of bytes.now)) }
 {
     text.extend_from_slice(OK)?;
-    push_field(text, written)
+    push_field(text, bytes)
 }
 
 /// Appends `refused` and the code of a decode error. Returns an `Err` if the error is `Memory`,
 /// which is not an error of the bytes.
 pub(crate) fn push_refused(text: &mut Vec<u8>, error: &DecodeError) -> Result<(), AllocError>
+    // `Ok` also says that the error was not `Memory`. `refused_text error`: `refused ` and the
+    // code.
     ensures { OnOk result ((error.now ≢ Memory)
         × (text.new.items ≡ text.old.items ++ refused_text error.now)) }
 {
     match error {
         DecodeError::Memory => Err(AllocError),
-        named => {
+        _ => {
             text.extend_from_slice(b"refused ")?;
-            push_number(text, named.number().into())
+            push_number(text, error.number().into())
         }
     }
 }
@@ -89,7 +98,8 @@ pub(crate) fn push_optional_number(
     text: &mut Vec<u8>,
     number: Option<u32>,
 ) -> Result<(), AllocError>
-    ensures { OnOk result (text.new.items ≡ text.old.items ++ 32 ∷ or_none decimal number) }
+    // `value_field text_of value`: a space and the text of the value, here in decimal, or ` none`.
+    ensures { OnOk result (text.new.items ≡ text.old.items ++ value_field decimal number) }
 {
     let Some(number) = number else {
         return text.extend_from_slice(NONE);
@@ -98,14 +108,16 @@ pub(crate) fn push_optional_number(
     push_number(text, number.into())
 }
 
-/// Appends a space, the kind of a name and its bytes as a hex field, or ` none`.
+/// Appends a space, `path:` or `abstract:`, and the bytes of a name as a hex field; or ` none`.
 pub(crate) fn push_name_field(
     text: &mut Vec<u8>,
     name: Option<NameView<'_>>,
 ) -> Result<(), AllocError>
+    // `value_field text_of value`: a space and the text of the value, or ` none`. The text of a
+    // name (`socket_name_text`) is `path:` or `abstract:`, and its hex field. `name_view_model`:
+    // the borrowed name, with its bytes as a list.
     ensures { OnOk result (text.new.items
-        ≡ text.old.items ++ 32 ∷ or_none socket_name_text
-        (option_map name_view_model name.entry)) }
+        ≡ text.old.items ++ value_field socket_name_text (option_map name_view_model name.entry)) }
 {
     match name {
         Some(NameView::Pathname(path)) => {
@@ -120,13 +132,17 @@ pub(crate) fn push_name_field(
     }
 }
 
-/// Appends a space and numbers separated by commas, or ` none`.
+/// Appends a space and numbers separated by commas, `-` for an empty list; or ` none`.
 pub(crate) fn push_numbers_field(
     text: &mut Vec<u8>,
     numbers: Option<NumbersView<'_>>,
 ) -> Result<(), AllocError>
+    // `value_field text_of value`: a space and the text of the value, or ` none`. The text of
+    // numbers (`comma_list`) has commas between them, and is `-` for an empty list.
+    // `numbers_view_model`: the borrowed numbers as a list.
     ensures { OnOk result (text.new.items
-        ≡ text.old.items ++ 32 ∷ or_none comma_list (option_map numbers_view_model numbers.entry)) }
+        ≡ text.old.items
+        ++ value_field comma_list (option_map numbers_view_model numbers.entry)) }
 {
     let Some(numbers) = numbers else {
         return text.extend_from_slice(NONE);
@@ -137,6 +153,8 @@ pub(crate) fn push_numbers_field(
 
 /// Appends numbers separated by commas, or `-` for an empty list.
 fn push_numbers(text: &mut Vec<u8>, numbers: NumbersView<'_>) -> Result<(), AllocError>
+    // `comma_list numbers`: the numbers in decimal, separated by commas, or `-`.
+    // `numbers_view_model`: the borrowed numbers as a list.
     ensures { OnOk result (text.new.items ≡ text.old.items
         ++ comma_list (numbers_view_model numbers.entry)) }
 {
@@ -146,6 +164,7 @@ fn push_numbers(text: &mut Vec<u8>, numbers: NumbersView<'_>) -> Result<(), Allo
     push_number(text, first.into())?;
     'rest: for index in 1..numbers.len() {
         let Some(number) = numbers.get(index) else {
+            // The index is below `len`.
             unreachable!();
         };
         text.push(b',')?;

@@ -1,4 +1,5 @@
-//! The answer to one line.
+//! The answer to one line. A function that returns a `Result` fails only if an allocation fails. A
+//! part of what it appends to a text may then have been appended.
 
 ghost use Rattle.sock_diag_lines.specs.declared.answers.Name.{Name};
 ghost use Rattle.sock_diag_lines.specs.declared.answers.Name.TheVariants.{NetlinkMessage, UnixView};
@@ -12,13 +13,16 @@ ghost use Rattle.netlink_packet_sock_diag.specs.Message.{Message, message_codec}
 ghost use Rattle.netlink_packet_sock_diag.specs.Message.{netlink_message_codec};
 ghost use Rattle.netlink_packet_sock_diag.specs.MessageViewModel.{message_view_model};
 ghost use Rattle.netlink_packet_sock_diag.specs.PayloadViewModel.{netlink_message_view_model};
-ghost use Rattle.sock_diag_lines.specs.Answer.{IsAnswerOf, IsRequest, name_entry};
+ghost use Rattle.sock_diag_lines.specs.Answer.{IsAnswerOf, IsWritableRequest, codec_of_name};
+ghost use Rattle.sock_diag_lines.specs.Answer.{spelling_of};
+ghost use Rattle.sock_diag_lines.specs.Run.{AnswersLines};
 ghost use Rattle.sock_diag_lines.specs.private.LineRequest.{IsAnswerTo, IsParsedAs};
 ghost use Rattle.sock_diag_lines.specs.DumpLine.{IsDumpRequest};
 ghost use Rattle.sock_diag_lines.specs.MessageLine.{netlink_message_text};
-ghost use Rattle.sock_diag_lines.specs.HexField.{hex_field_of};
-ghost use Rattle.sock_diag_lines.specs.AnswerText.{IsAnswerUnder, IsAnswerText};
-ghost use Rattle.sock_diag_lines.specs.private.Text.{AppendsSome, ok_text, number_then_rest};
+ghost use Rattle.sock_diag_lines.specs.HexField.{hex_field_of, space};
+ghost use Rattle.sock_diag_lines.specs.AnswerText.{AreEquivalentUnder, IsAnswerToValue};
+ghost use Rattle.sock_diag_lines.specs.AnswerText.{IsAnswerUnder, answer_codec, ok_text};
+ghost use Rattle.sock_diag_lines.specs.private.Text.{AppendsSome, number_then_text};
 
 use crate::answer_parts::{OK, UNWRITABLE, push_accepted, push_field, push_number, push_refused};
 use crate::dump_line::{ReadDump, push_dump, read_dump};
@@ -81,36 +85,39 @@ const BAD_LINE: &[u8] = b"bad line";
 /// number of its messages and each serialized message; or `unwritable` if one of them is not
 /// writable. It is `bad line` for any other line.
 pub fn answer(alloc: Global, line: &[u8]) -> Result<Vec<u8>, AllocError>
+    // `IsAnswerOf line text`: the text answers the line.
     ensures answers { IfOk result (λ text. IsAnswerOf line.now text.items) }
 
     // Two inputs of one name other than `unixview`, both with writable values, have the same answer
-    // if and only if they are equivalent. `C` is the codec of the name, and `param` its
-    // parameter. `IsRequest line name bytes`: the line is this name and a hex field of these bytes.
-    // `unixview` does not show the whole value.
+    // if and only if they are equivalent by the codec of this name (`AreEquivalentUnder`).
+    // `unixview` does not show the whole value. `other` is any other line, `bytes'` are the bytes
+    // of its field, and `text'` is its answer. `IsWritableRequest line name bytes`: the line is
+    // this name and a hex field of these bytes, which parse as a writable value.
     ensures same { IfOk result (λ text. (name : Name) → name ≢ UnixView
-        → let C = (name_entry name).1.1 in let param = (name_entry name).1.2 in
-        (other bytes bytes' text' : List ℕ) (value value' : C.Value)
-        → IsRequest line.now name bytes → IsRequest other name bytes'
-        → C.parses bytes param value → C.is_writable value
-        → C.parses bytes' param value' → C.is_writable value'
-        → IsAnswerOf other text' → ((text.items ≡ text') ↔ C.equivalent param bytes bytes')) }
-    // Two equivalent inputs of any name, both with writable values, have the same answer.
+        → (other bytes bytes' text' : List ℕ)
+        → IsWritableRequest line.now name bytes → IsWritableRequest other name bytes'
+        → IsAnswerOf other text'
+        → ((text.items ≡ text') ↔ AreEquivalentUnder (codec_of_name name) bytes bytes')) }
+    // Also for `unixview`: two equivalent inputs of one name, both with writable values, have the
+    // same answer.
     ensures equal_bytes { IfOk result (λ text. (name : Name)
-        → let C = (name_entry name).1.1 in let param = (name_entry name).1.2 in
-        (other bytes bytes' text' : List ℕ) (value value' : C.Value)
-        → IsRequest line.now name bytes → IsRequest other name bytes'
-        → C.parses bytes param value → C.is_writable value
-        → C.parses bytes' param value' → C.is_writable value'
-        → IsAnswerOf other text' → C.equivalent param bytes bytes' → text.items ≡ text') }
-    // Two dumps have the same answer if their datagrams have the same items: the payload or the
-    // error of each message, of all datagrams in order.
+        (other bytes bytes' text' : List ℕ)
+        → IsWritableRequest line.now name bytes → IsWritableRequest other name bytes'
+        → IsAnswerOf other text'
+        → AreEquivalentUnder (codec_of_name name) bytes bytes' → text.items ≡ text') }
+    // Two dumps have the same answer if their datagrams have the same items (`HaveSameItems`): the
+    // payload or the error of each message, of all datagrams in order. `other` is any other line,
+    // `datagrams'` are its datagrams, and `text'` is its answer. `IsDumpRequest line datagrams`:
+    // the line is `dump` and the hex fields of these datagrams.
     ensures dumps { IfOk result
         (λ text. (other text' : List ℕ) (datagrams datagrams' : List (List ℕ))
         → IsDumpRequest line.now datagrams → IsDumpRequest other datagrams'
         → HaveSameItems (IsItemOf message_codec) datagrams datagrams'
         → IsAnswerOf other text' → text.items ≡ text') }
     // Two dumps of the same concatenated bytes have the same answer, if each of their datagrams
-    // except the last consists of complete messages with all their padding.
+    // except the last consists of complete messages with all their padding
+    // (`AreCompleteExceptLast`). `other` is any other line, `datagrams'` are its datagrams, and
+    // `text'` is its answer.
     ensures split { IfOk result
         (λ text. (other text' : List ℕ) (datagrams datagrams' : List (List ℕ))
         → IsDumpRequest line.now datagrams → IsDumpRequest other datagrams'
@@ -125,32 +132,37 @@ pub fn answer(alloc: Global, line: &[u8]) -> Result<Vec<u8>, AllocError>
 
 /// Each line has exactly one answer. Proof only: the contract states the property.
 pub fn each_line_has_one_answer()
-    ensures some { (answer : List ℕ → List ℕ) × ((line : List ℕ) → IsAnswerOf line (answer line)) }
+    // There is a function that has the answer to each line (`AnswersLines answer`).
+    ensures some { (answer : List ℕ → List ℕ) × AnswersLines answer }
+    // Two texts that answer one line (`IsAnswerOf line text`) are equal.
     ensures one { (line text other : List ℕ) → IsAnswerOf line text → IsAnswerOf line other
         → text ≡ other }
 {}
 
-/// Appends the answer to a line to the text. If memory runs out, a part of the answer may have been
-/// appended. `bytes` is a buffer for the bytes of the field.
+/// Appends the answer to a line to the text. `bytes` is a buffer for the bytes of the field.
 pub(crate) fn push_answer(
     alloc: Global,
     bytes: &mut Vec<u8>,
     text: &mut Vec<u8>,
     line: &[u8],
 ) -> Result<(), AllocError>
+    // `AppendsSome old new Holds`: some bytes were appended, which have the property `Holds`: here,
+    // they answer the line (`IsAnswerOf line text`).
     ensures { OnOk result (AppendsSome text.old.items text.new.items (IsAnswerOf line.now)) }
 {
-    let asked = read_request(alloc, bytes, line)?;
-    push_answer_text(alloc, text, asked, bytes.as_slice())
+    let request = read_request(alloc, bytes, line)?;
+    push_answer_text(alloc, text, request, bytes.as_slice())
 }
 
-/// Parses a line. `bytes` is replaced by the bytes of the line's last field.
+/// Parses a line. `bytes` is a buffer: if the line is a name and a hex field, it then has the bytes
+/// of the field.
 pub(crate) fn read_request(
     alloc: Global,
     bytes: &mut Vec<u8>,
     line: &[u8],
 ) -> Result<LineRequest, AllocError>
-    ensures { IfOk result (λ asked. IsParsedAs line.now asked bytes.new.items) }
+    // `IsParsedAs line request bytes`: the line has this request, and these bytes in its field.
+    ensures { IfOk result (λ request. IsParsedAs line.now request bytes.new.items) }
 {
     let Some(space) = find_space(line) else {
         return Ok(LineRequest::Nothing);
@@ -168,14 +180,16 @@ pub(crate) fn read_request(
     }
 }
 
-/// Parses a line whose name is `dump`, given the text after the space.
+/// Parses a line whose name is `dump`. `fields` is the text after the space. `bytes` is a buffer.
 fn read_dump_request(
     alloc: Global,
     bytes: &mut Vec<u8>,
     fields: &[u8],
 ) -> Result<LineRequest, AllocError>
-    ensures { IfOk result (λ asked. IsParsedAs (codes "dump" ++ 32 ∷ fields.now) asked
-        bytes.new.items) }
+    // `IsParsedAs line request bytes`: the line has this request. Here it is `dump`, a space and
+    // the fields. The bytes of the buffer do not matter for a dump.
+    ensures { IfOk result (λ request.
+        IsParsedAs (codes "dump" ++ space ∷ fields.now) request bytes.new.items) }
 {
     match read_dump(alloc, bytes, fields)? {
         Some(dump) => Ok(LineRequest::Dump(dump)),
@@ -183,16 +197,20 @@ fn read_dump_request(
     }
 }
 
-/// Appends the answer to the request. `bytes` are the bytes of its field.
+/// Appends the answer to the request. `bytes` are the bytes of its field, if it is a name and a hex
+/// field.
 pub(crate) fn push_answer_text(
     alloc: Global,
     text: &mut Vec<u8>,
-    asked: LineRequest,
+    request: LineRequest,
     bytes: &[u8],
 ) -> Result<(), AllocError>
-    ensures { OnOk result (AppendsSome text.old.items text.new.items (IsAnswerTo asked bytes.now)) }
+    // Some bytes were appended (`AppendsSome old new Holds`), which answer the request
+    // (`IsAnswerTo request bytes text`).
+    ensures { OnOk result
+        (AppendsSome text.old.items text.new.items (IsAnswerTo request bytes.now)) }
 {
-    match asked {
+    match request {
         LineRequest::Field(name) => push_named(alloc, text, name, bytes),
         LineRequest::Dump(dump) => push_dump(text, &dump),
         LineRequest::Nothing => text.extend_from_slice(BAD_LINE),
@@ -201,8 +219,11 @@ pub(crate) fn push_answer_text(
 
 /// Appends the answer to a name and the bytes of its field.
 fn push_named(alloc: Global, text: &mut Vec<u8>, name: Name, bytes: &[u8]) -> Result<(), AllocError>
+    // Some bytes were appended (`AppendsSome old new Holds`), which answer `bytes`, as these are
+    // parsed and shown under the name (`IsAnswerUnder answers bytes text`). `codec_of_name name`:
+    // how they are parsed and shown.
     ensures { OnOk result (AppendsSome text.old.items text.new.items
-        (IsAnswerUnder (name_entry name).1 bytes.now)) }
+        (IsAnswerUnder (codec_of_name name) bytes.now)) }
 {
     match name {
         Name::UnixRequest => push_canonical::<UnixRequest>(alloc, text, bytes, ()),
@@ -226,10 +247,11 @@ fn push_canonical<T: Wire + Drop>(
     bytes: &[u8],
     param: T::Param,
 ) -> Result<(), AllocError>
+    // Some bytes were appended (`AppendsSome old new Holds`), which answer `bytes`, as the codec of
+    // `T` with this parameter parses them and the canonical form in hex shows them (`answer_codec`,
+    // `IsAnswerUnder answers bytes text`).
     ensures { OnOk result (AppendsSome text.old.items text.new.items
-        (IsAnswerText (T.codec.parses bytes.now param) (T.codec.rejects bytes.now param)
-        T.codec.is_writable
-        (λ v. hex_field_of (T.codec.serialized v)))) }
+        (IsAnswerUnder (answer_codec T.codec param) bytes.now)) }
 {
     match canonical::<T>(alloc, bytes, param) {
         Ok(written) => push_accepted(text, written.as_slice()),
@@ -242,8 +264,11 @@ fn push_canonical<T: Wire + Drop>(
 /// Appends `ok` and the text of a netlink message, `unwritable`, or `refused` and the code of the
 /// error.
 fn push_netlink_message(alloc: Global, text: &mut Vec<u8>, bytes: &[u8]) -> Result<(), AllocError>
+    // Some bytes were appended (`AppendsSome old new Holds`), which answer `bytes`, as these are
+    // parsed and shown under the name `netlink` (`IsAnswerUnder answers bytes text`).
+    // `codec_of_name name`: how they are parsed and shown.
     ensures { OnOk result (AppendsSome text.old.items text.new.items
-        (IsAnswerUnder (name_entry NetlinkMessage).1 bytes.now)) }
+        (IsAnswerUnder (codec_of_name NetlinkMessage) bytes.now)) }
 {
     match MessageView::parse(bytes) {
         Ok(message) => push_message_text(alloc, text, &message),
@@ -257,8 +282,12 @@ fn push_message_text(
     text: &mut Vec<u8>,
     message: &MessageView<'_>,
 ) -> Result<(), AllocError>
+    // Some bytes were appended (`AppendsSome old new Holds`), which answer this value
+    // (`IsAnswerToValue value is_writable text_of text`): `ok ` and its text
+    // (`netlink_message_text`) if it is writable, else `unwritable`. `netlink_message_view_model`:
+    // the borrowed message, with its bytes as lists.
     ensures { OnOk result (AppendsSome text.old.items text.new.items
-        (IsAnswerText (λ e. e ≡ netlink_message_view_model message.now) (λ error. ⊥)
+        (IsAnswerToValue (netlink_message_view_model message.now)
         netlink_message_codec.is_writable netlink_message_text)) }
 {
     if !message.is_writable() {
@@ -273,13 +302,17 @@ fn push_message_text(
     }
 }
 
-/// Appends `ok`, the five fields of a header and a serialized inner message.
+/// Appends `ok`, the five fields of a header and a serialized inner message, which must be
+/// writable.
 fn push_inner(
     alloc: Global,
     text: &mut Vec<u8>,
     header: &NetlinkHeader,
     inner: &SockDiagView<'_>,
 ) -> Result<(), AllocError>
+    // `message_view_model`: the borrowed message, with its bytes as lists. `ok_text text`: `ok `,
+    // and then the text. `netlink_message_text message`: the fields of the header in decimal, and
+    // the serialized payload as a hex field, separated by spaces.
     requires { message_codec.is_writable (message_view_model inner.now) }
     ensures { OnOk result (text.new.items ≡ text.old.items ++ ok_text
         (netlink_message_text (record {
@@ -292,57 +325,62 @@ fn push_inner(
     push_message_fields(text, header, &bytes)
 }
 
-/// Appends `ok`, the five fields of a header and a payload.
+/// Appends `ok`, the five fields of a header and a payload as a hex field.
 fn push_message_fields(
     text: &mut Vec<u8>,
     header: &NetlinkHeader,
     payload: &[u8],
 ) -> Result<(), AllocError>
+    // `ok_text text`: `ok `, and then the text. `number_then_text number text`: the number in
+    // decimal, a space, and then the text, here five times. `hex_field_of bytes`: the hex field of
+    // the bytes.
     ensures { OnOk result (text.new.items ≡ text.old.items ++ ok_text
-        (number_then_rest header.now.length
-        (number_then_rest header.now.message_type (number_then_rest header.now.flags
-        (number_then_rest header.now.sequence_number
-        (number_then_rest header.now.port_number (hex_field_of payload.now))))))) }
+        (number_then_text header.now.length
+        (number_then_text header.now.message_type (number_then_text header.now.flags
+        (number_then_text header.now.sequence_number
+        (number_then_text header.now.port_number (hex_field_of payload.now))))))) }
 {
     text.extend_from_slice(OK)?;
-    push_word(text, header.length)?;
-    push_word(text, header.message_type.into())?;
-    push_word(text, header.flags.into())?;
-    push_word(text, header.sequence_number)?;
-    push_word(text, header.port_number)?;
+    push_number_and_space(text, header.length)?;
+    push_number_and_space(text, header.message_type.into())?;
+    push_number_and_space(text, header.flags.into())?;
+    push_number_and_space(text, header.sequence_number)?;
+    push_number_and_space(text, header.port_number)?;
     push_field(text, payload)
 }
 
 /// Appends a number in decimal and a space.
-fn push_word(text: &mut Vec<u8>, number: u32) -> Result<(), AllocError>
-    ensures { OnOk result (text.new.items ≡ text.old.items ++ (decimal number ++ 32 ∷ [])) }
+fn push_number_and_space(text: &mut Vec<u8>, number: u32) -> Result<(), AllocError>
+    ensures { OnOk result (text.new.items ≡ text.old.items ++ (decimal number ++ space ∷ [])) }
 {
     push_number(text, number.into())?;
     Ok(text.push(b' ')?)
 }
 
-/// Returns the name that is spelled in this way, or `None`.
-fn find_name(word: &[u8]) -> Option<Name>
-    ensures { MatchOption result ((name : Name) → word.now ≢ (name_entry name).0)
-        (λ name. word.now ≡ (name_entry name).0) }
+/// Returns the name that is spelled in this way, or `None` if there is none.
+fn find_name(spelling: &[u8]) -> Option<Name>
+    // `spelling_of name`: the name as it is spelled in a line. `None` only if no name is spelled
+    // so.
+    ensures { MatchOption result ((name : Name) → spelling.now ≢ spelling_of name)
+        (λ name. spelling.now ≡ spelling_of name) }
 {
-    if word == b"unixreq".as_slice() {
+    if spelling == b"unixreq".as_slice() {
         Some(Name::UnixRequest)
-    } else if word == b"unix".as_slice() {
+    } else if spelling == b"unix".as_slice() {
         Some(Name::UnixResponse)
-    } else if word == b"inet".as_slice() {
+    } else if spelling == b"inet".as_slice() {
         Some(Name::InetResponse)
-    } else if word == b"inetreq".as_slice() {
+    } else if spelling == b"inetreq".as_slice() {
         Some(Name::InetRequest)
-    } else if word == b"sockid4".as_slice() {
+    } else if spelling == b"sockid4".as_slice() {
         Some(Name::SocketId4)
-    } else if word == b"sockid6".as_slice() {
+    } else if spelling == b"sockid6".as_slice() {
         Some(Name::SocketId6)
-    } else if word == b"message".as_slice() {
+    } else if spelling == b"message".as_slice() {
         Some(Name::Message)
-    } else if word == b"netlink".as_slice() {
+    } else if spelling == b"netlink".as_slice() {
         Some(Name::NetlinkMessage)
-    } else if word == b"unixview".as_slice() {
+    } else if spelling == b"unixview".as_slice() {
         Some(Name::UnixView)
     } else {
         None

@@ -1,4 +1,5 @@
-//! The answer to a line that contains the datagrams of a dump.
+//! The answer to a line that contains the datagrams of a dump. A function that returns a `Result`
+//! fails only if an allocation fails.
 
 ghost use Rattle.std.specs.Prelude.{◌≡◌, ◌↔◌, ◌++◌, ℕ, ℤ, List, Option, IsTrue, IfOk, OnOk};
 ghost use Rattle.std.specs.Prelude.{MatchBool, MatchOption, Ok, length};
@@ -6,8 +7,8 @@ ghost use Rattle.netlink_packet_sock_diag.specs.Message.{message_codec};
 ghost use Rattle.netlink_packet_sock_diag.specs.MessageViewModel.{message_view_model};
 ghost use Rattle.netlink_packet_sock_diag.specs.declared.dump.DumpState.TheVariants.{Reading};
 ghost use Rattle.sock_diag_lines.specs.DumpLine.{dump_state_text};
-ghost use Rattle.sock_diag_lines.specs.HexField.{IsHexField};
-ghost use Rattle.sock_diag_lines.specs.private.ReadDump.{AnswersDump, AppendsMessage, AreHexFields};
+ghost use Rattle.sock_diag_lines.specs.HexField.{AreHexFields, IsHexField, IsNoHexField};
+ghost use Rattle.sock_diag_lines.specs.private.ReadDump.{AnswersDump, AppendsMessage};
 ghost use Rattle.sock_diag_lines.specs.private.ReadDump.{FeedsOneDatagram, IsReadDump};
 ghost use Rattle.sock_diag_lines.specs.private.ReadDump.{shown_end, texts_in};
 ghost use Rattle.sock_diag_lines.specs.private.Text.{AppendsSome};
@@ -40,12 +41,15 @@ pub(crate) fn read_dump(
     bytes: &mut Vec<u8>,
     fields: &[u8],
 ) -> Result<Option<ReadDump>, AllocError>
+    // `AreHexFields text datagrams`: the text is the hex fields of these datagrams, separated by
+    // one space. `None` only if it is not, whatever the datagrams. Otherwise there are such
+    // datagrams, and the dump has read these (`IsReadDump datagrams dump`).
     ensures { IfOk result (λ read. MatchOption read ((datagrams : List (List ℕ))
         → ¬ AreHexFields fields.now datagrams)
         (λ dump. (datagrams : List (List ℕ)) × AreHexFields fields.now datagrams
         × IsReadDump datagrams dump)) }
 {
-    // Serialized messages are seldom longer than their datagrams.
+    // Two hex digits are a byte, and serialized messages are seldom longer than their datagrams.
     let serialized = Vec::with_capacity(alloc, fields.len() / 2)?;
     let mut dump = ReadDump {
         end: Ok(DumpState::Reading),
@@ -56,38 +60,42 @@ pub(crate) fn read_dump(
     };
     let mut rest = fields;
     'fields: while let Some(space) = find_space(rest) {
-        if !take_field(&mut dump, bytes, &rest[..space])? {
+        if !feed_field(&mut dump, bytes, &rest[..space])? {
             return Ok(None);
         }
         rest = &rest[space + 1..];
     }
-    if take_field(&mut dump, bytes, rest)? {
+    if feed_field(&mut dump, bytes, rest)? {
         Ok(Some(dump))
     } else {
         Ok(None)
     }
 }
 
-/// Reads the datagram in a hex field. Returns whether the field is a hex field.
-fn take_field(dump: &mut ReadDump, bytes: &mut Vec<u8>, field: &[u8]) -> Result<bool, AllocError>
+/// Feeds the datagram in a hex field to the dump. Returns whether the field is a hex field. `bytes`
+/// is a buffer for the datagram.
+fn feed_field(dump: &mut ReadDump, bytes: &mut Vec<u8>, field: &[u8]) -> Result<bool, AllocError>
+    // If true, the field is the hex field of some datagram (`IsHexField`), and the dump has read it
+    // (`FeedsOneDatagram old datagram new`). If false, it is not a hex field (`IsNoHexField`).
     ensures { IfOk result (λ is_field. MatchBool is_field
         ((datagram : List ℕ) × IsHexField field.now datagram
         × FeedsOneDatagram dump.old datagram dump.new)
-        ((content : List ℕ) → ¬ IsHexField field.now content)) }
+        (IsNoHexField field.now)) }
 {
     if !read_field(bytes, field)? {
         return Ok(false);
     }
-    take_datagram(dump, bytes.as_slice())?;
+    feed_datagram(dump, bytes.as_slice())?;
     Ok(true)
 }
 
-/// Reads a datagram. A dump that has ended is unchanged.
-fn take_datagram(dump: &mut ReadDump, datagram: &[u8]) -> Result<(), AllocError>
+/// Feeds a datagram to the dump. A dump that has ended is unchanged.
+fn feed_datagram(dump: &mut ReadDump, datagram: &[u8]) -> Result<(), AllocError>
+    // `FeedsOneDatagram old datagram new`: `new` has read what `old` has read, and this datagram.
     ensures { OnOk result (FeedsOneDatagram dump.old datagram.now dump.new) }
 {
     if is_reading(dump) {
-        take_messages(dump, datagram)
+        feed_messages(dump, datagram)
     } else {
         Ok(())
     }
@@ -100,9 +108,11 @@ fn is_reading(dump: &ReadDump) -> bool
     matches!(dump.end, Ok(DumpState::Reading))
 }
 
-/// Reads the messages of a datagram up to the end of the dump, and serializes them.
-fn take_messages(dump: &mut ReadDump, datagram: &[u8]) -> Result<(), AllocError>
+/// Feeds the messages of a datagram up to the end of the dump, and serializes them. The dump must
+/// not have ended.
+fn feed_messages(dump: &mut ReadDump, datagram: &[u8]) -> Result<(), AllocError>
     requires { dump.old.end ≡ Ok Reading }
+    // `FeedsOneDatagram old datagram new`: `new` has read what `old` has read, and this datagram.
     ensures { OnOk result (FeedsOneDatagram dump.old datagram.now dump.new) }
 {
     for item in DumpViews::new(datagram) {
@@ -133,8 +143,11 @@ fn take_messages(dump: &mut ReadDump, datagram: &[u8]) -> Result<(), AllocError>
     Ok(())
 }
 
-/// Serializes a message. If a message is not writable, no further messages are serialized.
+/// Serializes a message and adds it to the dump. If this message or an earlier one is not writable,
+/// it is not serialized, and `is_writable` is false then.
 fn push_message(dump: &mut ReadDump, message: &SockDiagView<'_>) -> Result<(), AllocError>
+    // `AppendsMessage old message new`: `new` has the end and the messages of `old`, and then this
+    // message. `message_view_model`: the borrowed message, with its bytes as lists.
     ensures { OnOk result (AppendsMessage dump.old (message_view_model message.now) dump.new) }
 {
     if !dump.is_writable {
@@ -156,6 +169,7 @@ fn push_bytes(
     message: &SockDiagView<'_>,
     len: usize,
 ) -> Result<(), AllocError>
+    // `message_view_model`: the borrowed message, with its bytes as lists.
     requires writable { message_codec.is_writable (message_view_model message.now) }
     requires len { len ≡ length (message_codec.serialized (message_view_model message.now)) }
     ensures { OnOk result (bytes.new.items ≡ bytes.old.items
@@ -169,6 +183,8 @@ fn push_bytes(
 /// Appends `ok`, the state of the dump, the number of its messages and the bytes of each, or
 /// `unwritable`.
 pub(crate) fn push_dump(text: &mut Vec<u8>, dump: &ReadDump) -> Result<(), AllocError>
+    // Some bytes were appended (`AppendsSome old new Holds`), which answer the dump
+    // (`AnswersDump dump text`).
     ensures { OnOk result (AppendsSome text.old.items text.new.items (AnswersDump dump.now)) }
 {
     if !dump.is_writable {
@@ -184,13 +200,18 @@ pub(crate) fn push_dump(text: &mut Vec<u8>, dump: &ReadDump) -> Result<(), Alloc
 /// Appends a space and the bytes as a hex field, for each message. `bytes` are the bytes of all
 /// messages, which have these lengths.
 fn push_messages(text: &mut Vec<u8>, lengths: &[usize], bytes: &[u8]) -> Result<(), AllocError>
+    // `texts_in lengths bytes`: a space and a hex field for each part, if the bytes are split into
+    // parts of these lengths.
     ensures { OnOk result (text.new.items ≡ text.old.items ++ texts_in lengths.now bytes.now) }
 {
-    // A space for each message, two digits for each byte, and the line feed after the answer.
+    // A space for each message, two digits for each byte, and the line feed after the answer. If
+    // the sum does not fit, it is the greatest `usize`, which cannot be reserved.
     let digits = bytes.len().saturating_mul(2);
     text.reserve(digits.saturating_add(lengths.len()).saturating_add(1))?;
     let mut rest = bytes;
     for len in lengths {
+        // The lengths add up to the number of bytes. So `min` changes nothing; it spares a
+        // precondition.
         let (message, later) = rest.split_at((*len).min(rest.len()));
         text.push(b' ')?;
         push_field(text, message)?;
@@ -201,6 +222,8 @@ fn push_messages(text: &mut Vec<u8>, lengths: &[usize], bytes: &[u8]) -> Result<
 
 /// Appends the name of the state, or `failed:` and the code of the error.
 fn push_end(text: &mut Vec<u8>, dump: &ReadDump) -> Result<(), AllocError>
+    // `shown_end dump`: the end of the dump, its state or its error. `dump_state_text end`: the
+    // text of this end.
     ensures { OnOk result (text.new.items
         ≡ text.old.items ++ dump_state_text (shown_end dump.now)) }
 {
@@ -215,6 +238,7 @@ fn push_end(text: &mut Vec<u8>, dump: &ReadDump) -> Result<(), AllocError>
 
 /// Returns the name of a state.
 fn name_of_dump_state(state: DumpState) -> &'static [u8]
+    // For any error number: the text of a state does not show it.
     ensures { (number : Option ℤ) → result.now ≡ dump_state_text (Ok (state, number)) }
 {
     match state {
@@ -222,6 +246,7 @@ fn name_of_dump_state(state: DumpState) -> &'static [u8]
         DumpState::Done => b"done",
         DumpState::Error => b"error",
         DumpState::Overrun => b"overrun",
+        // Does not occur here: a dump that a decode error ended is an `Err` in `push_end`.
         DumpState::Failed => b"failed",
     }
 }

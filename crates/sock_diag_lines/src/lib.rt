@@ -2,12 +2,11 @@
 //! sock_diag(7) in hex, and is answered by one line. See docs/LINES.md.
 #![tactic(auto)]
 
-ghost use Rattle.std.specs.Prelude.{◌≡◌, ◌≢◌, ◌⊎◌, ◌-◌, ◌^◌, ◌&&◌, if◌then◌else◌, not, Bool};
-ghost use Rattle.std.specs.Prelude.{Result, IfErr, MatchResult};
+ghost use Rattle.std.specs.Prelude.{◌≡◌, ◌≢◌, ◌⊎◌, ◌-◌, ◌^◌, Bool, Result, IfErr};
 ghost use Rattle.std.specs.Process.{exit_status};
 ghost use Rattle.std.specs.Io.KnownBytes.{IsAtEnd, Keeps};
 ghost use Rattle.sock_diag_lines.specs.FailureLine.{failure_line};
-ghost use Rattle.sock_diag_lines.specs.Run.{RunEnds, WritesAllAnswers};
+ghost use Rattle.sock_diag_lines.specs.Run.{RunEnds, WritesAllAnswers, exit_status_of};
 ghost use Rattle.program_streams.specs.Streams.{WritesAllOrFails};
 ghost use Rattle.program_streams.specs.declared.lines.RunError.{RunError};
 ghost use Rattle.program_streams.specs.declared.streams.WriteError.{WriteError};
@@ -35,8 +34,8 @@ pub const VERSION: &str = "1.0.0";
 /// Answers each line of `input` with one line on `output`, flushes, and returns the exit status. It
 /// is 1 if a read, a write or an allocation failed; then one line on `errors` names the failure, or
 /// a prefix of this line if a write failed there too. Otherwise all input was answered, and nothing
-/// was written on `errors`. The status then is 0; but if `is_strict`, it is 3 if an answer does not
-/// start with `ok`, or if a dump failed.
+/// was written on `errors`. The status then is 0, or 3 if `is_strict` and an answer is not good: it
+/// does not start with `ok`, or it is that of a dump that failed.
 ///
 /// What has been written to `output` after a failure is what [`run`] states. The streams are those
 /// of std, or others that record their failed calls: see `program_streams`. Streams of std record
@@ -52,23 +51,28 @@ pub fn run_to_status<R: PromptRead, W: Sink, E: Sink>(
     requires start { R.reads input.old 0 }
     // If the status is not 1, no bytes of the reader are left, if these are known.
     ensures ended { exit_status result ≢ 1 → IsAtEnd (R.left input.new) }
-    // If the status is not 1, the answers to all lines have been written.
+    // If the status is not 1, the answers to all lines have been written
+    // (`WritesAllAnswers left held held'`), if it was known what was left to read.
     ensures complete { exit_status result ≢ 1
         → WritesAllAnswers (R.left input.old) (W.held output.old) (W.held output.new) }
+    // If the status is not 1, the last call on `output` was a flush that succeeded.
     ensures flushed { exit_status result ≢ 1 → W.flushed output.new }
     // If the status is not 1, nothing was written on `errors`, if what had been written there is
     // known.
     ensures silent { exit_status result ≢ 1 → Keeps (E.held errors.old) (E.held errors.new) }
-    // The outcome of the run: whether each answer is good (`is_good`), or the failure. `RunEnds`
-    // states what was read and written for each outcome. After a failure `errors` has the line that
-    // names it, or a prefix of that line if a write on `errors` failed. `Read` and `Write` have a
-    // cause: a call that failed, or 2^64 - 1 reads.
+    // There is an outcome of the run: whether each answer is good, or the failure.
+    // `exit_status_of`: the status for this outcome. `RunEnds streams outcome`: what was read and
+    // written. `WritesAllOrFails`: after a failure `errors` has the line that names it
+    // (`failure_line`), or a prefix of that line if a write on `errors` failed. `Read` and `Write`
+    // have a cause: a call that failed, or 2^64 - 1 reads.
     ensures answered { (outcome : Result Bool RunError)
-        × MatchResult outcome
-        (λ good. exit_status result ≡ (if is_strict && not good then 3 else 0))
-        (λ _. exit_status result ≡ 1)
-        × RunEnds (R.left input.old) (R.left input.new) (W.held output.old) (W.held output.new)
-        outcome
+        × (exit_status result ≡ exit_status_of is_strict outcome)
+        × RunEnds (record {
+          left_before = R.left input.old;
+          left_after = R.left input.new;
+          held_before = W.held output.old;
+          held_after = W.held output.new;
+        }) outcome
         × IfErr outcome (λ e. WritesAllOrFails (E.held errors.old) (E.held errors.new)
         ((error : WriteError) × E.failed errors.new error) (failure_line e)
         × (e ≡ RunError.Read → R.failed input.new ⊎ R.reads input.new (2 ^ 64 - 1))
@@ -79,11 +83,12 @@ pub fn run_to_status<R: PromptRead, W: Sink, E: Sink>(
     exit_code(&outcome, is_strict)
 }
 
-/// Returns the exit status of a run.
+/// Returns the exit status of a run: 1 if it failed, 3 if `is_strict` and an answer is not good,
+/// else 0.
 fn exit_code(outcome: &Result<bool, RunError>, is_strict: bool) -> ExitCode
-    ensures { MatchResult outcome.now
-        (λ good. exit_status result ≡ (if is_strict && not good then 3 else 0))
-        (λ _. exit_status result ≡ 1) }
+    // `exit_status code`: the number of an `ExitCode`. `exit_status_of is_strict outcome`: 0, 1 or
+    // 3, as described above.
+    ensures { exit_status result ≡ exit_status_of is_strict outcome.now }
 {
     match outcome {
         Ok(is_good) if is_strict && !*is_good => ExitCode::from(3),

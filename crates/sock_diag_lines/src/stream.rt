@@ -24,10 +24,13 @@ struct Protocol;
 impl LineAnswers for Protocol {
     type Request = LineRequest;
 
-    ghost answers = { IsAnswerOf };
+    // `IsAnswerOf line text`: the text answers the line.
+    ghost is_answer = { IsAnswerOf };
 
-    ghost asks = { IsParsedAs };
+    // `IsParsedAs line request bytes`: the line has this request, and these bytes in its field.
+    ghost parses_as = { IsParsedAs };
 
+    // `is_good text`: the answer starts with `ok`, and is not that of a dump that failed.
     ghost good = { is_good };
 
     fn read_request(
@@ -41,17 +44,19 @@ impl LineAnswers for Protocol {
     fn push_answer(
         alloc: Global,
         text: &mut Vec<u8>,
-        asked: LineRequest,
+        request: LineRequest,
         bytes: &[u8],
     ) -> Result<bool, AllocError> {
         let start = text.len();
-        push_answer_text(alloc, text, asked, bytes)?;
+        push_answer_text(alloc, text, request, bytes)?;
         Ok(is_good(&text[start..]))
     }
 }
 
-/// Returns whether an answer is good: it starts with `ok`, and it is not a dump that failed.
+/// Returns whether an answer is good: it starts with `ok `, and it is not that of a dump that
+/// failed, the only answer that starts with `ok failed`.
 fn is_good(answer: &[u8]) -> bool
+    // On the right is the definition of the same name.
     ensures { result ≡ is_good answer.now }
 {
     answer.starts_with(OK) && !answer.starts_with(b"ok failed")
@@ -71,15 +76,22 @@ fn is_good(answer: &[u8]) -> bool
 /// repeated; no contract states this.
 pub fn run<R: Read, W: Write>(alloc: Global, input: &mut R, output: &mut W) -> Result<(), RunError>
     // If the run succeeds, no bytes of the reader are left, if these are known, and the answers to
-    // all lines have been written.
+    // all lines have been written (`WritesAllAnswers left held held'`). `R.remaining reader`: the
+    // bytes that are left to read, if they are known. `W.contents writer`: the bytes that have been
+    // written, if they are known.
     ensures ended { OnOk result (IsAtEnd (R.remaining input.new)) }
     ensures complete { OnOk result (WritesAllAnswers (R.remaining input.old)
         (W.contents output.old) (W.contents output.new)) }
-    // The bytes that were read and written, for each outcome. The result is the outcome, without
-    // the `bool` that says whether each answer is good.
+    // There is an outcome of the run: whether each answer is good, or the failure.
+    // `RunEnds streams outcome`: what was read and written for this outcome. The result is the
+    // outcome, without the `bool`.
     ensures answered { (outcome : Result Bool RunError)
-        × RunEnds (R.remaining input.old) (R.remaining input.new) (W.contents output.old)
-        (W.contents output.new) outcome
+        × RunEnds (record {
+          left_before = R.remaining input.old;
+          left_after = R.remaining input.new;
+          held_before = W.contents output.old;
+          held_after = W.contents output.new;
+        }) outcome
         × MatchResult outcome (λ _. result ≡ Ok tt) (λ error. result ≡ Err error) }
 {
     let _is_good = answer_all(alloc, input, output)?;
@@ -94,28 +106,42 @@ pub(crate) fn answer_all<R: PromptRead, W: Sink>(
     input: &mut R,
     output: &mut W,
 ) -> Result<bool, RunError>
+    // `R.left`: the bytes that are left to read, if they are known. `W.held`: the bytes that have
+    // been written, if they are known. `R.reads reader n`: `n` reads were made, here none.
     requires start { R.reads input.old 0 }
-    // If the run succeeds, all input was read. The answers to all its lines are written, if the
-    // bytes of the reader were known at the start.
+    // If the run succeeds, no bytes are left to read, if these are known. The answers to all lines
+    // have been written (`WritesAllAnswers left held held'`), if it was known what was left to
+    // read.
     ensures ended { OnOk result (IsAtEnd (R.left input.new)) }
     ensures complete { OnOk result
         (WritesAllAnswers (R.left input.old) (W.held output.old) (W.held output.new)) }
+    // If the run succeeds, the last call on `output` was a flush that succeeded.
     ensures flushed { OnOk result (W.flushed output.new) }
-    // The bytes that were read and written, for each outcome.
-    ensures answered { RunEnds (R.left input.old) (R.left input.new) (W.held output.old)
-        (W.held output.new) result }
+    // `RunEnds streams outcome`: what was read and written for this outcome.
+    ensures answered { RunEnds (record {
+      left_before = R.left input.old;
+      left_after = R.left input.new;
+      held_before = W.held output.old;
+      held_after = W.held output.new;
+    }) result }
+    // `Read` and `Write` have a cause: a call that failed, or 2^64 - 1 reads.
     ensures read_cause { IfErr result (λ e. e ≡ RunError.Read
         → R.failed input.new ⊎ R.reads input.new (2 ^ 64 - 1)) }
     ensures write_cause { IfErr result (λ e. e ≡ RunError.Write
         → (error : WriteError) × W.failed output.new error) }
 {
+    // `Brand`: the proof says what the streams were at the start, see `RunStart`.
     serve::<Brand, Protocol, R, W>(alloc, input, output)
 }
 
 /// Writes the line that names the failure, if the run failed. If a write fails, a prefix of it has
 /// been written.
 pub(crate) fn report<E: Sink>(errors: &mut E, outcome: &Result<bool, RunError>)
+    // If the run succeeded, nothing was written. `E.held`: the bytes that have been written, if
+    // they are known. `Keeps old new`: they are unchanged.
     ensures silent { OnOk outcome.now (Keeps (E.held errors.old) (E.held errors.new)) }
+    // If it failed with `e`, the line (`failure_line e`) was written, or a prefix of it if a write
+    // failed, with some error (`E.failed`). `WritesAllOrFails held held' failed text` says this.
     ensures reported { IfErr outcome.now
         (λ e. WritesAllOrFails (E.held errors.old) (E.held errors.new)
         ((error : WriteError) × E.failed errors.new error) (failure_line e)) }
@@ -127,6 +153,7 @@ pub(crate) fn report<E: Sink>(errors: &mut E, outcome: &Result<bool, RunError>)
 
 /// Returns the line that names a failure.
 fn failure_line(error: RunError) -> &'static [u8]
+    // On the right is the definition of the same name.
     ensures { result.now ≡ failure_line error }
 {
     match error {

@@ -18,12 +18,12 @@ fn main(rt: HostRuntime) -> ExitCode {
     }
 }
 
-/// Returns what the command line requests.
+/// Returns what the command line requests. The only error is that an allocation failed.
 fn read_choice(rt: &HostRuntime) -> Result<Choice, AllocError> {
     let mut arguments = match env::args(rt) {
         Ok(arguments) => arguments,
         Err(error) if error.kind() == ErrorKind::OutOfMemory => return Err(AllocError),
-        // An argument is not valid UTF-8, so it is not a known option.
+        // An argument is not valid UTF-8, so it is no option. Other arguments are ignored.
         Err(_) => return Ok(Choice::Answer),
     };
     let _program = arguments.next();
@@ -31,7 +31,8 @@ fn read_choice(rt: &HostRuntime) -> Result<Choice, AllocError> {
     Ok(choose(arguments.as_slice()))
 }
 
-/// Answers the lines of standard input.
+/// Answers the lines of standard input, and returns the exit status. `is_strict`: the option
+/// `--strict` was given.
 fn answer_lines(rt: &HostRuntime, is_strict: bool) -> ExitCode {
     run_to_status(
         rt.alloc(),
@@ -42,7 +43,7 @@ fn answer_lines(rt: &HostRuntime, is_strict: bool) -> ExitCode {
     )
 }
 
-/// Returns status 0 if a text was printed.
+/// Returns status 0 if a text was printed. Otherwise reports that writing failed, and returns 1.
 fn status_of(rt: &impl Eprint, printed: io::Result<()>) -> ExitCode {
     match printed {
         Ok(()) => ExitCode::SUCCESS,
@@ -50,7 +51,7 @@ fn status_of(rt: &impl Eprint, printed: io::Result<()>) -> ExitCode {
     }
 }
 
-/// Reports a failure on standard error, and returns status 1.
+/// Writes the line, which reports a failure, to standard error, and returns status 1.
 fn fail(rt: &impl Eprint, line: &str) -> ExitCode {
     let _ = rt.eprintln(line);
     ExitCode::FAILURE

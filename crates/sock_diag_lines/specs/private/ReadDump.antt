@@ -1,49 +1,31 @@
 -- The model of a dump that the program reads, how it grows, and the parts of its answer.
-use Rattle.std.specs.Prelude.{◌≡◌, ◌==◌, ℕ, List, [], ◌∷◌, ◌++◌, length, map, take, drop, None}
+use Rattle.std.specs.Prelude.{◌≡◌, ℕ, List, [], ◌∷◌, ◌++◌, length, map, take, drop, None}
 use Rattle.std.specs.Prelude.{Result, MatchBool}
 use Rattle.netlink_core.specs.declared.error.DecodeError.{DecodeError}
 use Rattle.netlink_core.specs.Errors.{map_ok}
 use Rattle.sock_diag_lines.specs.declared.dump_line.ReadDump.{ReadDump}
-use Rattle.std.specs.List.{AllByRecursion, AllZip, flat_map, slice_split}
-use Rattle.netlink_core.specs.Items.{IsItemOf}
+use Rattle.std.specs.List.{AllByRecursion, flat_map}
 use Rattle.netlink_packet_sock_diag.specs.declared.dump.DumpState.{DumpState}
-use Rattle.netlink_packet_sock_diag.specs.Dump.{DumpOfDatagrams, DumpStatus}
+use Rattle.netlink_packet_sock_diag.specs.Dump.{DumpStatus}
 use Rattle.netlink_packet_sock_diag.specs.Message.{Message, message_codec}
-use Rattle.sock_diag_lines.specs.AnswerText.{IsAnswerText}
-use Rattle.sock_diag_lines.specs.DumpLine.{dump_text}
-use Rattle.sock_diag_lines.specs.HexField.{IsHexField, hex_field_of}
-
--- `AreHexFields text datagrams`: the parts of the text between single spaces (32) are the hex
--- fields of these datagrams, in order
-abbrev pub AreHexFields : List ℕ → List (List ℕ) → Type 0
-AreHexFields text datagrams = AllZip IsHexField (slice_split (λ c. c == 32) text) datagrams
-
--- the messages of a dump, and its end
-abbrev pub DumpOutcome : Type 0
-DumpOutcome = List Message × Result DumpStatus DecodeError
-
--- `IsDumpOf datagrams dump`: the dump over the datagrams, starting without messages, has the
--- messages `dump.0` and the end `dump.1`
-abbrev pub IsDumpOf : List (List ℕ) → DumpOutcome → Type 0
-IsDumpOf datagrams dump = DumpOfDatagrams (IsItemOf message_codec) [] datagrams dump.0 dump.1
-
--- each message of the dump is writable
-abbrev pub IsWritable : DumpOutcome → Type 0
-IsWritable dump = AllByRecursion message_codec.is_writable dump.0
+use Rattle.sock_diag_lines.specs.AnswerText.{IsAnswerToValue}
+use Rattle.sock_diag_lines.specs.DumpLine.{DumpOutcome, IsDumpOf, IsWritableDump, dump_text}
+use Rattle.sock_diag_lines.specs.HexField.{hex_field_of, space}
 
 -- `texts_in lengths bytes`: the bytes are split into parts of these lengths, in order; the text has
--- a space (32) and a hex field for each part
+-- a space and a hex field for each part
 abbrev pub texts_in : List ℕ → List ℕ → List ℕ
 texts_in [] bytes = []
-texts_in (n ∷ lengths) bytes =
-    (32 ∷ hex_field_of (take n bytes)) ++ texts_in lengths (drop n bytes)
+texts_in (first ∷ lengths) bytes =
+    (space ∷ hex_field_of (take first bytes)) ++ texts_in lengths (drop first bytes)
 
--- `state_or_error end`: the end of a dump without the error number of its state, which no answer
--- shows
+-- `state_or_error end`: the state in which a dump ended, or the decode error that ended it. The
+-- error number of the state (`status.1`) is left out: no answer shows it.
 abbrev pub state_or_error : Result DumpStatus DecodeError → Result DumpState DecodeError
 state_or_error end = map_ok (λ (status : DumpStatus). status.0) end
 
--- the end of the dump, without an error number
+-- `shown_end dump`: the end of the dump, in the form that `dump_state_text` expects. It has no
+-- error number (`None`): no answer shows it.
 abbrev pub shown_end : ReadDump → Result DumpStatus DecodeError
 shown_end dump = map_ok (λ (state : DumpState). (state, None)) dump.end
 
@@ -66,19 +48,21 @@ abbrev pub IsReadDump : List (List ℕ) → ReadDump → Type 0
 IsReadDump datagrams dump = (outcome : DumpOutcome) × IsDumpOf datagrams outcome
     × HasOutcome dump outcome
 
--- FeedsOneDatagram old datagram new: if `old` has read some datagrams, then `new` has read these
+-- `FeedsOneDatagram old datagram new`: whichever datagrams `old` has read, `new` has read these
 -- datagrams and then this one
 abbrev pub FeedsOneDatagram : ReadDump → List ℕ → ReadDump → Type 0
 FeedsOneDatagram old datagram new = (datagrams : List (List ℕ)) → IsReadDump datagrams old
     → IsReadDump (datagrams ++ datagram ∷ []) new
 
--- AppendsMessage old message new: `new` has the end of `old`; and if `old` has some messages, then
+-- `AppendsMessage old message new`: `new` has the end of `old`; and whichever messages `old` has,
 -- `new` has these messages and then this one
 abbrev pub AppendsMessage : ReadDump → Message → ReadDump → Type 0
 AppendsMessage old message new = (new.end ≡ old.end) × ((messages : List Message)
     → HasMessages old messages → HasMessages new (messages ++ message ∷ []))
 
--- AnswersDump dump text: the text is the answer to each outcome that the dump may have
+-- `AnswersDump dump text`: the text is the answer to each outcome that the dump may have. There are
+-- several, since `dump` has no error number, and lacks messages if one is not writable. They have
+-- the same answer.
 abbrev pub AnswersDump : ReadDump → List ℕ → Type 0
 AnswersDump dump text = (outcome : DumpOutcome) → HasOutcome dump outcome
-    → IsAnswerText (λ d. d ≡ outcome) (λ error. ⊥) IsWritable dump_text text
+    → IsAnswerToValue outcome IsWritableDump dump_text text

@@ -1,37 +1,22 @@
 -- Appending to a text, and the parts that are appended.
-use Rattle.std.specs.Prelude.{◌≡◌, ◌==◌, ◌<◌, ◌+◌, ℕ, Bool, List, ◌∷◌, ◌++◌, length, take, drop}
-use Rattle.std.specs.Prelude.{codes, decimal}
+use Rattle.std.specs.Prelude.{◌≡◌, ◌<◌, ◌+◌, ℕ, List, ◌∷◌, ◌++◌, length, take, drop, decimal}
 use Rattle.std.specs.List.{slice_split}
-use Rattle.netlink_core.specs.Errors.{error_code}
-use Rattle.netlink_core.specs.declared.error.DecodeError.{DecodeError}
+use Rattle.sock_diag_lines.specs.HexField.{is_space, space}
 
--- AppendsSome old new P: the text `new` is the text `old` and then bytes `more`, with `P more`
+-- `AppendsSome old new Holds`: the text `new` is the text `old`, and then some bytes, which have
+-- the property `Holds`
 abbrev pub AppendsSome : List ℕ → List ℕ → (List ℕ → Type 0) → Type 0
-AppendsSome old new P = (more : List ℕ) × (new ≡ old ++ more) × P more
+AppendsSome old new Holds = (more : List ℕ) × (new ≡ old ++ more) × Holds more
 
--- a space
-abbrev pub is_space : ℕ → Bool
-is_space c = c == 32
-
--- `IsFirstSpace line i`: the first space of the line is at offset `i`, and splits the line there
-pub record IsFirstSpace (line : List ℕ) (i : ℕ) : Type 0 where
-  pub within : i < length line
-  pub cut : line ≡ take i line ++ 32 ∷ drop (i + 1) line
+-- `IsFirstSpace line offset`: the first space of the line is at this offset, and splits the line
+-- there
+pub record IsFirstSpace (line : List ℕ) (offset : ℕ) : Type 0 where
+  pub within : offset < length line
+  pub cut : line ≡ take offset line ++ space ∷ drop (offset + 1) line
   -- the first field is before it, and the other fields are those of the bytes after it
-  pub fields : slice_split is_space line ≡ take i line ∷ slice_split is_space (drop (i + 1) line)
+  pub fields : slice_split is_space line
+      ≡ take offset line ∷ slice_split is_space (drop (offset + 1) line)
 
--- `ok ` and the text of a value
-abbrev pub ok_text : List ℕ → List ℕ
-ok_text text_of = codes "ok " ++ text_of
-
--- `unwritable`, for a value that is not writable
-abbrev pub unwritable_text : List ℕ
-unwritable_text = codes "unwritable"
-
--- `refused ` and the code of the error
-abbrev pub refused_text : DecodeError → List ℕ
-refused_text error = codes "refused " ++ decimal (error_code error)
-
--- a number and a space, followed by the rest
-abbrev pub number_then_rest : ℕ → List ℕ → List ℕ
-number_then_rest n rest = decimal n ++ 32 ∷ rest
+-- `number_then_text number text`: the number in decimal, a space, and then the text
+abbrev pub number_then_text : ℕ → List ℕ → List ℕ
+number_then_text number text = decimal number ++ space ∷ text

@@ -27,7 +27,7 @@ returns-in_err-is_last_good-clause-answered g c =
     let p = err_from_is_err_and r.result r.ensures.1 in
     let inv = c.reads.invariant in
     let none = rw c.if-count-eq0.true at c.in_ok-count.ensures.bytes.0 in
-    rw (p.1, p.2) (run_failed (read_without_bytes inv.up _ none) g.S.Start.answer
+    rw (p.1, p.2) (run_failed (read_without_bytes inv.up _ none) g.S.RunStart.answer
     g.A.LineAnswers.good
     (length inv.whole) _ _ [] _ (rw (take_all, le_refl))
     (rw append-nil (answers_begin _ inv.whole _)) c.in_err-is_last_good.ensures.written)
@@ -50,13 +50,13 @@ returns-then-count-eq0-clause-answered g c =
           (sym (good_answers_begin _ _ inv.whole _)),
     )
 
-pub returns-in_err-is_piece_good-clause-answered : goal.returns-in_err-is_piece_good-clause-answered
-returns-in_err-is_piece_good-clause-answered g c =
-    let r = c.from_residual-in_err-is_piece_good in
+pub returns-in_err-is_chunk_good-clause-answered : goal.returns-in_err-is_chunk_good-clause-answered
+returns-in_err-is_chunk_good-clause-answered g c =
+    let r = c.from_residual-in_err-is_chunk_good in
     let p = err_from_is_err_and r.result r.ensures.1 in
     let inv = c.reads.invariant in
-    let line = c.reads.kept.line.items in
-    let s = every_text_splits (line ++ take c.in_ok-count.count c.read_prompt.new.piece) in
+    let line = c.reads.buffers.line.items in
+    let s = every_text_splits (line ++ take c.in_ok-count.count c.read_prompt.new.chunk) in
     let read = read_more_bytes inv.up _ _ _ _ c.in_ok-count.ensures.bytes.0 s.splits in
     rw (p.1, p.2) (
       inv.whole ++ s.whole,
@@ -72,34 +72,36 @@ pub returns-in_err-send-clause-answered : goal.returns-in_err-send-clause-answer
 returns-in_err-send-clause-answered g c =
     let r = c.from_residual-in_err-send in let p = err_from_is_err_and r.result r.ensures.1 in
     let inv = c.reads.invariant in
-    let piece = rw inv.written at c.in_ok-is_piece_good.ensures in
+    let chunk = c.in_ok-is_chunk_good.ensures in
+    let added = rw inv.written at chunk.added in
     let (cause, front, more, split, appended) =
-    rw (c.as_slice-in-reads.ensures.value, piece.added) at c.in_err-send.ensures.stopped in
+    rw (c.as_slice-in-reads.ensures.value, added) at c.in_err-send.ensures.stopped in
     let held = g.W.Sink.held c.send.new.output in
-    let text = answer_lines g.S.Start.answer piece.whole in
+    let text = answer_lines g.S.RunStart.answer chunk.whole in
     let sent : WritesPartOfText (g.W.Sink.held c.reads.output) held text Write =
     (front, more, split, appended) in
-    let begins = rw flat_map-append at (answers_begin g.S.Start.answer (inv.whole ++ piece.whole)
-    c.take_piece.new.kept.line.items) in
+    let begins = rw flat_map-append at (answers_begin g.S.RunStart.answer (inv.whole ++ chunk.whole)
+    c.answer_chunk.new.buffers.line.items) in
     rw (p.1, p.2) (run_failed
-    (read_more_bytes inv.up _ _ _ _ c.in_ok-count.ensures.bytes.0 piece.splits) g.S.Start.answer
+    (read_more_bytes inv.up _ _ _ _ c.in_ok-count.ensures.bytes.0 chunk.splits) g.S.RunStart.answer
     g.A.LineAnswers.good (length inv.whole) held text _ Write
     (ap (answer_lines _) (sym (take-append_seam inv.whole _))) begins sent)
 
 pub reads-preserved : goal.reads-preserved
 reads-preserved g c =
     let inv = c.reads.invariant in
-    let piece = rw inv.written at c.in_ok-is_piece_good.ensures in
-    let sent = rw (c.as_slice-in-reads.ensures.value, piece.added) at c.in_ok-send.ensures.written
+    let chunk = c.in_ok-is_chunk_good.ensures in
+    let added = rw inv.written at chunk.added in
+    let sent = rw (c.as_slice-in-reads.ensures.value, added) at c.in_ok-send.ensures.written
     in record {
-      whole = inv.whole ++ piece.whole;
+      whole = inv.whole ++ chunk.whole;
       up = write_more_bytes (read_more_bytes inv.up _ _ _ _ c.in_ok-count.ensures.bytes.0
-          piece.splits) _ _ _ sent
+          chunk.splits) _ _ _ sent
           (sym (flat_map-append _ inv.whole _));
-      judged = rw (inv.judged, piece.judged) (sym (list_all-append _ inv.whole piece.whole));
-      unended = piece.unended;
-      written = c.empty.ensures.emptied;
-      counted = c.in_ok-count.ensures.counted c.reads._made inv.counted;
+      judged = rw (inv.judged, chunk.judged) (sym (list_all-append _ inv.whole chunk.whole));
+      unended = chunk.unended;
+      written = c.clear_buffer.ensures.emptied;
+      counted = c.in_ok-count.ensures.counted c.reads._reads_made inv.counted;
     }
 
 pub reads-init : goal.reads-init

@@ -8,11 +8,11 @@ use Rattle.program_streams.proofs.lines.serve.Given as goal
 abbrev pub invariant-reads : goal.invariant-reads
 invariant-reads g l = record {
   whole : List (List ℕ);
-  up : ReadAndWritten g.S.Start.remaining (g.R.PromptRead.left l.input)
-      g.S.Start.contents (g.W.Sink.held l.output) whole l.kept.line.items
-      (answer_lines g.S.Start.answer whole);
-  judged : l.is_good ≡ all_answers_good g.A.LineAnswers.good g.S.Start.answer whole;
-  unended : HasNoLineFeed l.kept.line.items;
-  written : l.kept.answers.items ≡ [];
-  counted : g.R.PromptRead.reads l.input l._made;
+  up : ReadAndWritten g.S.RunStart.left_before (g.R.PromptRead.left l.input)
+      g.S.RunStart.held_before (g.W.Sink.held l.output) whole l.buffers.line.items
+      (answer_lines g.S.RunStart.answer whole);
+  judged : l.is_good ≡ all_answers_good g.A.LineAnswers.good g.S.RunStart.answer whole;
+  unended : HasNoLineFeed l.buffers.line.items;
+  written : l.buffers.answers.items ≡ [];
+  counted : g.R.PromptRead.reads l.input l._reads_made;
 }

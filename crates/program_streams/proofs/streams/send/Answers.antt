@@ -6,7 +6,7 @@ use Rattle.program_streams.proofs.streams.send.Goals as goal
 pub writes-preserved : goal.writes-preserved
 writes-preserved g c =
     let (front, split, appended) = c.writes.invariant in
-    let rest = c.writes.rest.now in
+    let rest = c.writes.unsent.now in
     let n = c.in_ok-count.count in
     let sent = Appends-trans _ _ _ _ _ appended c.in_ok-count.ensures.bytes in
     (front ++ take n rest, rw (take_rest rest n, append_assoc, take-append-drop) split, sent)

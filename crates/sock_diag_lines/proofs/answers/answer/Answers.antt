@@ -11,24 +11,17 @@ whole : (line old new : List ℕ) → old ≡ [] → AppendsSome old new (IsAnsw
 whole line old new none (more, e, is) = rw (e, none) is
 
 pub returns-clause-same : goal.returns-clause-same
-returns-clause-same c = λ name all other bytes bytes' text' v w asked asked' r f s g is'.
+returns-clause-same c = λ name all other bytes bytes' text' asked asked' is'.
     let is = whole c.args.line.now _ _ c.new-text.ensures.items c.in_ok-push_answer.ensures in
-    let t = same_answer_iff_equivalent name _ other bytes bytes' _ text' is is' asked asked' (
-      v,
-      r,
-      f,
-    )
-    (w, s, g) in
+    let t = same_answer_iff_equivalent name _ other bytes bytes' _ text' is is' asked.0 asked'.0
+    asked.1 asked'.1 in
     (t.0 all, t.1)
 
 pub returns-clause-equal_bytes : goal.returns-clause-equal_bytes
-returns-clause-equal_bytes c = λ name other bytes bytes' text' v w asked asked' r f s g is'.
+returns-clause-equal_bytes c = λ name other bytes bytes' text' asked asked' is'.
     let is = whole c.args.line.now _ _ c.new-text.ensures.items c.in_ok-push_answer.ensures in
-    (same_answer_iff_equivalent name _ other bytes bytes' _ text' is is' asked asked' (v, r, f) (
-      w,
-      s,
-      g,
-    )).1
+    (same_answer_iff_equivalent name _ other bytes bytes' _ text' is is' asked.0 asked'.0 asked.1
+    asked'.1).1
 
 pub returns-clause-dumps : goal.returns-clause-dumps
 returns-clause-dumps c = λ other text' datagrams datagrams' asked asked' same is'.

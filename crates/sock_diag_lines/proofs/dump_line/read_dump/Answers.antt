@@ -3,7 +3,7 @@ use Rattle.std.proofs.lemmas.List.{length-drop, take_rest}
 use Rattle.std.specs.List.{slice_split}
 use Rattle.netlink_packet_sock_diag.specs.declared.dump.DumpState.TheVariants.{Reading}
 use Rattle.sock_diag_lines.specs.declared.dump_line.ReadDump.{ReadDump}
-use Rattle.sock_diag_lines.specs.private.Text.{is_space}
+use Rattle.sock_diag_lines.specs.HexField.{is_space}
 use Rattle.sock_diag_lines.proofs.DumpLaws.{reads_no_datagrams}
 use Rattle.sock_diag_lines.proofs.FieldLists.{each_has_bytes}
 use Rattle.sock_diag_lines.proofs.dump_line.read_dump.Goals as goal
@@ -33,7 +33,7 @@ fields-preserved c =
     let i = c.in-Some.space in
     let split = c.in-Some.ensures.fields in
     let left = take_rest rest (i + 1) in
-    let taken = rw c.if-not-branch.false at c.in_ok-take_field.ensures in
+    let taken = rw c.if-not-branch.false at c.in_ok-feed_field.ensures in
     record {
       datagrams = inv.datagrams ++ taken.0 ∷ [];
       read = taken.2 inv.datagrams inv.read;
@@ -46,6 +46,6 @@ fields-preserved c =
 pub returns-then-branch : goal.returns-then-branch
 returns-then-branch c =
     let inv = c.fields.invariant in
-    let taken = rw c.if-branch.true at c.in_ok-take_field-2.ensures in
+    let taken = rw c.if-branch.true at c.in_ok-feed_field-2.ensures in
     let each = inv.before (taken.0 ∷ []) (rw c.in_default.ensures (taken.1, tt)) in
     (inv.datagrams ++ taken.0 ∷ [], each, taken.2 inv.datagrams inv.read)

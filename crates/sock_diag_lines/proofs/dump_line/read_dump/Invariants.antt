@@ -1,7 +1,7 @@
 use Rattle.std.proofs.Common.{ℕ, ◌≤◌, List, ◌++◌, length}
 use Rattle.std.specs.List.{AllByRecursion, slice_split}
-use Rattle.sock_diag_lines.specs.private.ReadDump.{AreHexFields, IsReadDump}
-use Rattle.sock_diag_lines.specs.private.Text.{is_space}
+use Rattle.sock_diag_lines.specs.HexField.{AreHexFields, is_space}
+use Rattle.sock_diag_lines.specs.private.ReadDump.{IsReadDump}
 use Rattle.sock_diag_lines.proofs.FieldLists.{HasBytes}
 use Rattle.sock_diag_lines.proofs.dump_line.read_dump.Given as goal
 

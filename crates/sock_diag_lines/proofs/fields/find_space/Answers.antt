@@ -6,7 +6,8 @@ use Rattle.std.proofs.lemmas.List.Splits.{slice_split_none}
 use Rattle.memchr.specs.Find.{IsFirstByte, is_byte}
 use Rattle.program_streams.proofs.LinesLemmas.{split_before_line_feed, split_at_first}
 use Rattle.program_streams.proofs.LinesLemmas.{no_line_feed_before_first}
-use Rattle.sock_diag_lines.specs.private.Text.{IsFirstSpace, is_space}
+use Rattle.sock_diag_lines.specs.HexField.{is_space}
+use Rattle.sock_diag_lines.specs.private.Text.{IsFirstSpace}
 use Rattle.sock_diag_lines.proofs.fields.find_space.Goals as goal
 
 by_place : (line : List ℕ) (found : Option ℕ) → IsFirstByte (is_byte 32) line found

@@ -3,7 +3,7 @@ use Rattle.sock_diag_lines.proofs.stream.answer_all.Given as goal
 
 abbrev pub ghosts-serve : goal.ghosts-serve
 ghosts-serve g a = record {
-  remaining = g.R.PromptRead.left a.input.now;
-  contents = g.W.Sink.held a.output.now;
+  left_before = g.R.PromptRead.left a.input.now;
+  held_before = g.W.Sink.held a.output.now;
   answer = answer_of;
 }

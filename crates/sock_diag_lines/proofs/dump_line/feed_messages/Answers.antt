@@ -6,7 +6,7 @@ use Rattle.netlink_packet_sock_diag.specs.declared.dump.DumpState.TheVariants.{D
 use Rattle.netlink_packet_sock_diag.specs.DumpWalk.{unread_views}
 use Rattle.sock_diag_lines.proofs.DumpLaws.{ends_dump, reads_all_messages, reads_no_messages}
 use Rattle.sock_diag_lines.proofs.DumpLaws.{reads_one_message}
-use Rattle.sock_diag_lines.proofs.dump_line.take_messages.Goals as goal
+use Rattle.sock_diag_lines.proofs.dump_line.feed_messages.Goals as goal
 
 pub loop-item-init : goal.loop-item-init
 loop-item-init c =

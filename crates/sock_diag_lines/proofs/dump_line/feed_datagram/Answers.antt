@@ -1,6 +1,6 @@
 use Rattle.std.proofs.Common.{arith}
 use Rattle.sock_diag_lines.proofs.DumpLaws.{ended_dump_is_unchanged}
-use Rattle.sock_diag_lines.proofs.dump_line.take_datagram.Goals as goal
+use Rattle.sock_diag_lines.proofs.dump_line.feed_datagram.Goals as goal
 
 pub returns-else-is_reading : goal.returns-else-is_reading
 returns-else-is_reading c = ended_dump_is_unchanged c.args.dump.now c.args.datagram.now

@@ -1,6 +1,6 @@
 use Rattle.netlink_packet_sock_diag.specs.DumpWalk.{unread_views}
 use Rattle.sock_diag_lines.proofs.DumpLaws.{ReadsSoFar}
-use Rattle.sock_diag_lines.proofs.dump_line.take_messages.Given as goal
+use Rattle.sock_diag_lines.proofs.dump_line.feed_messages.Given as goal
 
 -- the messages that were read did not end the dump, and were serialized
 abbrev pub invariant-loop-item : goal.invariant-loop-item

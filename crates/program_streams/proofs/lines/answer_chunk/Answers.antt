@@ -7,12 +7,12 @@ use Rattle.program_streams.proofs.LinesLemmas.{split_at_first, no_line_feed_befo
 use Rattle.std.proofs.lemmas.List.Concat.{flat_map-append}
 use Rattle.std.proofs.lemmas.List.Folds.{list_all-append}
 use Rattle.std.proofs.Math.Bool.{and-true}
-use Rattle.program_streams.proofs.lines.take_piece.Goals as goal
+use Rattle.program_streams.proofs.lines.answer_chunk.Goals as goal
 
 pub lines-preserved : goal.lines-preserved
 lines-preserved g c =
     let inv = c.lines.invariant in
-    let line = c.lines.kept.line.items in
+    let line = c.lines.buffers.line.items in
     let rest = c.lines.rest.now in
     let n = c.in-Some.end in
     let cut = split_at_first 10 line rest inv.unended n c.in-Some.ensures in
@@ -30,13 +30,14 @@ lines-preserved g c =
 pub returns : goal.returns
 returns g c =
     let inv = c.lines.invariant in
-    let line = c.lines.kept.line.items in
+    let line = c.lines.buffers.line.items in
     let rest = c.lines.rest.now in
     let unended = no_line_feed_before_first 10 line rest inv.unended c.in_default.ensures in
-    rw c.in_ok-extend_from_slice.ensures.items record {
+    let items = c.in_ok-extend_from_slice.ensures.items in
+    record {
       whole = inv.whole;
-      splits = rw (inv.splits, slice_split_none (is_byte 10) (line ++ rest) unended);
-      unended = unended;
+      splits = rw (items, inv.splits, slice_split_none (is_byte 10) (line ++ rest) unended);
+      unended = rw items unended;
       added = inv.added;
       judged = inv.judged;
     }
