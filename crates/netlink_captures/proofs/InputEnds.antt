@@ -5,7 +5,7 @@ use Rattle.std.specs.Prelude.{Option}
 use Rattle.std.specs.Io.KnownBytes.{Consumes}
 use Rattle.std.proofs.KnownBytes.{Consumes-trans}
 use Rattle.program_streams.specs.declared.streams.ReadError.{ReadError}
-use Rattle.netlink_captures.specs.Capture.{IsPacketStop, number_at_offset}
+use Rattle.netlink_captures.specs.Capture.{IsPacketStop, captured_length}
 use Rattle.netlink_captures.specs.private.Capture.{IsReadStop}
 use Rattle.netlink_captures.specs.declared.captures.CaptureError.{CaptureError}
 use Rattle.netlink_captures.specs.declared.captures.CaptureError.TheVariants.{Memory}
@@ -13,7 +13,7 @@ use Rattle.netlink_captures.specs.declared.captures.FileHeader.{FileHeader}
 
 stop_within_packet : (file : FileHeader) (left : Option (List ℕ)) (failed : ReadError → Type 0)
     (header part : List ℕ) (e : CaptureError)
-    → length header ≡ 16 → length part < number_at_offset file.order 4 8 header
+    → length header ≡ 16 → length part < captured_length file header
     → IsReadStop left failed e
     → IsPacketStop file left failed (header ++ part) e
 stop_within_packet file left failed header part e long short stop =
@@ -22,9 +22,9 @@ stop_within_packet file left failed header part e long short stop =
 -- A stop after a packet header, while its packet is read, is a reason why no packet was read.
 pub packet_stops : (file : FileHeader) (a b c : Option (List ℕ)) (failed : ReadError → Type 0)
     (header : List ℕ) (e : CaptureError)
-    → length header ≡ 16 → number_at_offset file.order 4 8 header ≤ 262144 → Consumes a b header
+    → length header ≡ 16 → captured_length file header ≤ 262144 → Consumes a b header
     → ((part : List ℕ) × Consumes b c part
-    × (((e ≡ Memory) × (part ≡ [])) ⊎ ((length part < number_at_offset file.order 4 8 header)
+    × (((e ≡ Memory) × (part ≡ [])) ⊎ ((length part < captured_length file header)
     × IsReadStop c failed e)))
     → (part : List ℕ) × Consumes a c part × IsPacketStop file c failed part e
 packet_stops file a b c failed header e long most first (part, read, stop) = elim stop [

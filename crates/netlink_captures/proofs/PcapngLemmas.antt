@@ -23,12 +23,12 @@ use Rattle.netlink_captures.specs.declared.pcapng.Content.TheVariants.{SectionHe
 use Rattle.netlink_captures.specs.declared.pcapng.PacketSlot.{PacketSlot}
 use Rattle.netlink_captures.specs.private.Capture.{IsReadStop}
 use Rattle.netlink_captures.specs.private.Pcapng.{IsStopAfterHead, MovesOver}
-use Rattle.netlink_captures.specs.Pcapng.{HasFrame}
-use Rattle.netlink_captures.specs.Pcapng.{AreSkipped, IsBlock, IsBlockStop, IsFramed, IsInputStop}
-use Rattle.netlink_captures.specs.Pcapng.{IsNoPacket, Position, after_block, unit_in_option}
-use Rattle.netlink_captures.specs.Pcapng.{content_of, frame_of, is_section_header, option_size}
-use Rattle.netlink_captures.specs.Pcapng.{order_of_block}
-use Rattle.netlink_captures.specs.Pcapng.{order_or_error, unit_in, unit_or_next}
+use Rattle.netlink_captures.specs.Pcapng.{AreSkipped, HasCheckedOrder, HasContent, IsBlockStop}
+use Rattle.netlink_captures.specs.Pcapng.{IsInputStop, IsNoPacket, IsWholeBlock, Position}
+use Rattle.netlink_captures.specs.Pcapng.{after_block, block_at, block_length, checked_order}
+use Rattle.netlink_captures.specs.Pcapng.{content_of, is_section_header, option_code, option_size}
+use Rattle.netlink_captures.specs.Pcapng.{order_of_block, order_or_error, unit_in, unit_in_option}
+use Rattle.netlink_captures.specs.Pcapng.{unit_or_next}
 
 -- A number in the first bytes does not depend on later bytes.
 pub number_at_offset-append : (order : ByteOrder) (n k : ℕ) (a b : List ℕ) → k + n ≤ length a
@@ -60,17 +60,17 @@ order_or_error-append p a b None long = refl
 order_or_error-append p a b (Some order) long =
     rw (number_at_offset-append order 4 4 a b (omega arith)) refl
 
--- The frame of a block is in its first 12 bytes.
-pub frame_of-append : (p : Position) (a b : List ℕ) → 12 ≤ length a
-    → frame_of p (a ++ b) ≡ frame_of p a
-frame_of-append p a b long =
+-- The byte order of a block is in its first 12 bytes.
+pub checked_order-append : (p : Position) (a b : List ℕ) → 12 ≤ length a
+    → checked_order p (a ++ b) ≡ checked_order p a
+checked_order-append p a b long =
     ap (order_or_error p (a ++ b)) (order_of_block-append p.order a b long)
     ∙ order_or_error-append p a b (order_of_block p.order a) long
 
--- Bytes after the first 12 do not change the frame.
-pub has_frame-append : (p : Position) (a b : List ℕ) → 12 ≤ length a → HasFrame p a
-    → HasFrame p (a ++ b)
-has_frame-append p a b long frame = (frame.0, frame_of-append p a b long ∙ frame.1)
+-- Bytes after the first 12 do not change the byte order.
+pub has_checked_order-append : (p : Position) (a b : List ℕ) → 12 ≤ length a → HasCheckedOrder p a
+    → HasCheckedOrder p (a ++ b)
+has_checked_order-append p a b long frame = (frame.0, checked_order-append p a b long ∙ frame.1)
 
 -- ---- the options of an interface
 
@@ -101,14 +101,14 @@ unit_cut count order options some more short =
 
 -- The option is the last one.
 pub unit_after_last : (count : ℕ) (order : ByteOrder) (options : List ℕ) → 0 < count
-    → 4 ≤ length options → number_at_offset order 2 0 options ≡ 0
+    → 4 ≤ length options → option_code order options ≡ 0
     → unit_in count order options ≡ Ok Microseconds
 unit_after_last count order options some long last =
     unit_in_step count order options some ∙ grind (arith, nat_tests)
 
 -- The option is longer than what is left.
 pub unit_past : (count : ℕ) (order : ByteOrder) (options : List ℕ) → 0 < count
-    → 4 ≤ length options → number_at_offset order 2 0 options ≢ 0
+    → 4 ≤ length options → option_code order options ≢ 0
     → length options < option_size order options
     → unit_in count order options ≡ Err Options
 unit_past count order options some long other past =
@@ -116,7 +116,7 @@ unit_past count order options some long other past =
 
 -- The option has the unit.
 pub unit_found : (count : ℕ) (order : ByteOrder) (options : List ℕ) → 0 < count
-    → 4 ≤ length options → number_at_offset order 2 0 options ≡ 9
+    → 4 ≤ length options → option_code order options ≡ 9
     → option_size order options ≤ length options
     → unit_in count order options ≡ unit_in_option order options
 unit_found count order options some long found within =
@@ -124,8 +124,8 @@ unit_found count order options some long found within =
 
 -- The option is another one.
 pub unit_later : (count : ℕ) (order : ByteOrder) (options : List ℕ) → 0 < count
-    → 4 ≤ length options → number_at_offset order 2 0 options ≢ 0
-    → number_at_offset order 2 0 options ≢ 9
+    → 4 ≤ length options → option_code order options ≢ 0
+    → option_code order options ≢ 9
     → option_size order options ≤ length options
     → unit_in count order options
     ≡ unit_in (count - 1) order (drop (option_size order options) options)
@@ -143,11 +143,11 @@ unit_of_none order options = refl
 -- One more block without a packet.
 pub skipped_push : (blocks : List (List ℕ)) (p q : Position) (block : List ℕ)
     (order : ByteOrder) (content : Content)
-    → AreSkipped p blocks q → IsBlock q block order content → IsNoPacket content
-    → AreSkipped p (blocks ++ block ∷ []) (after_block q order content (length block))
+    → AreSkipped p blocks q → HasContent (block_at q order block) content → IsNoPacket content
+    → AreSkipped p (blocks ++ block ∷ []) (after_block (block_at q order block) content)
 skipped_push [] p q block order content none valid other =
     subst (λ (r : Position). AreSkipped r (block ∷ [])
-    (after_block q order content (length block))) none (order, content, valid, other, refl)
+    (after_block (block_at q order block) content)) none (order, content, valid, other, refl)
 skipped_push (first ∷ blocks) p q block order content (o, c, valid', other', later) valid other = (
   o,
   c,
@@ -167,11 +167,11 @@ concat_push blocks block =
 
 -- A whole block is its first 12 bytes and as many more as its length has.
 pub framed : (p : Position) (head rest : List ℕ) (order : ByteOrder) → length head ≡ 12
-    → frame_of p head ≡ Ok order → 12 + length rest ≡ number_at_offset order 4 4 head
-    → IsFramed p (head ++ rest) order
+    → checked_order p head ≡ Ok order → 12 + length rest ≡ block_length order head
+    → IsWholeBlock (block_at p order (head ++ rest))
 framed p head rest order long ok whole = record {
   long = omega (arith, length-append head rest);
-  frame = frame_of-append p head rest (omega arith) ∙ ok;
+  ordered = checked_order-append p head rest (omega arith) ∙ ok;
   whole = number_at_offset-append order 4 4 head rest (omega arith)
       ∙ (omega (arith, length-append head rest));
 }
@@ -203,17 +203,17 @@ pub stop_after_head : (p : Position) (left : Option (List ℕ)) (failed : ReadEr
 stop_after_head p left failed head part e long stop = elim stop [
   | inl s ↦ inr (inr (inl (
     omega (arith, length-append head part, s.1),
-    frame_of-append p head part (omega arith) ∙ s.0,
+    checked_order-append p head part (omega arith) ∙ s.0,
   )))
   | inr (inl s) ↦ inr (inl (
     omega (arith, length-append head part),
-    has_frame-append p head part (omega arith) s.0,
+    has_checked_order-append p head part (omega arith) s.0,
     s.1,
   ))
   | inr (inr (order, ok, short, s)) ↦ inl (
     inr (
       order,
-      frame_of-append p head part (omega arith) ∙ ok,
+      checked_order-append p head part (omega arith) ∙ ok,
       omega (
         arith,
         short,
@@ -225,31 +225,31 @@ stop_after_head p left failed head part e long stop = elim stop [
   )
 ]
 
-frame_or_error_fits : (p : Position) (block : List ℕ) (order : ByteOrder) (o : Option ByteOrder)
+length_fits_by_order : (p : Position) (block : List ℕ) (order : ByteOrder) (o : Option ByteOrder)
     → order_or_error p block o ≡ Ok order
-    → p.offset + number_at_offset order 4 4 block < 2 ^ 64
-frame_or_error_fits p block order None h = absurd (cc)
-frame_or_error_fits p block order (Some x) h =
+    → p.offset + block_length order block < 2 ^ 64
+length_fits_by_order p block order None h = absurd (cc)
+length_fits_by_order p block order (Some x) h =
     grind (arith, nat_tests)
 
--- A block with a valid frame ends at an offset that fits 64 bits.
-pub frame_fits : (p : Position) (block : List ℕ) (order : ByteOrder)
-    → frame_of p block ≡ Ok order → p.offset + number_at_offset order 4 4 block < 2 ^ 64
-frame_fits p block order h = frame_or_error_fits p block order (order_of_block p.order block) h
+-- A block with a valid length ends at an offset that fits 64 bits.
+pub length_fits : (p : Position) (block : List ℕ) (order : ByteOrder)
+    → checked_order p block ≡ Ok order → p.offset + block_length order block < 2 ^ 64
+length_fits p block order h = length_fits_by_order p block order (order_of_block p.order block) h
 
 same_content : (p q : Position) (order : ByteOrder) (a b : List ℕ)
-    (content : Result Content CaptureError) → p ≡ q → a ≡ b → content ≡ content_of p order a
-    → content ≡ content_of q order b
+    (content : Result Content CaptureError) → p ≡ q → a ≡ b
+    → content ≡ content_of (block_at p order a) → content ≡ content_of (block_at q order b)
 same_content p q order a b content same equal is =
-    is ∙ ap (λ (x : Position). content_of x order a) same
-    ∙ ap (λ (l : List ℕ). content_of q order l) equal
+    is ∙ ap (λ (x : Position). content_of (block_at x order a)) same
+    ∙ ap (λ (l : List ℕ). content_of (block_at q order l)) equal
 
 -- A whole block with an invalid content was not read.
 pub stop_at_content : (p q : Position) (left : Option (List ℕ)) (failed : ReadError → Type 0)
     (head rest block shown : List ℕ) (order : ByteOrder) (e : CaptureError)
-    → length head ≡ 12 → frame_of p head ≡ Ok order
-    → 12 + length rest ≡ number_at_offset order 4 4 head → block ≡ head ++ rest → shown ≡ block
-    → q ≡ p → Err e ≡ content_of q order shown
+    → length head ≡ 12 → checked_order p head ≡ Ok order
+    → 12 + length rest ≡ block_length order head → block ≡ head ++ rest → shown ≡ block
+    → q ≡ p → Err e ≡ content_of (block_at q order shown)
     → IsBlockStop p left failed (head ++ rest) e
 stop_at_content p q left failed head rest block shown order e long ok whole stored same kept is =
     inr (inr (inr (
@@ -260,22 +260,24 @@ stop_at_content p q left failed head rest block shown order e long ok whole stor
 
 -- A valid block was read, from the position `p` to `p'`.
 pub moved_over : (p q p' : Position) (head rest block block' shown : List ℕ) (order : ByteOrder)
-    (content : Content) → length head ≡ 12 → frame_of p head ≡ Ok order
-    → 12 + length rest ≡ number_at_offset order 4 4 head → block ≡ head ++ rest
-    → block' ≡ block → shown ≡ block → q ≡ p → Ok content ≡ content_of q order shown
-    → p' ≡ after_block q order content (length block)
+    (content : Content) → length head ≡ 12 → checked_order p head ≡ Ok order
+    → 12 + length rest ≡ block_length order head → block ≡ head ++ rest
+    → block' ≡ block → shown ≡ block → q ≡ p
+    → Ok content ≡ content_of (block_at q order shown)
+    → p' ≡ after_block (block_at q order block) content
     → MovesOver p block' content p'
 moved_over p q p' head rest block block' shown order content long ok whole stored kept_block same
     kept is moved = (
       order,
       record {
-        framed = subst (λ (l : List ℕ). IsFramed p l order) (sym (kept_block ∙ stored))
+        is_whole = subst (λ (l : List ℕ). IsWholeBlock (block_at p order l))
+            (sym (kept_block ∙ stored))
             (framed p head rest order long ok whole);
         valid = sym (same_content q p order shown block' (Ok content) kept
             (same ∙ sym kept_block) is);
       },
-      moved ∙ ap (λ (x : Position). after_block x order content (length block)) kept
-          ∙ ap (λ (l : List ℕ). after_block p order content (length l)) (sym kept_block),
+      moved ∙ ap (λ (x : Position). after_block (block_at x order block) content) kept
+          ∙ ap (λ (l : List ℕ). after_block (block_at p order l) content) (sym kept_block),
     )
 
 -- A content that is not a packet.

@@ -26,8 +26,8 @@ pub stopped_at_once : (s : CaptureState) (left : Option (List ℕ)) (failed : Re
 stopped_at_once (in_pcap file) left failed error h = (inl (omega arith), h)
 stopped_at_once (in_pcapng p) left failed error h = record {
   blocks = [];
-  mid = p;
-  rest = [];
+  position' = p;
+  part = [];
   skipped = refl;
   parts = refl;
   stopped = inl (inl (omega arith), h);
@@ -64,11 +64,11 @@ module _ (left : Option (List ℕ)) (A B : ReadError → Type 0)
   stop_implies (in_pcap file) part e h = packet_stop_implies file part e h
   stop_implies (in_pcapng p) part e h = record {
     blocks = h.blocks;
-    mid = h.mid;
-    rest = h.rest;
+    position' = h.position';
+    part = h.part;
     skipped = h.skipped;
     parts = h.parts;
-    stopped = block_stop_implies h.mid h.rest e h.stopped;
+    stopped = block_stop_implies h.position' h.part e h.stopped;
   }
 
 -- Bytes after the first four do not change the magic number.

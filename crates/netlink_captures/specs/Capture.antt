@@ -11,6 +11,7 @@ use Rattle.netlink_captures.specs.declared.captures.CaptureError.{CaptureError}
 use Rattle.netlink_captures.specs.declared.captures.CaptureError.TheVariants as errors
 use Rattle.netlink_captures.specs.declared.captures.FileHeader.{FileHeader}
 use Rattle.netlink_captures.specs.declared.captures.PacketHeader.{PacketHeader}
+use Rattle.netlink_captures.specs.declared.captures.TheConstants as c
 use Rattle.netlink_captures.specs.declared.captures.TimeUnit.{TimeUnit}
 use Rattle.netlink_captures.specs.declared.captures.TimeUnit.TheVariants.{Microseconds, Nanoseconds}
 use Rattle.netlink_captures.specs.Compression.{compression_of}
@@ -21,68 +22,96 @@ abbrev pub number_at_offset : ByteOrder → ℕ → ℕ → List ℕ → ℕ
 number_at_offset LittleEndian count offset bytes = little_number count (drop offset bytes)
 number_at_offset BigEndian count offset bytes = big_number count (drop offset bytes)
 
--- The magic number of a pcap file at offset 0: 0xa1b2c3d4 for timestamps in microseconds,
--- 0xa1b23c4d for nanoseconds.
+-- `u16_at order offset bytes`: the u16 at this offset in the bytes, in this byte order
+abbrev pub u16_at : ByteOrder → ℕ → List ℕ → ℕ
+u16_at order offset bytes = number_at_offset order 2 offset bytes
+
+-- `u32_at order offset bytes`: the u32 at this offset in the bytes, in this byte order
+abbrev pub u32_at : ByteOrder → ℕ → List ℕ → ℕ
+u32_at order offset bytes = number_at_offset order 4 offset bytes
+
+-- The number is a magic number of pcap: 0xa1b2c3d4 for timestamps in microseconds, 0xa1b23c4d for
+-- nanoseconds.
 abbrev pub IsPcapMagic : ℕ → Type 0
-IsPcapMagic n = (n ≡ 0xa1b2c3d4) ⊎ (n ≡ 0xa1b23c4d)
+IsPcapMagic n = (n ≡ c.MAGIC_MICROSECONDS) ⊎ (n ≡ c.MAGIC_NANOSECONDS)
 
--- The unit of the fraction of a second in timestamps: nanoseconds for the magic number 0xa1b23c4d,
--- or else microseconds.
+-- `HasPcapMagic bytes order`: the bytes begin with a magic number of pcap in this byte order
+abbrev pub HasPcapMagic : List ℕ → ByteOrder → Type 0
+HasPcapMagic bytes order = IsPcapMagic (u32_at order 0 bytes)
+
+-- the bytes do not begin with a magic number of pcap in either byte order
+abbrev pub HasNoPcapMagic : List ℕ → Type 0
+HasNoPcapMagic bytes = ¬ HasPcapMagic bytes BigEndian × ¬ HasPcapMagic bytes LittleEndian
+
+-- `unit_of magic`: the unit of the fraction of a second in the timestamps of a file with this magic
+-- number: nanoseconds for 0xa1b23c4d, or else microseconds.
 abbrev pub unit_of : ℕ → TimeUnit
-unit_of magic = if magic == 0xa1b23c4d then Nanoseconds else Microseconds
+unit_of magic = if magic == c.MAGIC_NANOSECONDS then Nanoseconds else Microseconds
 
--- The file header in the first 24 bytes: the magic number at 0, the major version at 4, which is 2,
--- and the link type in the low 16 bits of the field at 20, which is 253 (LINKTYPE_NETLINK). The
--- minor version at 6 and the snapshot length at 16 can be any. `bytes` are the header, and `h` is
--- what is parsed from it: the byte order `h.order` and the unit `h.unit`.
+-- `major_version order bytes`: the major version in a file header, the u16 at 4
+abbrev pub major_version : ByteOrder → List ℕ → ℕ
+major_version order bytes = u16_at order 4 bytes
+
+-- `link_type_in order bytes`: the link type in a file header: the low 16 bits of the u32 at 20
+abbrev pub link_type_in : ByteOrder → List ℕ → ℕ
+link_type_in order bytes = u32_at order 20 bytes % c.LINK_TYPES
+
+-- `IsFileHeader bytes h`: the first 24 bytes are a file header, and `h` is what is parsed from it:
+-- its byte order and the unit of its timestamps. The magic number is at 0, the major version is 2,
+-- and the link type is 253 (LINKTYPE_NETLINK). The minor version at 6 and the snapshot length at 16
+-- can be any.
 pub record IsFileHeader (bytes : List ℕ) (h : FileHeader) : Type 0 where
-  -- the magic number at 0
-  pub magic : IsPcapMagic (number_at_offset h.order 4 0 bytes)
-  -- the major version at 4
-  pub version : number_at_offset h.order 2 4 bytes ≡ 2
-  -- the link type in the low 16 bits at 20
-  pub link_type : number_at_offset h.order 4 20 bytes % 65536 ≡ 253
-  pub unit : h.unit ≡ unit_of (number_at_offset h.order 4 0 bytes)
+  pub magic : HasPcapMagic bytes h.order
+  pub version : major_version h.order bytes ≡ c.MAJOR_VERSION
+  pub link_type : link_type_in h.order bytes ≡ c.LINKTYPE_NETLINK
+  pub unit : h.unit ≡ unit_of (u32_at h.order 0 bytes)
 
--- The error of four bytes that are no magic number (`HasNoPcapMagic` says when they are none).
--- `first` is their big-endian number. The error is Compressed if they begin a file in a format of
--- compressed files, with this format, and else NoCapture with `first`.
-abbrev pub IsMagicError : ℕ → CaptureError → Type 0
-IsMagicError first (errors.Compressed compression) = compression_of first ≡ Some compression
-IsMagicError first (errors.NoCapture magic) = (magic ≡ first) × (compression_of first ≡ None)
-IsMagicError first _ = ⊥
+-- `IsNoCaptureError first e`: `e` is the error of a file that is not a capture. `first` are its
+-- first four bytes, as a big-endian number. The error is Compressed with the format if the file is
+-- in a format of compressed files, and else NoCapture with `first`.
+abbrev pub IsNoCaptureError : ℕ → CaptureError → Type 0
+IsNoCaptureError first (errors.Compressed compression) = compression_of first ≡ Some compression
+IsNoCaptureError first (errors.NoCapture magic) = (magic ≡ first) × (compression_of first ≡ None)
+IsNoCaptureError first _ = ⊥
 
--- the bytes do not begin with a magic number of pcap in either byte order, and `e` is their error
-abbrev pub HasNoPcapMagic : List ℕ → CaptureError → Type 0
-HasNoPcapMagic bytes e =
-    IsMagicError (number_at_offset BigEndian 4 0 bytes) e
-    × ¬ IsPcapMagic (number_at_offset BigEndian 4 0 bytes)
-    × ¬ IsPcapMagic (number_at_offset LittleEndian 4 0 bytes)
+-- `IsRejectedByPcapMagic bytes e`: the bytes are rejected with `e`, since they do not begin with a
+-- magic number of pcap
+abbrev pub IsRejectedByPcapMagic : List ℕ → CaptureError → Type 0
+IsRejectedByPcapMagic bytes e =
+    IsNoCaptureError (u32_at BigEndian 0 bytes) e × HasNoPcapMagic bytes
 
--- The error of bytes that are not a file header: an unknown magic number is reported first, then a
--- major version that is not 2, then a link type that is not 253.
+-- `IsFileHeaderError bytes e`: the bytes are not a file header, and `e` is their first error: an
+-- unknown magic number (Compressed, NoCapture); or else a major version that is not 2
+-- (OtherVersion); or else a link type that is not 253 (OtherLinkType). No other error is possible
+-- (`⊥`).
 abbrev pub IsFileHeaderError : List ℕ → CaptureError → Type 0
 IsFileHeaderError bytes (errors.Compressed compression) =
-    HasNoPcapMagic bytes (errors.Compressed compression)
-IsFileHeaderError bytes (errors.NoCapture magic) = HasNoPcapMagic bytes (errors.NoCapture magic)
+    IsRejectedByPcapMagic bytes (errors.Compressed compression)
+IsFileHeaderError bytes (errors.NoCapture magic) =
+    IsRejectedByPcapMagic bytes (errors.NoCapture magic)
 IsFileHeaderError bytes (errors.OtherVersion version) =
-    (order : ByteOrder) × IsPcapMagic (number_at_offset order 4 0 bytes)
-    × (version ≡ number_at_offset order 2 4 bytes) × (version ≢ 2)
+    (order : ByteOrder) × HasPcapMagic bytes order
+    × (version ≡ major_version order bytes) × (version ≢ c.MAJOR_VERSION)
 IsFileHeaderError bytes (errors.OtherLinkType link_type) =
-    (order : ByteOrder) × IsPcapMagic (number_at_offset order 4 0 bytes)
-    × (number_at_offset order 2 4 bytes ≡ 2)
-    × (link_type ≡ number_at_offset order 4 20 bytes % 65536) × (link_type ≢ 253)
+    (order : ByteOrder) × HasPcapMagic bytes order
+    × (major_version order bytes ≡ c.MAJOR_VERSION)
+    × (link_type ≡ link_type_in order bytes) × (link_type ≢ c.LINKTYPE_NETLINK)
 IsFileHeaderError bytes _ = ⊥
 
--- The fields of a packet header, which has 16 bytes: the seconds of the capture time at 0, the
--- fraction of a second at 4, and the original length of the packet at 12. The captured length at 8
--- is in `IsPacketRecord`. The unit is that of the file.
+-- `captured_length file header`: the captured length in a packet header of this file, the u32 at 8:
+-- the number of the packet's bytes in the file.
+abbrev pub captured_length : FileHeader → List ℕ → ℕ
+captured_length file header = u32_at file.order 8 header
+
+-- `packet_header_fields file header`: the fields of a packet header of this file, which has 16
+-- bytes: the seconds of the capture time at 0, the fraction of a second at 4, in the unit of the
+-- file, and the original length of the packet at 12.
 abbrev pub packet_header_fields : FileHeader → List ℕ → PacketHeader
 packet_header_fields file header = record {
-  seconds = number_at_offset file.order 4 0 header;
-  fraction = number_at_offset file.order 4 4 header;
+  seconds = u32_at file.order 0 header;
+  fraction = u32_at file.order 4 header;
   unit = file.unit;
-  whole_length = number_at_offset file.order 4 12 header;
+  whole_length = u32_at file.order 12 header;
 }
 
 -- A packet as it was captured: its captured bytes, and the fields of its header. The bytes are
@@ -94,57 +123,62 @@ pub record CapturedPacket : Type 0 where
   -- the fields of the packet header
   pub header : PacketHeader
 
--- a packet with these captured bytes and these header fields
+-- `captured_packet bytes header`: the packet with these captured bytes and these header fields
 abbrev pub captured_packet : List ℕ → PacketHeader → CapturedPacket
 captured_packet bytes header = record { bytes = bytes; header = header }
 
--- The 16 bytes where a packet header is expected begin another pcap file: a magic number in either
--- byte order at 0, and 0 at 8. A file header has its time zone at 8, and a packet header its
--- captured length, so no packet that has bytes begins like this.
+-- `BeginsCapture file header`: the 16 bytes `header`, where a packet header of this file is
+-- expected, begin another pcap file: they have a magic number in either byte order at 0, and 0 at
+-- 8. A file header has its time zone at 8, and a packet header its captured length. So no packet
+-- that has bytes begins like this.
 abbrev pub BeginsCapture : FileHeader → List ℕ → Type 0
 BeginsCapture file header =
-    (IsPcapMagic (number_at_offset BigEndian 4 0 header)
-    ⊎ IsPcapMagic (number_at_offset LittleEndian 4 0 header))
-    × (number_at_offset file.order 4 8 header ≡ 0)
+    (HasPcapMagic header BigEndian ⊎ HasPcapMagic header LittleEndian)
+    × (captured_length file header ≡ 0)
 
--- A packet in the capture: `header` is its packet header of 16 bytes, with the captured length at
--- 8, which is the number of the packet's bytes, at most 262144. It does not begin another capture.
--- The other fields of the header are `packet.header`.
+-- `IsPacketRecord file header packet`: the 16 bytes `header` are the packet header of the packet,
+-- in a file with this file header. The captured length in the header is the number of the packet's
+-- bytes, at most 262144. The other fields of the header are `packet.header`. The header does not
+-- begin another capture.
 pub record IsPacketRecord (file : FileHeader) (header : List ℕ)
     (packet : CapturedPacket) : Type 0 where
-  pub whole : length header ≡ 16
-  -- the captured length at 8
-  pub length_word : number_at_offset file.order 4 8 header ≡ length packet.bytes
-  pub tells : packet.header ≡ packet_header_fields file header
+  pub whole : length header ≡ c.PACKET_HEADER_LEN
+  pub count : captured_length file header ≡ length packet.bytes
+  pub fields : packet.header ≡ packet_header_fields file header
   -- the limit of the reader, whatever the snapshot length in the file header
-  pub within : length packet.bytes ≤ 262144
+  pub within : length packet.bytes ≤ c.MAX_PACKET_LEN
   pub no_capture : ¬ BeginsCapture file header
 
 -- ---- states of the input when reading stops
 
--- `part` is a proper prefix of a packet with its packet header: fewer than 16 bytes, or a packet
--- header of 16 bytes and fewer bytes than its captured length, which is at 8.
+-- `IsPartOfPacket file part`: `part` is a proper prefix of a packet with its packet header: fewer
+-- than 16 bytes; or a packet header of 16 bytes, and then fewer bytes than its captured length.
 abbrev pub IsPartOfPacket : FileHeader → List ℕ → Type 0
 IsPartOfPacket file part =
-    (length part < 16)
-    ⊎ ((header : List ℕ) × (front : List ℕ) × (part ≡ header ++ front) × (length header ≡ 16)
-    × (length front < number_at_offset file.order 4 8 header))
+    (length part < c.PACKET_HEADER_LEN)
+    ⊎ ((header : List ℕ) × (captured : List ℕ) × (part ≡ header ++ captured)
+    × (length header ≡ c.PACKET_HEADER_LEN) × (length captured < captured_length file header))
 
--- `IsPacketStop file left failed part e`: `e` is the reason why no packet was read. `left` are the
--- remaining bytes, if known, and `failed error` states that a read failed with this error. `part`
--- are the bytes that were read: a proper prefix of a packet, and the input is at its end
--- (Truncated, after at least one byte) or a read failed (Read); or the start of another capture
--- (AnotherCapture); or a packet header, whose captured length is at most 262144, but the allocation
--- of this memory failed (Memory), or is greater than 262144 (PacketTooLong with this length).
+-- `IsPacketStop file left failed part e`: `e` is the reason why no packet of this file was read.
+-- `left` are the remaining bytes, if known. `failed error` states that a read failed with this
+-- error. `part` are the bytes that were read:
+-- - Truncated: a proper prefix of a packet, of at least one byte; the input is at its end
+-- - Read: a proper prefix of a packet; a read failed with this error
+-- - Memory: a packet header with a captured length of at most 262144; an allocation failed
+-- - PacketTooLong: a packet header with this captured length, which is greater than 262144
+-- - AnotherCapture: the first 16 bytes of another pcap file
+--
+-- Other errors are not possible (`⊥`).
 abbrev pub IsPacketStop : FileHeader → Option (List ℕ) → (ReadError → Type 0) → List ℕ
     → CaptureError → Type 0
 IsPacketStop file left failed part errors.Truncated = (0 < length part) × IsPartOfPacket file part
     × IsAtEnd left
 IsPacketStop file left failed part (errors.Read error) = IsPartOfPacket file part × failed error
-IsPacketStop file left failed part errors.Memory = (length part ≡ 16)
-    × (number_at_offset file.order 4 8 part ≤ 262144)
-IsPacketStop file left failed part (errors.PacketTooLong told) =
-    (length part ≡ 16) × (told ≡ number_at_offset file.order 4 8 part) × (262144 < told)
+IsPacketStop file left failed part errors.Memory =
+    (length part ≡ c.PACKET_HEADER_LEN) × (captured_length file part ≤ c.MAX_PACKET_LEN)
+IsPacketStop file left failed part (errors.PacketTooLong count) =
+    (length part ≡ c.PACKET_HEADER_LEN) × (count ≡ captured_length file part)
+    × (c.MAX_PACKET_LEN < count)
 IsPacketStop file left failed part errors.AnotherCapture =
-    (length part ≡ 16) × BeginsCapture file part
+    (length part ≡ c.PACKET_HEADER_LEN) × BeginsCapture file part
 IsPacketStop file left failed part _ = ⊥

@@ -4,8 +4,9 @@ use Rattle.netlink_captures.specs.declared.compression.Compression.{Compression}
 use Rattle.netlink_captures.specs.declared.compression.Compression.TheVariants.{Gzip, Bzip2, Xz}
 use Rattle.netlink_captures.specs.declared.compression.Compression.TheVariants.{Zstd}
 
--- The format of a file whose first four bytes are this big-endian number: gzip begins with the
--- bytes 1f 8b, bzip2 with 42 5a 68 (`BZh`), xz with fd 37 7a 58, zstd with 28 b5 2f fd.
+-- `compression_of first`: the format of a compressed file whose first four bytes are this
+-- big-endian number, or `None` if they belong to none of the formats. gzip begins with the bytes
+-- `1f 8b`, bzip2 with `42 5a 68`, xz with `fd 37 7a 58`, zstd with `28 b5 2f fd`.
 abbrev pub compression_of : ℕ → Option Compression
 compression_of first =
     if first / 2 ^ 16 == 0x1f8b then Some Gzip
@@ -14,7 +15,7 @@ compression_of first =
     else if first == 0x28b52ffd then Some Zstd
     else None
 
--- the text about a file in this format
+-- `compression_text format`: the text of the error about a file in this format
 abbrev pub compression_text : Compression → List ℕ
 compression_text Gzip = codes "compressed by gzip; decompress it first, with gzip -dc"
 compression_text Bzip2 = codes "compressed by bzip2; decompress it first, with bzip2 -dc"

@@ -9,7 +9,8 @@ use Rattle.netlink_captures.specs.declared.block_error.BlockError.TheVariants as
 use Rattle.netlink_captures.specs.declared.captures.CaptureError.{CaptureError}
 use Rattle.netlink_captures.specs.declared.captures.CaptureError.TheVariants as capture_errors
 
--- The text of the reason why a block of a pcapng file is invalid. The offset of the block follows.
+-- The text of the reason why a block of a pcapng file is invalid. In the text of the error, the
+-- offset of the block follows.
 abbrev pub block_error_text : BlockError → List ℕ
 block_error_text errors.Length = codes "invalid length of the block at offset "
 block_error_text errors.EndLength = codes "two different lengths of the block at offset "
@@ -24,7 +25,8 @@ block_error_text errors.NoInterface = codes "unknown interface of the packet at 
 block_error_text errors.CapturedLength = codes "invalid captured length of the packet at offset "
 block_error_text errors.Time = codes "unsupported time (2106 or later) of the packet at offset "
 
--- The text of an error of a capture. A magic number is shown as eight hexadecimal digits.
+-- The text of an error of a capture. A magic number is shown as eight hexadecimal digits, and other
+-- numbers in decimal.
 abbrev pub capture_error_text : CaptureError → List ℕ
 capture_error_text (capture_errors.Read error) = read_error_text error
 capture_error_text capture_errors.Memory = codes "out of memory"

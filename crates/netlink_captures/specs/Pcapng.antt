@@ -28,7 +28,7 @@ use Rattle.netlink_captures.specs.declared.captures.ByteOrder.{ByteOrder}
 use Rattle.netlink_captures.specs.declared.captures.ByteOrder.TheVariants.{LittleEndian, BigEndian}
 use Rattle.netlink_captures.specs.declared.captures.CaptureError.{CaptureError}
 use Rattle.netlink_captures.specs.declared.captures.CaptureError.TheVariants as capture_errors
-use Rattle.netlink_captures.specs.declared.captures.PacketHeader.{PacketHeader}
+use Rattle.netlink_captures.specs.declared.captures.TheConstants.{LINKTYPE_NETLINK, MAX_PACKET_LEN}
 use Rattle.netlink_captures.specs.declared.captures.TimeUnit.{TimeUnit}
 use Rattle.netlink_captures.specs.declared.captures.TimeUnit.TheVariants.{Microseconds, Nanoseconds}
 use Rattle.netlink_captures.specs.declared.pcapng.Interface.{Interface}
@@ -37,7 +37,8 @@ use Rattle.netlink_captures.specs.declared.pcapng.Content.{Content}
 use Rattle.netlink_captures.specs.declared.pcapng.Content.TheVariants.{SectionHeader, Described}
 use Rattle.netlink_captures.specs.declared.pcapng.Content.TheVariants.{Captured, Skipped}
 use Rattle.netlink_captures.specs.declared.pcapng.PcapngReader.{PcapngReader}
-use Rattle.netlink_captures.specs.Capture.{number_at_offset, CapturedPacket, captured_packet}
+use Rattle.netlink_captures.specs.declared.pcapng.TheConstants as c
+use Rattle.netlink_captures.specs.Capture.{u16_at, u32_at, CapturedPacket, captured_packet}
 
 -- What a reader knows after some blocks: the byte order of the section, the interfaces that the
 -- section has described so far, in order, and the offset of the next block in the file.
@@ -54,243 +55,315 @@ position_of reader = record {
   offset = reader.offset;
 }
 
--- the position before the first block; a section header follows, so the byte order can be any
+-- the position before the first block; a section header follows, which has its own byte order, so
+-- the byte order here can be any
 abbrev pub start_of_file : Position
 start_of_file = record { order = LittleEndian; interfaces = []; offset = 0 }
 
--- ---- the frame of a block
+-- a block that is parsed: the position before it, its byte order, and its bytes
+pub record Block : Type 0 where
+  pub position : Position
+  pub order : ByteOrder
+  pub bytes : List ℕ
 
--- the block is a section header: its type is 0x0a0d0d0a, which is the same in both byte orders
+-- `block_at position order bytes`: the block of these bytes, in this byte order, at this position
+abbrev pub block_at : Position → ByteOrder → List ℕ → Block
+block_at position order bytes = record { position = position; order = order; bytes = bytes }
+
+-- `u16_in block offset`: the u16 at this offset in the block
+abbrev pub u16_in : Block → ℕ → ℕ
+u16_in block offset = u16_at block.order offset block.bytes
+
+-- `u32_in block offset`: the u32 at this offset in the block
+abbrev pub u32_in : Block → ℕ → ℕ
+u32_in block offset = u32_at block.order offset block.bytes
+
+-- `invalid_block position reason`: the error of the block at this position, which is invalid for
+-- this reason
+abbrev pub invalid_block : Position → BlockError → CaptureError
+invalid_block position reason = capture_errors.Block position.offset reason
+
+-- ---- the byte order and the length of a block
+
+-- `is_section_header bytes`: the block of these bytes is a section header: its type is 0x0a0d0d0a,
+-- which is the same number in both byte orders
 abbrev pub is_section_header : List ℕ → Bool
-is_section_header block = number_at_offset BigEndian 4 0 block == 0x0a0d0d0a
+is_section_header bytes = u32_at BigEndian 0 bytes == c.SECTION_HEADER
 
--- the byte order in which the byte-order magic of a section header is 0x1a2b3c4d, if there is one
+-- `order_by_magic bytes`: the byte order in which the byte-order magic of a section header, the u32
+-- at 8, is 0x1a2b3c4d, if there is one
 abbrev pub order_by_magic : List ℕ → Option ByteOrder
-order_by_magic block =
-    if number_at_offset LittleEndian 4 8 block == 0x1a2b3c4d then Some LittleEndian
-    else if number_at_offset BigEndian 4 8 block == 0x1a2b3c4d then Some BigEndian else None
+order_by_magic bytes =
+    if u32_at LittleEndian 8 bytes == c.BYTE_ORDER_MAGIC then Some LittleEndian
+    else if u32_at BigEndian 8 bytes == c.BYTE_ORDER_MAGIC then Some BigEndian else None
 
--- the byte order of a block: for a section header by its magic, or else that of the section
+-- `order_of_block section_order bytes`: the byte order of the block of these bytes: for a section
+-- header by its byte-order magic, for any other block that of the section
 abbrev pub order_of_block : ByteOrder → List ℕ → Option ByteOrder
-order_of_block order block = if is_section_header block then order_by_magic block else Some order
+order_of_block section_order bytes =
+    if is_section_header bytes then order_by_magic bytes else Some section_order
+
+-- `block_length order bytes`: the length of the block that begins with these bytes, the u32 at 4
+abbrev pub block_length : ByteOrder → List ℕ → ℕ
+block_length order bytes = u32_at order 4 bytes
 
 -- `is_block_length offset n`: a block at this offset in the file may have `n` bytes. It has at
 -- least 12 and at most 16777216 bytes, a multiple of 4, and ends at an offset that fits 64 bits.
 abbrev pub is_block_length : ℕ → ℕ → Bool
 is_block_length offset n =
-    nat_le 12 n && nat_le n 16777216 && (n % 4 == 0) && nat_lt (offset + n) (2 ^ 64)
+    nat_le c.MIN_BLOCK_LEN n && nat_le n c.MAX_BLOCK_LEN && (n % 4 == 0)
+    && nat_lt (offset + n) (2 ^ 64)
 
--- the byte order of a block, or the error if it has none or an invalid length
+-- `order_or_error position bytes found`: the byte order of the block that begins with these bytes,
+-- if it was found and the length of the block, read in this order, is valid; or else the error
 abbrev pub order_or_error : Position → List ℕ → Option ByteOrder → Result ByteOrder CaptureError
-order_or_error p block None = Err (capture_errors.Block p.offset errors.ByteOrderMagic)
-order_or_error p block (Some order) =
-    if is_block_length p.offset (number_at_offset order 4 4 block) then Ok order
-    else Err (capture_errors.Block p.offset errors.Length)
+order_or_error position bytes None = Err (invalid_block position errors.ByteOrderMagic)
+order_or_error position bytes (Some order) =
+    if is_block_length position.offset (block_length order bytes) then Ok order
+    else Err (invalid_block position errors.Length)
 
--- `frame_of p block`: the byte order of the block, by its first 12 bytes, or the error of these
--- bytes
-abbrev pub frame_of : Position → List ℕ → Result ByteOrder CaptureError
-frame_of p block = order_or_error p block (order_of_block p.order block)
+-- `checked_order position bytes`: the byte order of the block that begins with these bytes, if it
+-- is known and the length of the block is valid, or else the error. It depends on the first 12
+-- bytes only.
+abbrev pub checked_order : Position → List ℕ → Result ByteOrder CaptureError
+checked_order position bytes =
+    order_or_error position bytes (order_of_block position.order bytes)
 
 -- ---- interfaces
 
--- the unit of timestamps by the value of the option if_tsresol: 6 for microseconds (10^-6 seconds),
--- 9 for nanoseconds (10^-9 seconds); no other value is supported
+-- `unit_by_resolution value`: the unit of timestamps by the value of the option if_tsresol: 6 for
+-- microseconds (10^-6 seconds), 9 for nanoseconds (10^-9 seconds); other values are not supported
 abbrev pub unit_by_resolution : ℕ → Result TimeUnit BlockError
-unit_by_resolution n =
-    if n == 6 then Ok Microseconds else if n == 9 then Ok Nanoseconds else Err errors.Resolution
+unit_by_resolution value =
+    if value == 6 then Ok Microseconds
+    else if value == 9 then Ok Nanoseconds else Err errors.Resolution
 
--- the length of the option that the bytes begin with: its code (u16 at 0), the length of its value
--- (u16 at 2), and its value from 4 on, padded to a multiple of 4 bytes
+-- `option_code order options`: the code of the option that the bytes begin with, at 0
+abbrev pub option_code : ByteOrder → List ℕ → ℕ
+option_code order options = u16_at order 0 options
+
+-- `option_value_length order options`: the length of the value of the option that the bytes begin
+-- with, at 2
+abbrev pub option_value_length : ByteOrder → List ℕ → ℕ
+option_value_length order options = u16_at order 2 options
+
+-- `option_size order options`: the length of the option that the bytes begin with: 4 bytes of its
+-- code and of the length of its value, and its value from 4 on, padded to a multiple of 4 bytes
 abbrev pub option_size : ByteOrder → List ℕ → ℕ
-option_size order options = 4 + (number_at_offset order 2 2 options + 3) / 4 * 4
+option_size order options = 4 + (option_value_length order options + 3) / 4 * 4
 
--- the unit in an option if_tsresol, whose value has one byte
+-- `unit_in_option order options`: the unit in the option if_tsresol that the bytes begin with. Its
+-- value, at 4, has one byte; any other length is an error.
 abbrev pub unit_in_option : ByteOrder → List ℕ → Result TimeUnit BlockError
 unit_in_option order options =
-    if number_at_offset order 2 2 options == 1 then unit_by_resolution (slice_index options 4)
+    if option_value_length order options == 1 then unit_by_resolution (slice_index options 4)
     else Err errors.Options
 
--- `unit_or_next order options next`: the unit if the first option has it: an option if_tsresol has
--- code 9. The end of the options (no bytes, or the code 0) means microseconds. After any other
--- option, `next` is the unit in the remaining options. An option that is longer than the options is
--- an error.
+-- `unit_or_next order options next`: the unit of timestamps by these options. If the first one is
+-- if_tsresol (code 9), it has the unit. If there is none (no bytes, or the code 0, which ends the
+-- options), the unit is microseconds. If it is another option, the result is `next`: the unit by
+-- the remaining options. An option that is longer than the remaining bytes is an error.
 abbrev pub unit_or_next : ByteOrder → List ℕ → Result TimeUnit BlockError
     → Result TimeUnit BlockError
 unit_or_next order options next =
     if length options == 0 then Ok Microseconds
     else if nat_lt (length options) 4 then Err errors.Options
-    else if number_at_offset order 2 0 options == 0 then Ok Microseconds
+    else if option_code order options == c.END_OF_OPTIONS then Ok Microseconds
     else if nat_lt (length options) (option_size order options) then Err errors.Options
-    else if number_at_offset order 2 0 options == 9 then unit_in_option order options
+    else if option_code order options == c.TIME_RESOLUTION then unit_in_option order options
     else next
 
--- `unit_in count order options`: the unit of timestamps by these options, of which there are at
--- most `count`. There are never more than the options have bytes.
+-- `unit_in count order options`: the unit of timestamps by these options, of which at most `count`
+-- are parsed: `count` bounds the recursion
 unfoldable pub unit_in : ℕ → ByteOrder → List ℕ → Result TimeUnit BlockError
 unit_in zero order options = Ok Microseconds
 unit_in (suc count) order options =
     unit_or_next order options (unit_in count order (drop (option_size order options) options))
 
--- the options of an interface description: the bytes from 16 on, without the length at the end
-abbrev pub options_of : List ℕ → List ℕ
-options_of block = slice_range block 16 (length block - 4)
+-- `unit_by_options order options`: the unit of timestamps by these options. All of them are parsed,
+-- since there are never more options than bytes.
+abbrev pub unit_by_options : ByteOrder → List ℕ → Result TimeUnit BlockError
+unit_by_options order options = unit_in (length options) order options
 
--- an interface description with this unit of timestamps, or the error of its options
-abbrev pub interface_or_error : Position → ByteOrder → List ℕ → Result TimeUnit BlockError
-    → Result Content CaptureError
-interface_or_error p order block (Err e) = Err (capture_errors.Block p.offset e)
-interface_or_error p order block (Ok unit) = Ok (Described (record {
-  link_type = number_at_offset order 2 8 block;
-  snap_length = number_at_offset order 4 12 block;
+-- `options_of block`: the options of an interface description: the bytes from 16 on, without the
+-- length in the last four bytes
+abbrev pub options_of : Block → List ℕ
+options_of block = slice_range block.bytes 16 (length block.bytes - 4)
+
+-- `interface_or_error block unit`: the content of an interface description whose options have this
+-- unit of timestamps, or the error of its options
+abbrev pub interface_or_error : Block → Result TimeUnit BlockError → Result Content CaptureError
+interface_or_error block (Err reason) = Err (invalid_block block.position reason)
+interface_or_error block (Ok unit) = Ok (Described (record {
+  link_type = u16_in block 8;
+  snap_length = u32_in block 12;
   unit = unit;
 }))
 
--- The content of an interface description, which has at least 20 bytes. A section has at most 4096
--- interfaces.
-abbrev pub interface_in : Position → ByteOrder → List ℕ → Result Content CaptureError
-interface_in p order block =
-    if nat_lt (length block) 20 then Err (capture_errors.Block p.offset errors.Length)
-    else if nat_le 4096 (length p.interfaces) then
-    Err (capture_errors.Block p.offset errors.TooManyInterfaces)
-    else interface_or_error p order block
-    (unit_in (length (options_of block)) order (options_of block))
+-- `interface_in block`: the content of an interface description, or its error. It has at least 20
+-- bytes, and a section has at most 4096 interfaces.
+abbrev pub interface_in : Block → Result Content CaptureError
+interface_in block =
+    if nat_lt (length block.bytes) c.MIN_INTERFACE_LEN
+    then Err (invalid_block block.position errors.Length)
+    else if nat_le c.MAX_INTERFACES (length block.position.interfaces)
+    then Err (invalid_block block.position errors.TooManyInterfaces)
+    else interface_or_error block (unit_by_options block.order (options_of block))
 
 -- ---- packets
 
--- the interface of a packet, which the section has described with the link type 253
--- (LINKTYPE_NETLINK), or the error
+-- `netlink_or_error position found`: the interface of a packet, if it was `found` in the section
+-- and has the link type 253 (LINKTYPE_NETLINK). Or else the error: NoInterface of the block at this
+-- position, or OtherLinkType.
 abbrev pub netlink_or_error : Position → Option Interface → Result Interface CaptureError
-netlink_or_error p None = Err (capture_errors.Block p.offset errors.NoInterface)
-netlink_or_error p (Some i) =
-    if i.link_type == 253 then Ok i else Err (capture_errors.OtherLinkType i.link_type)
+netlink_or_error position None = Err (invalid_block position errors.NoInterface)
+netlink_or_error position (Some interface) =
+    if interface.link_type == LINKTYPE_NETLINK then Ok interface
+    else Err (capture_errors.OtherLinkType interface.link_type)
 
--- the interface with this number, from 0 on, or the error
+-- `interface_of position number`: the interface with this number, from 0 on, if the section has
+-- described it and it has the link type 253; or else the error, as in `netlink_or_error`
 abbrev pub interface_of : Position → ℕ → Result Interface CaptureError
-interface_of p id = netlink_or_error p (slice_get p.interfaces id)
+interface_of position number = netlink_or_error position (slice_get position.interfaces number)
 
--- `packet_at p block start captured header`: the packet with this header, of which `captured` bytes
--- are in the block, from `start` on. It has at most 262144 bytes, and they precede the length at
--- the end of the block.
-abbrev pub packet_at : Position → List ℕ → ℕ → ℕ → PacketHeader → Result Content CaptureError
-packet_at p block start captured header =
-    if nat_lt 262144 captured then Err (capture_errors.PacketTooLong captured)
-    else if nat_lt (length block) (start + captured + 4) then
-    Err (capture_errors.Block p.offset errors.CapturedLength)
-    else Ok (Captured (record { header = header; start = start; count = captured }))
+-- `packet_in position bytes slot`: the packet in this slot of the block of these bytes, if it has
+-- at most 262144 bytes, and they end before the last four bytes of the block, which have its
+-- length. Or else the error: PacketTooLong, or CapturedLength of the block at this position.
+abbrev pub packet_in : Position → List ℕ → PacketSlot → Result Content CaptureError
+packet_in position bytes slot =
+    if nat_lt MAX_PACKET_LEN slot.count then Err (capture_errors.PacketTooLong slot.count)
+    else if nat_lt (length bytes) (slot.start + slot.count + 4)
+    then Err (invalid_block position errors.CapturedLength)
+    else Ok (Captured slot)
 
--- the number of units in a second
+-- `units_in_second unit`: the number of units in a second
 abbrev pub units_in_second : TimeUnit → ℕ
 units_in_second Microseconds = 1000000
 units_in_second Nanoseconds = 1000000000
 
--- An enhanced packet of an interface with this unit. Its timestamp is the number of units since
--- 1970 (UTC): the high 32 bits at 12, and the low 32 bits at 16. The seconds have to fit 32 bits.
-abbrev pub timed_packet : Position → ByteOrder → List ℕ → TimeUnit → ℕ
-    → Result Content CaptureError
-timed_packet p order block unit timestamp =
+-- `timed_packet block unit timestamp`: the packet in an enhanced packet block, or its error. The
+-- timestamp is the number of units since 1970 (UTC). Its seconds have to fit 32 bits. The captured
+-- length is at 20, the original length at 24, and the packet from 28 on.
+abbrev pub timed_packet : Block → TimeUnit → ℕ → Result Content CaptureError
+timed_packet block unit timestamp =
     if nat_lt (timestamp / units_in_second unit) (2 ^ 32)
-    then packet_at p block 28 (number_at_offset order 4 20 block) (record {
-      seconds = timestamp / units_in_second unit;
-      fraction = timestamp % units_in_second unit;
-      unit = unit;
-      whole_length = number_at_offset order 4 24 block;
+    then packet_in block.position block.bytes (record {
+      header = record {
+        seconds = timestamp / units_in_second unit;
+        fraction = timestamp % units_in_second unit;
+        unit = unit;
+        whole_length = u32_in block 24;
+      };
+      start = c.ENHANCED_PACKET_START;
+      count = u32_in block 20;
     })
-    else Err (capture_errors.Block p.offset errors.Time)
+    else Err (invalid_block block.position errors.Time)
 
--- an enhanced packet of this interface, or the error of its interface
-abbrev pub enhanced_packet : Position → ByteOrder → List ℕ → Result Interface CaptureError
-    → Result Content CaptureError
-enhanced_packet p order block (Err e) = Err e
-enhanced_packet p order block (Ok i) = timed_packet p order block i.unit
-    (number_at_offset order 4 12 block * 2 ^ 32 + number_at_offset order 4 16 block)
+-- `enhanced_or_error block interface`: the packet in an enhanced packet block of this interface, or
+-- the error of the interface. The high 32 bits of the timestamp are at 12, and the low 32 bits at
+-- 16.
+abbrev pub enhanced_or_error : Block → Result Interface CaptureError → Result Content CaptureError
+enhanced_or_error block (Err e) = Err e
+enhanced_or_error block (Ok interface) =
+    timed_packet block interface.unit (u32_in block 12 * 2 ^ 32 + u32_in block 16)
 
--- `enhanced_packet_in p order block id`: the content of an enhanced or an obsolete packet block,
--- which has at least 32 bytes, of the interface with the number `id`
-abbrev pub enhanced_packet_in : Position → ByteOrder → List ℕ → ℕ → Result Content CaptureError
-enhanced_packet_in p order block id =
-    if nat_lt (length block) 32 then Err (capture_errors.Block p.offset errors.Length)
-    else enhanced_packet p order block (interface_of p id)
+-- `enhanced_packet_in block number`: the content of an enhanced or an obsolete packet block of the
+-- interface with this number, or its error. The block has at least 32 bytes.
+abbrev pub enhanced_packet_in : Block → ℕ → Result Content CaptureError
+enhanced_packet_in block number =
+    if nat_lt (length block.bytes) c.MIN_ENHANCED_PACKET_LEN
+    then Err (invalid_block block.position errors.Length)
+    else enhanced_or_error block (interface_of block.position number)
 
--- the captured length of a simple packet: the original length, at most the snapshot length of the
--- interface unless that is 0
+-- `simple_captured snap_length original`: the captured length of a simple packet: the smaller of
+-- its original length and the snapshot length of its interface. The snapshot length 0 means no
+-- limit.
 abbrev pub simple_captured : ℕ → ℕ → ℕ
 simple_captured snap_length original =
     if snap_length == 0 then original else min original snap_length
 
--- a simple packet of this interface, or the error of its interface; it has no timestamp, which
--- counts as 0
-abbrev pub simple_packet : Position → ByteOrder → List ℕ → Result Interface CaptureError
-    → Result Content CaptureError
-simple_packet p order block (Err e) = Err e
-simple_packet p order block (Ok i) =
-    packet_at p block 12 (simple_captured i.snap_length (number_at_offset order 4 8 block))
-    (record {
-      seconds = 0;
-      fraction = 0;
-      unit = i.unit;
-      whole_length = number_at_offset order 4 8 block;
-    })
+-- `simple_or_error block interface`: the packet in a simple packet block of this interface, or the
+-- error of the interface. The original length is at 8. The block has no timestamp; it counts as 0.
+abbrev pub simple_or_error : Block → Result Interface CaptureError → Result Content CaptureError
+simple_or_error block (Err e) = Err e
+simple_or_error block (Ok interface) = packet_in block.position block.bytes (record {
+  header = record {
+    seconds = 0;
+    fraction = 0;
+    unit = interface.unit;
+    whole_length = u32_in block 8;
+  };
+  start = c.SIMPLE_PACKET_START;
+  count = simple_captured interface.snap_length (u32_in block 8);
+})
 
--- the content of a simple packet block, which has at least 16 bytes, of the first interface
-abbrev pub simple_packet_in : Position → ByteOrder → List ℕ → Result Content CaptureError
-simple_packet_in p order block =
-    if nat_lt (length block) 16 then Err (capture_errors.Block p.offset errors.Length)
-    else simple_packet p order block (interface_of p 0)
+-- `simple_packet_in block`: the content of a simple packet block, or its error. The block has at
+-- least 16 bytes. It has no interface number: its interface is the first one of the section (0).
+abbrev pub simple_packet_in : Block → Result Content CaptureError
+simple_packet_in block =
+    if nat_lt (length block.bytes) c.MIN_SIMPLE_PACKET_LEN
+    then Err (invalid_block block.position errors.Length)
+    else simple_or_error block (interface_of block.position 0)
 
 -- ---- contents of blocks
 
--- the content of a section header, which has at least 28 bytes and the major version 1
-abbrev pub section_header_in : Position → ByteOrder → List ℕ → Result Content CaptureError
-section_header_in p order block =
-    if nat_lt (length block) 28 then Err (capture_errors.Block p.offset errors.Length)
-    else if number_at_offset order 2 12 block == 1 then Ok SectionHeader
-    else Err (capture_errors.Block p.offset errors.Version)
+-- `section_header_in block`: the content of a section header, or its error. It has at least 28
+-- bytes, and the major version 1 at 12.
+abbrev pub section_header_in : Block → Result Content CaptureError
+section_header_in block =
+    if nat_lt (length block.bytes) c.MIN_SECTION_HEADER_LEN
+    then Err (invalid_block block.position errors.Length)
+    else if u16_in block 12 == c.MAJOR_VERSION then Ok SectionHeader
+    else Err (invalid_block block.position errors.Version)
 
--- `content_by_type p order block t`: the content of a block of the type `t`
-abbrev pub content_by_type : Position → ByteOrder → List ℕ → ℕ → Result Content CaptureError
-content_by_type p order block t =
-    if t == 1 then interface_in p order block
-    else if t == 2 then enhanced_packet_in p order block (number_at_offset order 2 8 block)
-    else if t == 3 then simple_packet_in p order block
-    else if t == 6 then enhanced_packet_in p order block (number_at_offset order 4 8 block)
+-- the type of a block, at 0
+abbrev pub block_type : Block → ℕ
+block_type block = u32_in block 0
+
+-- `content_by_type block`: the content of a block that is not a section header, or its error. The
+-- interface number at 8 is a u16 in an obsolete packet, and a u32 in an enhanced packet.
+abbrev pub content_by_type : Block → Result Content CaptureError
+content_by_type block =
+    if block_type block == c.INTERFACE_DESCRIPTION then interface_in block
+    else if block_type block == c.OBSOLETE_PACKET then enhanced_packet_in block (u16_in block 8)
+    else if block_type block == c.SIMPLE_PACKET then simple_packet_in block
+    else if block_type block == c.ENHANCED_PACKET then enhanced_packet_in block (u32_in block 8)
     else Ok Skipped
 
--- `content_of p order block`: the content of a whole block in this byte order, or its error. The
--- length at its end has to be its length.
-abbrev pub content_of : Position → ByteOrder → List ℕ → Result Content CaptureError
-content_of p order block =
-    if number_at_offset order 4 (length block - 4) block == length block
-    then (if is_section_header block then section_header_in p order block
-    else content_by_type p order block (number_at_offset order 4 0 block))
-    else Err (capture_errors.Block p.offset errors.EndLength)
+-- `content_of block`: the content of a whole block, or its error. The u32 in its last four bytes
+-- has to be its length.
+abbrev pub content_of : Block → Result Content CaptureError
+content_of block =
+    if u32_in block (length block.bytes - 4) == length block.bytes
+    then (if is_section_header block.bytes then section_header_in block else content_by_type block)
+    else Err (invalid_block block.position errors.EndLength)
 
--- a whole block: at least 12 bytes with a valid frame, as many as its length at 4
-pub record IsFramed (p : Position) (block : List ℕ) (order : ByteOrder) : Type 0 where
-  pub long : 12 ≤ length block
-  -- the byte order of the block
-  pub frame : frame_of p block ≡ Ok order
-  pub whole : number_at_offset order 4 4 block ≡ length block
+-- `IsWholeBlock block`: the block is whole: it has at least 12 bytes, its byte order and its length
+-- are valid, and it has as many bytes as its length
+pub record IsWholeBlock (block : Block) : Type 0 where
+  pub long : c.MIN_BLOCK_LEN ≤ length block.bytes
+  pub ordered : checked_order block.position block.bytes ≡ Ok block.order
+  pub whole : block_length block.order block.bytes ≡ length block.bytes
 
--- a valid block, with its byte order and its content
-pub record IsBlock (p : Position) (block : List ℕ) (order : ByteOrder) (content : Content)
-    : Type 0 where
-  pub framed : IsFramed p block order
-  pub valid : content_of p order block ≡ Ok content
+-- `HasContent block content`: the block is whole and valid, and has this content
+pub record HasContent (block : Block) (content : Content) : Type 0 where
+  pub is_whole : IsWholeBlock block
+  pub valid : content_of block ≡ Ok content
 
--- the interfaces after a block: none after a section header, and one more after an interface
--- description
+-- `interfaces_after interfaces content`: the interfaces of the section after a block with this
+-- content, if `interfaces` are those before it: none after a section header, one more after an
+-- interface description, and the same after any other block
 abbrev pub interfaces_after : List Interface → Content → List Interface
 interfaces_after interfaces SectionHeader = []
-interfaces_after interfaces (Described i) = interfaces ++ i ∷ []
+interfaces_after interfaces (Described interface) = interfaces ++ interface ∷ []
 interfaces_after interfaces _ = interfaces
 
--- `after_block p order content n`: the position after a block of `n` bytes with this content
-abbrev pub after_block : Position → ByteOrder → Content → ℕ → Position
-after_block p order content n = record {
-  order = order;
-  interfaces = interfaces_after p.interfaces content;
-  offset = p.offset + n;
+-- `after_block block content`: the position after the block, which has this content
+abbrev pub after_block : Block → Content → Position
+after_block block content = record {
+  order = block.order;
+  interfaces = interfaces_after block.position.interfaces content;
+  offset = block.position.offset + length block.bytes;
 }
 
 -- ---- packets in a file
@@ -300,90 +373,94 @@ abbrev pub IsNoPacket : Content → Type 0
 IsNoPacket (Captured slot) = ⊥
 IsNoPacket _ = ⊤
 
--- `AreSkipped p blocks p'`: the blocks are valid and have no packet, and lead from the position `p`
--- to `p'`
+-- `AreSkipped position blocks position'`: the blocks from `position` on are valid and have no
+-- packet, and `position'` is the position after them. Each has some byte order and some content.
 abbrev pub AreSkipped : Position → List (List ℕ) → Position → Type 0
-AreSkipped p [] p' = p' ≡ p
-AreSkipped p (block ∷ blocks) p' = (order : ByteOrder) × (content : Content)
-    × IsBlock p block order content × IsNoPacket content
-    × AreSkipped (after_block p order content (length block)) blocks p'
+AreSkipped position [] position' = position' ≡ position
+AreSkipped position (bytes ∷ blocks) position' = (order : ByteOrder) × (content : Content)
+    × HasContent (block_at position order bytes) content × IsNoPacket content
+    × AreSkipped (after_block (block_at position order bytes) content) blocks position'
 
--- the packet in a block: `count` bytes from `start` on
+-- `packet_in_slot slot bytes`: the packet in this slot of the block of these bytes: `slot.count`
+-- bytes from `slot.start` on
 abbrev pub packet_in_slot : PacketSlot → List ℕ → CapturedPacket
-packet_in_slot slot block =
-    captured_packet (slice_range block slot.start (slot.start + slot.count)) slot.header
+packet_in_slot slot bytes =
+    captured_packet (slice_range bytes slot.start (slot.start + slot.count)) slot.header
 
--- `IsNextPacket p bytes packet p'`: the bytes are some blocks without a packet, and a block with
--- this packet. They lead from the position `p` to `p'`.
-pub record IsNextPacket (p : Position) (bytes : List ℕ) (packet : CapturedPacket) (p' : Position)
-    : Type 0 where
+-- `IsNextPacket position bytes packet position'`: the bytes from `position` on are some blocks
+-- without a packet, and a block with this packet. `position'` is the position after them.
+pub record IsNextPacket (position : Position) (bytes : List ℕ) (packet : CapturedPacket)
+    (position' : Position) : Type 0 where
   -- the blocks before the one with the packet
   pub blocks : List (List ℕ)
-  -- the position after them
-  pub mid : Position
   -- the block with the packet
-  pub block : List ℕ
-  pub order : ByteOrder
-  -- the packet's place in the block
+  pub block : Block
+  pub skipped : AreSkipped position blocks block.position
+  pub parts : bytes ≡ concat blocks ++ block.bytes
+  -- the header, the offset and the length of the packet in the block
   pub slot : PacketSlot
-  pub skipped : AreSkipped p blocks mid
-  pub found : IsBlock mid block order (Captured slot)
-  pub parts : bytes ≡ concat blocks ++ block
-  pub captured : packet ≡ packet_in_slot slot block
-  pub after : p' ≡ after_block mid order (Captured slot) (length block)
+  pub found : HasContent block (Captured slot)
+  pub captured : packet ≡ packet_in_slot slot block.bytes
+  pub after : position' ≡ after_block block (Captured slot)
 
--- `IsEndOfBlocks p bytes p'`: the bytes are blocks without a packet, as those after the last packet
--- of a capture are. They lead from the position `p` to `p'`.
+-- `IsEndOfBlocks position bytes position'`: the bytes from `position` on are some blocks without a
+-- packet, as those after the last packet of a capture are. `position'` is the position after them.
 abbrev pub IsEndOfBlocks : Position → List ℕ → Position → Type 0
-IsEndOfBlocks p bytes p' =
-    (blocks : List (List ℕ)) × AreSkipped p blocks p' × (bytes ≡ concat blocks)
+IsEndOfBlocks position bytes position' =
+    (blocks : List (List ℕ)) × AreSkipped position blocks position' × (bytes ≡ concat blocks)
 
 -- ---- states of the input when reading stops
 
--- the block has a valid frame, by its first 12 bytes
-abbrev pub HasFrame : Position → List ℕ → Type 0
-HasFrame p block = (order : ByteOrder) × (frame_of p block ≡ Ok order)
+-- `HasCheckedOrder position bytes`: the byte order of the block that begins with these bytes is
+-- known, and its length field is valid (`checked_order`)
+abbrev pub HasCheckedOrder : Position → List ℕ → Type 0
+HasCheckedOrder position bytes = (order : ByteOrder) × (checked_order position bytes ≡ Ok order)
 
--- `IsPartOfBlock p part`: `part` is a proper prefix of a block: fewer than 12 bytes, or more, but
--- fewer than the length at 4
+-- `IsPartOfBlock position part`: `part` is a proper prefix of a block at this position: fewer than
+-- 12 bytes; or bytes with a valid byte order and length, but fewer than this length
 abbrev pub IsPartOfBlock : Position → List ℕ → Type 0
-IsPartOfBlock p part =
-    (length part < 12)
-    ⊎ ((order : ByteOrder) × (frame_of p part ≡ Ok order)
-    × (length part < number_at_offset order 4 4 part))
+IsPartOfBlock position part =
+    (length part < c.MIN_BLOCK_LEN)
+    ⊎ ((order : ByteOrder) × (checked_order position part ≡ Ok order)
+    × (length part < block_length order part))
 
--- `IsInputStop left failed part e`: `e` is the reason why no more bytes were read. The input is at
--- its end, after at least one byte (Truncated), or a read failed (Read). `left` are the remaining
--- bytes, if known. `failed error` states that a read failed with this error.
+-- `IsInputStop left failed part e`: `e` is the reason why no more bytes were read after the bytes
+-- `part`. Either these are at least one byte, and the input is at its end (Truncated); or a read
+-- failed (Read). `left` are the remaining bytes, if known. `failed error` states that a read failed
+-- with this error. Other errors are not possible (`⊥`).
 abbrev pub IsInputStop : Option (List ℕ) → (ReadError → Type 0) → List ℕ → CaptureError → Type 0
 IsInputStop left failed part capture_errors.Truncated = (0 < length part) × IsAtEnd left
 IsInputStop left failed part (capture_errors.Read error) = failed error
 IsInputStop left failed part _ = ⊥
 
--- `IsBlockStop p left failed part e`: `e` is the reason why no block was read at the position `p`.
--- `part` are its bytes that were read, and `left` and `failed` are as in `IsInputStop`. They are a
--- proper prefix of a block, and the input stopped there; or at least 12 bytes with a valid frame,
--- and an allocation failed; or 12 bytes with an invalid frame; or a whole block with invalid
--- content.
+-- `IsBlockStop position left failed part e`: `e` is the reason why no block was read at this
+-- position. `left` and `failed` are as in `IsInputStop`. `part` are the bytes of the block that
+-- were read:
+-- - a proper prefix of a block, after which the input is at its end, or a read failed
+-- - at least 12 bytes, with a valid byte order and length; then an allocation failed (Memory)
+-- - 12 bytes, whose byte order or length is invalid
+-- - a whole block, whose content is invalid
 abbrev pub IsBlockStop : Position → Option (List ℕ) → (ReadError → Type 0) → List ℕ → CaptureError
     → Type 0
-IsBlockStop p left failed part e =
-    (IsPartOfBlock p part × IsInputStop left failed part e)
-    ⊎ ((12 ≤ length part) × HasFrame p part × (e ≡ capture_errors.Memory))
-    ⊎ ((length part ≡ 12) × (frame_of p part ≡ Err e))
-    ⊎ ((order : ByteOrder) × IsFramed p part order × (content_of p order part ≡ Err e))
+IsBlockStop position left failed part e =
+    (IsPartOfBlock position part × IsInputStop left failed part e)
+    ⊎ ((c.MIN_BLOCK_LEN ≤ length part) × HasCheckedOrder position part
+    × (e ≡ capture_errors.Memory))
+    ⊎ ((length part ≡ c.MIN_BLOCK_LEN) × (checked_order position part ≡ Err e))
+    ⊎ ((order : ByteOrder) × IsWholeBlock (block_at position order part)
+    × (content_of (block_at position order part) ≡ Err e))
 
--- `IsNextPacketStop p left failed part e`: `e` is the reason why no packet was read after the
--- position `p`. `part` are the bytes that were read: some valid blocks without a packet, and the
--- bytes of the one that could not be read.
-pub record IsNextPacketStop (p : Position) (left : Option (List ℕ)) (failed : ReadError → Type 0)
-    (part : List ℕ) (e : CaptureError) : Type 0 where
+-- `IsNextPacketStop position left failed bytes e`: `e` is the reason why no packet was read after
+-- this position. `bytes` were read: some valid blocks without a packet, and the bytes of the block
+-- that could not be read. `left` and `failed` are as in `IsInputStop`.
+pub record IsNextPacketStop (position : Position) (left : Option (List ℕ))
+    (failed : ReadError → Type 0) (bytes : List ℕ) (e : CaptureError) : Type 0 where
   -- the valid blocks
   pub blocks : List (List ℕ)
   -- the position after them
-  pub mid : Position
+  pub position' : Position
+  pub skipped : AreSkipped position blocks position'
   -- the bytes of the block that could not be read
-  pub rest : List ℕ
-  pub skipped : AreSkipped p blocks mid
-  pub parts : part ≡ concat blocks ++ rest
-  pub stopped : IsBlockStop mid left failed rest e
+  pub part : List ℕ
+  pub parts : bytes ≡ concat blocks ++ part
+  pub stopped : IsBlockStop position' left failed part e

@@ -7,15 +7,16 @@ use Rattle.netlink_captures.specs.declared.captures.ByteOrder.TheVariants.{BigEn
 use Rattle.netlink_captures.specs.declared.captures.CaptureError.{CaptureError}
 use Rattle.netlink_captures.specs.declared.captures.CaptureError.TheVariants as errors
 use Rattle.netlink_captures.specs.declared.captures.FileHeader.{FileHeader}
+use Rattle.netlink_captures.specs.declared.captures.TheConstants.{FILE_HEADER_LEN}
 use Rattle.netlink_captures.specs.declared.pcapng.Content.{Content}
 use Rattle.netlink_captures.specs.declared.reader.CaptureReader.{CaptureReader}
 use Rattle.netlink_captures.specs.declared.reader.CaptureReader.TheVariants.{Pcap, Pcapng}
-use Rattle.netlink_captures.specs.Capture.{CapturedPacket, HasNoPcapMagic, IsFileHeader}
+use Rattle.netlink_captures.specs.Capture.{CapturedPacket, HasPcapMagic, IsFileHeader}
 use Rattle.netlink_captures.specs.Capture.{IsFileHeaderError, IsPacketRecord, IsPacketStop}
-use Rattle.netlink_captures.specs.Capture.{IsPcapMagic, number_at_offset}
-use Rattle.netlink_captures.specs.Pcapng.{IsBlock, IsBlockStop, IsEndOfBlocks, IsNextPacket}
-use Rattle.netlink_captures.specs.Pcapng.{IsNextPacketStop, Position, after_block, position_of}
-use Rattle.netlink_captures.specs.Pcapng.{is_section_header, start_of_file}
+use Rattle.netlink_captures.specs.Capture.{IsRejectedByPcapMagic}
+use Rattle.netlink_captures.specs.Pcapng.{HasContent, IsBlockStop, IsEndOfBlocks, IsNextPacket}
+use Rattle.netlink_captures.specs.Pcapng.{IsNextPacketStop, Position, after_block, block_at}
+use Rattle.netlink_captures.specs.Pcapng.{is_section_header, position_of, start_of_file}
 
 -- What a reader knows of a capture: the file header of a pcap file, or the position in a pcapng
 -- file.
@@ -28,32 +29,39 @@ abbrev pub state_of : CaptureReader → CaptureState
 state_of (Pcap file) = in_pcap file
 state_of (Pcapng reader) = in_pcapng (position_of reader)
 
--- `IsCaptureStart bytes s`: a capture begins with these bytes, and `s` is the state after them.
--- They are the file header of a pcap file, of 24 bytes, or the section header block that a pcapng
--- file begins with.
+-- `IsCaptureStart bytes state`: a capture begins with these bytes, and a reader that has read them
+-- has this state. They are the file header of a pcap file, of 24 bytes, or the section header block
+-- that a pcapng file begins with.
 abbrev pub IsCaptureStart : List ℕ → CaptureState → Type 0
-IsCaptureStart bytes (in_pcap file) = (length bytes ≡ 24) × IsFileHeader bytes file
-IsCaptureStart bytes (in_pcapng p) = (order : ByteOrder) × (content : Content)
-    × IsTrue (is_section_header bytes) × IsBlock start_of_file bytes order content
-    × (p ≡ after_block start_of_file order content (length bytes))
+IsCaptureStart bytes (in_pcap file) = (length bytes ≡ FILE_HEADER_LEN) × IsFileHeader bytes file
+IsCaptureStart bytes (in_pcapng position) = (order : ByteOrder) × (content : Content)
+    × IsTrue (is_section_header bytes)
+    × HasContent (block_at start_of_file order bytes) content
+    × (position ≡ after_block (block_at start_of_file order bytes) content)
 
--- the bytes begin with the type of a section header block, as a pcapng file does, or with a magic
--- number of pcap in either byte order
+-- `HasMagic bytes`: the bytes begin with the type of a section header block, as a pcapng file does,
+-- or with a magic number of pcap in either byte order
 abbrev pub HasMagic : List ℕ → Type 0
 HasMagic bytes =
-    IsTrue (is_section_header bytes) ⊎ IsPcapMagic (number_at_offset BigEndian 4 0 bytes)
-    ⊎ IsPcapMagic (number_at_offset LittleEndian 4 0 bytes)
+    IsTrue (is_section_header bytes) ⊎ HasPcapMagic bytes BigEndian
+    ⊎ HasPcapMagic bytes LittleEndian
 
--- the bytes begin with neither, and `e` is their error
-abbrev pub HasNoMagic : List ℕ → CaptureError → Type 0
-HasNoMagic bytes e = (¬ IsTrue (is_section_header bytes)) × HasNoPcapMagic bytes e
+-- `IsRejectedByMagic bytes e`: the bytes are rejected with `e`, since they begin neither as a
+-- pcapng file does nor with a magic number of pcap
+abbrev pub IsRejectedByMagic : List ℕ → CaptureError → Type 0
+IsRejectedByMagic bytes e = (¬ IsTrue (is_section_header bytes)) × IsRejectedByPcapMagic bytes e
 
 -- `IsEarlyReadStop left failed part e`: `e` is the reason why reading stopped before the header of
--- a capture was complete, after the bytes `part`. The input is at its end: without a byte (Empty),
--- after one to three bytes (TooShort), or after at least four, with a known magic number
--- (Truncated). Or a read failed (Read). Or the first four bytes are not a known magic number
--- (Compressed, NoCapture). `left` are the remaining bytes, if known. `failed error` states that a
--- read failed with this error.
+-- a capture was complete, after the bytes `part`. `left` are the remaining bytes, if known.
+-- `failed error` states that a read failed with this error.
+-- - Empty: the input is at its end, without a byte
+-- - TooShort: the input is at its end, after one to three bytes
+-- - Truncated: the input is at its end, after at least four bytes, which begin with a known magic
+--   number
+-- - Read: a read failed with this error
+-- - Compressed, NoCapture: the first four bytes are not a known magic number
+--
+-- Other errors are not possible (`⊥`).
 abbrev pub IsEarlyReadStop : Option (List ℕ) → (ReadError → Type 0) → List ℕ → CaptureError → Type 0
 IsEarlyReadStop left failed part errors.Empty = (part ≡ []) × IsAtEnd left
 IsEarlyReadStop left failed part errors.TooShort =
@@ -61,41 +69,45 @@ IsEarlyReadStop left failed part errors.TooShort =
 IsEarlyReadStop left failed part errors.Truncated = (4 ≤ length part) × HasMagic part × IsAtEnd left
 IsEarlyReadStop left failed part (errors.Read error) = failed error
 IsEarlyReadStop left failed part (errors.Compressed compression) =
-    (length part ≡ 4) × HasNoMagic part (errors.Compressed compression)
+    (length part ≡ 4) × IsRejectedByMagic part (errors.Compressed compression)
 IsEarlyReadStop left failed part (errors.NoCapture magic) =
-    (length part ≡ 4) × HasNoMagic part (errors.NoCapture magic)
+    (length part ≡ 4) × IsRejectedByMagic part (errors.NoCapture magic)
 IsEarlyReadStop left failed part _ = ⊥
 
 -- `IsCaptureStartStop left failed part e`: `e` is the reason why a capture could not be opened,
--- after the bytes `part`. They are fewer than 24, and reading stopped there; or 24 that are neither
--- a file header of pcap nor the start of a pcapng file; or the section header block of a pcapng
--- file could not be read. `left` and `failed` are as in `IsEarlyReadStop`.
+-- after the bytes `part`. `left` and `failed` are as in `IsEarlyReadStop`. There are three cases:
+-- - the bytes are fewer than the 24 of a file header of pcap, and reading stopped there
+-- - the bytes are 24, and neither a file header of pcap nor the start of a pcapng file
+-- - the bytes begin a pcapng file, and its section header block could not be read
 abbrev pub IsCaptureStartStop : Option (List ℕ) → (ReadError → Type 0) → List ℕ → CaptureError
     → Type 0
 IsCaptureStartStop left failed part e =
-    ((length part < 24) × IsEarlyReadStop left failed part e)
-    ⊎ ((length part ≡ 24) × (¬ IsTrue (is_section_header part)) × IsFileHeaderError part e)
+    ((length part < FILE_HEADER_LEN) × IsEarlyReadStop left failed part e)
+    ⊎ ((length part ≡ FILE_HEADER_LEN) × (¬ IsTrue (is_section_header part))
+    × IsFileHeaderError part e)
     ⊎ (IsTrue (is_section_header part) × IsBlockStop start_of_file left failed part e)
 
--- `ReadsPacket s bytes packet s'`: the bytes lead from the state `s` to `s'`, over one packet. In a
--- pcap file they are its packet header and its captured bytes. In a pcapng file they are some
--- blocks without a packet, and a block with this packet.
+-- `ReadsPacket state bytes packet state'`: a reader in the state `state` that reads these bytes has
+-- read this packet, and then has the state `state'`. In a pcap file they are its packet header and
+-- its captured bytes. In a pcapng file they are some blocks without a packet, and a block with this
+-- packet.
 abbrev pub ReadsPacket : CaptureState → List ℕ → CapturedPacket → CaptureState → Type 0
-ReadsPacket (in_pcap file) bytes packet s' =
+ReadsPacket (in_pcap file) bytes packet state' =
     (header : List ℕ) × IsPacketRecord file header packet × (bytes ≡ header ++ packet.bytes)
-    × (s' ≡ in_pcap file)
-ReadsPacket (in_pcapng p) bytes packet s' =
-    (after : Position) × IsNextPacket p bytes packet after × (s' ≡ in_pcapng after)
+    × (state' ≡ in_pcap file)
+ReadsPacket (in_pcapng position) bytes packet state' =
+    (after : Position) × IsNextPacket position bytes packet after × (state' ≡ in_pcapng after)
 
--- `IsCaptureEnd s bytes`: the bytes, which follow the state `s`, contain no packet: there are none
+-- `IsCaptureEnd state bytes`: the bytes, which follow the state, contain no packet: there are none
 -- in a pcap file, and in a pcapng file they are some blocks without a packet
 abbrev pub IsCaptureEnd : CaptureState → List ℕ → Type 0
 IsCaptureEnd (in_pcap file) bytes = bytes ≡ []
-IsCaptureEnd (in_pcapng p) bytes = (after : Position) × IsEndOfBlocks p bytes after
+IsCaptureEnd (in_pcapng position) bytes =
+    (after : Position) × IsEndOfBlocks position bytes after
 
--- `IsCaptureStop s left failed part e`: `e` is the reason why no packet was read after the state
--- `s`, and `part` are the bytes that were read. `left` and `failed` are as in `IsEarlyReadStop`.
+-- `IsCaptureStop state left failed part e`: `e` is the reason why no packet was read after the
+-- state, and `part` are the bytes that were read. `left` and `failed` are as in `IsEarlyReadStop`.
 abbrev pub IsCaptureStop : CaptureState → Option (List ℕ) → (ReadError → Type 0) → List ℕ
     → CaptureError → Type 0
 IsCaptureStop (in_pcap file) left failed part e = IsPacketStop file left failed part e
-IsCaptureStop (in_pcapng p) left failed part e = IsNextPacketStop p left failed part e
+IsCaptureStop (in_pcapng position) left failed part e = IsNextPacketStop position left failed part e

@@ -5,9 +5,10 @@ ghost use Rattle.std.specs.Prelude.{◌≡◌, ◌↔◌, ◌+◌, ◌<◌, ◌�
 ghost use Rattle.std.specs.Prelude.{IfErr, OnOk, IsTrue, MatchBool, MatchOption, MatchResult, Some};
 ghost use Rattle.std.specs.Io.KnownBytes.{Consumes, IsAtEnd, Keeps};
 ghost use Rattle.netlink_captures.specs.Capture.{BeginsCapture, IsFileHeader, IsFileHeaderError};
-ghost use Rattle.netlink_captures.specs.Capture.{IsPcapMagic, IsMagicError, IsPacketStop};
-ghost use Rattle.netlink_captures.specs.Capture.{IsPacketRecord, number_at_offset};
-ghost use Rattle.netlink_captures.specs.Capture.{packet_header_fields, captured_packet, unit_of};
+ghost use Rattle.netlink_captures.specs.Capture.{HasNoPcapMagic, HasPcapMagic, IsNoCaptureError};
+ghost use Rattle.netlink_captures.specs.Capture.{IsPacketRecord, IsPacketStop, IsPcapMagic};
+ghost use Rattle.netlink_captures.specs.Capture.{captured_packet, packet_header_fields, u16_at};
+ghost use Rattle.netlink_captures.specs.Capture.{u32_at, unit_of};
 ghost use Rattle.netlink_captures.specs.ErrorText.{capture_error_text};
 ghost use Rattle.program_streams.specs.ErrorText.{error_text_bytes};
 ghost use Rattle.netlink_captures.specs.private.Capture.{IsReadStop};
@@ -22,39 +23,39 @@ use std::error::Error;
 use std::fmt;
 
 /// Magic number of a pcap file whose timestamps have microseconds.
-const MICROSECONDS: u32 = 0xa1b2_c3d4;
+const MAGIC_MICROSECONDS: u32 = 0xa1b2_c3d4;
 
 /// Magic number of a pcap file whose timestamps have nanoseconds.
-const NANOSECONDS: u32 = 0xa1b2_3c4d;
+const MAGIC_NANOSECONDS: u32 = 0xa1b2_3c4d;
 
 /// Major version of the pcap format, at offset 4 of the file header.
 const MAJOR_VERSION: u16 = 2;
 
 /// `LINKTYPE_NETLINK`, the link type of nlmon(4) devices.
-pub(crate) const LINK_TYPE: u32 = 253;
+pub(crate) const LINKTYPE_NETLINK: u32 = 253;
 
 /// Number of link types. The link type is in the low 16 bits of the field at offset 20. The high 16
 /// bits are not part of it: they have the length of the frame check sequence.
 const LINK_TYPES: u32 = 65_536;
 
 /// Length of the file header in bytes.
-pub(crate) const FILE_HEADER: usize = 24;
+pub(crate) const FILE_HEADER_LEN: usize = 24;
 
 /// Length of a packet header in bytes.
-const RECORD_HEADER: usize = 16;
+const PACKET_HEADER_LEN: usize = 16;
 
 /// Length of the cooked header in bytes. It precedes the datagram of a packet.
-const COOKED_HEADER: usize = 16;
+const COOKED_HEADER_LEN: usize = 16;
 
 /// Greatest length of a packet in bytes, whatever the file header says. It is the default snapshot
 /// length of tcpdump(1).
-pub(crate) const MOST_OF_PACKET: u32 = 262_144;
+pub(crate) const MAX_PACKET_LEN: u32 = 262_144;
 
 /// `ARPHRD_NETLINK`, the hardware type of a netlink packet.
-const HARDWARE_TYPE: u16 = 824;
+const ARPHRD_NETLINK: u16 = 824;
 
 /// `NETLINK_SOCK_DIAG`, the netlink protocol of sock_diag(7).
-const SOCK_DIAG: u16 = 4;
+const NETLINK_SOCK_DIAG: u16 = 4;
 
 /// The reason why a header or a packet of a capture could not be read.
 #[derive(Clone, Copy, Debug, PartialEq, Eq)]
@@ -78,7 +79,7 @@ pub enum CaptureError {
     OtherVersion(u16),
     /// The link type is not 253 (`LINKTYPE_NETLINK`). It is here.
     OtherLinkType(u32),
-    /// A packet header has a length of more than `MOST_OF_PACKET` bytes. The length is here.
+    /// A packet header has a length of more than `MAX_PACKET_LEN` bytes. The length is here.
     PacketTooLong(u32),
     /// Another pcap file begins in place of a packet.
     AnotherCapture,
@@ -94,6 +95,8 @@ pub enum CaptureError {
 impl CaptureError {
     /// Returns the error's text.
     pub fn text(&self) -> ErrorText
+        // `error_text_bytes text`: the bytes that the parts of the text are joined to.
+        // `capture_error_text error`: the text for each error, as below.
         ensures { error_text_bytes result ≡ capture_error_text self.now }
     {
         match self {
@@ -143,6 +146,7 @@ impl CaptureError {
 }
 
 impl fmt::Display for CaptureError {
+    // The same text as `text` returns.
     ghost output = { λ error. Some (capture_error_text error) };
 
     fn fmt<W: fmt::Write>(&self, f: &mut fmt::Formatter<W>) -> fmt::Result {
@@ -154,6 +158,7 @@ impl fmt::Display for CaptureError {
 impl Error for CaptureError {}
 
 impl From<ReadError> for CaptureError {
+    // The result is `Read` with the error.
     ghost from_gives = { λ error e. e ≡ Read error };
 
     fn from(error: ReadError) -> CaptureError {
@@ -162,6 +167,7 @@ impl From<ReadError> for CaptureError {
 }
 
 impl From<AllocError> for CaptureError {
+    // The result is `Memory`.
     ghost from_gives = { λ _ e. e ≡ Memory };
 
     fn from(_e: AllocError) -> CaptureError {
@@ -179,10 +185,11 @@ pub enum ByteOrder {
 }
 
 impl ByteOrder {
-    /// Returns the `u16` at an offset.
-    pub(crate) fn short_at(self, bytes: &[u8], offset: usize) -> u16
+    /// Returns the `u16` at an offset, in this byte order. Both of its bytes must be present.
+    pub(crate) fn u16_at(self, bytes: &[u8], offset: usize) -> u16
         requires { offset + 2 ≤ length bytes.now }
-        ensures { result ≡ number_at_offset self 2 offset bytes.now }
+        // On the right is the definition of the same name.
+        ensures { result ≡ u16_at self offset bytes.now }
     {
         match self {
             ByteOrder::LittleEndian => LittleEndian::read_u16(&bytes[offset..]),
@@ -190,10 +197,11 @@ impl ByteOrder {
         }
     }
 
-    /// Returns the `u32` at an offset.
-    pub(crate) fn word_at(self, bytes: &[u8], offset: usize) -> u32
+    /// Returns the `u32` at an offset, in this byte order. All four bytes must be present.
+    pub(crate) fn u32_at(self, bytes: &[u8], offset: usize) -> u32
         requires { offset + 4 ≤ length bytes.now }
-        ensures { result ≡ number_at_offset self 4 offset bytes.now }
+        // On the right is the definition of the same name.
+        ensures { result ≡ u32_at self offset bytes.now }
     {
         match self {
             ByteOrder::LittleEndian => LittleEndian::read_u32(&bytes[offset..]),
@@ -202,17 +210,16 @@ impl ByteOrder {
     }
 
     /// Returns the byte order in which the first four bytes are a magic number of pcap. Returns
-    /// `None` if neither order has one.
+    /// `None` if they are one in neither order.
     pub(crate) fn find(bytes: &[u8]) -> Option<ByteOrder>
         requires { 4 ≤ length bytes.now }
-        ensures { MatchOption result
-            (¬ IsPcapMagic (number_at_offset ByteOrder.BigEndian 4 0 bytes.now)
-            × ¬ IsPcapMagic (number_at_offset ByteOrder.LittleEndian 4 0 bytes.now))
-            (λ order. IsPcapMagic (number_at_offset order 4 0 bytes.now)) }
+        // `HasNoPcapMagic bytes`: no magic number in either order. `HasPcapMagic bytes order`: one
+        // in this order.
+        ensures { MatchOption result (HasNoPcapMagic bytes.now) (HasPcapMagic bytes.now) }
     {
-        if is_magic(ByteOrder::LittleEndian.word_at(bytes, 0)) {
+        if is_magic(ByteOrder::LittleEndian.u32_at(bytes, 0)) {
             Some(ByteOrder::LittleEndian)
-        } else if is_magic(ByteOrder::BigEndian.word_at(bytes, 0)) {
+        } else if is_magic(ByteOrder::BigEndian.u32_at(bytes, 0)) {
             Some(ByteOrder::BigEndian)
         } else {
             None
@@ -220,17 +227,19 @@ impl ByteOrder {
     }
 }
 
-/// Returns whether the number is a magic number of pcap.
+/// Returns whether the number is a magic number of pcap (`IsPcapMagic`), for microseconds or for
+/// nanoseconds.
 fn is_magic(number: u32) -> bool
     ensures { IsTrue result ↔ IsPcapMagic number }
 {
-    number == MICROSECONDS || number == NANOSECONDS
+    number == MAGIC_MICROSECONDS || number == MAGIC_NANOSECONDS
 }
 
-/// Returns the error of a file that is not a pcap file. `magic` has its first four bytes, as a
-/// big-endian number.
+/// Returns the error of a file that is not a capture: `Compressed` if it begins as a compressed
+/// file does, else `NoCapture`. `magic` has its first four bytes, as a big-endian number.
 pub(crate) fn no_capture(magic: u32) -> CaptureError
-    ensures { IsMagicError magic result }
+    // `IsNoCaptureError magic error`: this is the error of a file that begins so.
+    ensures { IsNoCaptureError magic result }
 {
     match Compression::find(magic) {
         Some(compression) => CaptureError::Compressed(compression),
@@ -247,12 +256,14 @@ pub enum TimeUnit {
     Nanoseconds,
 }
 
-/// Returns the unit that belongs to a magic number.
+/// Returns the unit that belongs to a magic number: nanoseconds for `MAGIC_NANOSECONDS`, else
+/// microseconds.
 fn unit_of(magic: u32) -> TimeUnit
+    // On the right is the definition of the same name.
     ensures { result ≡ unit_of magic }
 {
     match magic {
-        NANOSECONDS => TimeUnit::Nanoseconds,
+        MAGIC_NANOSECONDS => TimeUnit::Nanoseconds,
         _ => TimeUnit::Microseconds,
     }
 }
@@ -289,21 +300,23 @@ impl FileHeader {
     /// `NoCapture`; if the major version is not 2, `OtherVersion`; if the link type is not 253,
     /// `OtherLinkType`.
     pub fn parse(bytes: &[u8]) -> Result<FileHeader, CaptureError>
-        requires { 24 ≤ length bytes.now }
+        requires { FILE_HEADER_LEN ≤ length bytes.now }
+        // `IsFileHeader bytes header`: the bytes begin with this file header.
+        // `IsFileHeaderError bytes error`: they do not, and this is their first error.
         ensures { MatchResult result (IsFileHeader bytes.now) (IsFileHeaderError bytes.now) }
     {
         let Some(order) = ByteOrder::find(bytes) else {
-            return Err(no_capture(ByteOrder::BigEndian.word_at(bytes, 0)));
+            return Err(no_capture(ByteOrder::BigEndian.u32_at(bytes, 0)));
         };
-        let version = order.short_at(bytes, 4);
+        let version = order.u16_at(bytes, 4);
         if version != MAJOR_VERSION {
             return Err(CaptureError::OtherVersion(version));
         }
-        let link_type = order.word_at(bytes, 20) % LINK_TYPES;
-        if link_type != LINK_TYPE {
+        let link_type = order.u32_at(bytes, 20) % LINK_TYPES;
+        if link_type != LINKTYPE_NETLINK {
             return Err(CaptureError::OtherLinkType(link_type));
         }
-        let unit = unit_of(order.word_at(bytes, 0));
+        let unit = unit_of(order.u32_at(bytes, 0));
         Ok(FileHeader { order, unit })
     }
 
@@ -314,35 +327,41 @@ impl FileHeader {
     /// Fails with `Truncated` if the input ends within the packet header or the bytes of the
     /// packet, with `Read` if a read failed, with `AnotherCapture` if another pcap file begins in
     /// place of the packet header, with `PacketTooLong` if the captured length is greater than
-    /// `MOST_OF_PACKET`, and with `Memory` if an allocation failed. At the end of the input and
+    /// `MAX_PACKET_LEN`, and with `Memory` if an allocation failed. At the end of the input and
     /// after an error, the content of `packet` is not specified.
     ///
-    /// Allocates only for the bytes of the packet, and never for more than `MOST_OF_PACKET` bytes.
+    /// Allocates only for the bytes of the packet, and never for more than `MAX_PACKET_LEN` bytes.
     pub fn read_packet<R: Source>(
         &self,
         input: &mut R,
         packet: &mut Vec<u8>,
     ) -> Result<Option<PacketHeader>, CaptureError>
-        // R.left: the remaining bytes, if known. Keeps: they are unchanged.
+        // `R.left`: the remaining bytes, if known. `Keeps old new`: they are unchanged.
+        // `Consumes old new bytes`: these bytes were read. `fields`: the returned fields of the
+        // packet header. `header`: its bytes. `IsPacketRecord file header packet`: these bytes are
+        // the header of the packet, here of the one with the bytes in `packet` and with `fields`
+        // (`captured_packet bytes fields`).
         ensures read { IfOk result (λ found. MatchOption found
             (IsAtEnd (R.left input.new) × Keeps (R.left input.old) (R.left input.new))
-            (λ told_header. (header : List ℕ)
-            × IsPacketRecord self.now header (captured_packet packet.new.items told_header)
+            (λ fields. (header : List ℕ)
+            × IsPacketRecord self.now header (captured_packet packet.new.items fields)
             × Consumes (R.left input.old) (R.left input.new) (header ++ packet.new.items))) }
-        // R.failed: a read has failed with this error. part: the bytes that were read.
+        // `IsPacketStop file left failed part e`: `e` is the reason why no packet was read, after
+        // the bytes `part`. `left`: the remaining bytes, if known. `R.failed`: a read has failed
+        // with this error.
         ensures stopped { IfErr result (λ e. (part : List ℕ)
             × Consumes (R.left input.old) (R.left input.new) part
             × IsPacketStop self.now (R.left input.new) (R.failed input.new) part e) }
     {
-        let mut header = [0u8; RECORD_HEADER];
+        let mut header = [0u8; PACKET_HEADER_LEN];
         if !fill_or_end(input, &mut header)? {
             return Ok(None);
         }
         if self.begins_capture(&header) {
             return Err(CaptureError::AnotherCapture);
         }
-        let length = self.order.word_at(&header, 8);
-        if length > MOST_OF_PACKET {
+        let length = self.order.u32_at(&header, 8);
+        if length > MAX_PACKET_LEN {
             return Err(CaptureError::PacketTooLong(length));
         }
         match read_bytes(input, packet, length as usize) {
@@ -355,73 +374,90 @@ impl FileHeader {
     /// a magic number in either byte order at 0, and 0 at 8, where a file header has its time zone
     /// and a packet header its captured length.
     fn begins_capture(&self, bytes: &[u8]) -> bool
-        requires { 16 ≤ length bytes.now }
+        requires { PACKET_HEADER_LEN ≤ length bytes.now }
+        // `BeginsCapture file bytes`: the bytes begin another pcap file.
         ensures { IsTrue result ↔ BeginsCapture self.now bytes.now }
     {
-        self.order.word_at(bytes, 8) == 0 && ByteOrder::find(bytes).is_some()
+        self.order.u32_at(bytes, 8) == 0 && ByteOrder::find(bytes).is_some()
     }
 
-    /// Returns the fields of the packet header in the first 16 bytes.
+    /// Returns the fields of the packet header in the first 16 bytes, except the captured length.
     fn packet_header(&self, bytes: &[u8]) -> PacketHeader
-        requires { 16 ≤ length bytes.now }
+        requires { PACKET_HEADER_LEN ≤ length bytes.now }
+        // `packet_header_fields file bytes`: these fields, in the byte order and unit of the file.
         ensures { result ≡ packet_header_fields self.now bytes.now }
     {
         PacketHeader {
-            seconds: self.order.word_at(bytes, 0),
-            fraction: self.order.word_at(bytes, 4),
+            seconds: self.order.u32_at(bytes, 0),
+            fraction: self.order.u32_at(bytes, 4),
             unit: self.unit,
-            whole_length: self.order.word_at(bytes, 12),
+            whole_length: self.order.u32_at(bytes, 12),
         }
     }
 }
 
-/// Reads `count` bytes into `packet`, whose former content is dropped.
+/// Reads `count` bytes into `bytes`, whose former content is dropped. Fails with `Memory` if an
+/// allocation failed, with `Truncated` if the input ends before, and with `Read` if a read failed.
 pub(crate) fn read_bytes<R: Source>(
     input: &mut R,
-    packet: &mut Vec<u8>,
+    bytes: &mut Vec<u8>,
     count: usize,
 ) -> Result<(), CaptureError>
-    ensures read { OnOk result ((length packet.new.items ≡ count)
-        × Consumes (R.left input.old) (R.left input.new) packet.new.items) }
+    // `R.left`: the remaining bytes, if known. `Consumes old new bytes`: these bytes were read.
+    ensures read { OnOk result ((length bytes.new.items ≡ count)
+        × Consumes (R.left input.old) (R.left input.new) bytes.new.items) }
+    // `part`: the bytes that were read: none, since an allocation failed; or fewer than `count`,
+    // since the input is at its end or a read failed (`IsReadStop left failed e`).
     ensures stopped { IfErr result (λ e. (part : List ℕ)
         × Consumes (R.left input.old) (R.left input.new) part
         × (((e ≡ Memory) × (part ≡ []))
         ⊎ ((length part < count) × IsReadStop (R.left input.new) (R.failed input.new) e))) }
 {
-    packet.clear();
-    packet.resize(count, 0)?;
-    fill(input, packet.as_mut_slice())
+    bytes.clear();
+    bytes.resize(count, 0)?;
+    fill(input, bytes.as_mut_slice())
 }
 
-/// Reads until `bytes` is full. Does not retry a failed read.
+/// Reads until `bytes` is full. Fails with `Truncated` if the input ends before, and with `Read` if
+/// a read failed, which is not retried.
 pub(crate) fn fill<R: Source>(input: &mut R, bytes: &mut [u8]) -> Result<(), CaptureError>
+    // `R.left`: the remaining bytes, if known. `Consumes old new bytes`: these bytes were read.
+    // `part`: the bytes that were read. `IsReadStop left failed e`: then the input is at its end,
+    // or a read failed.
     ensures filled { OnOk result (Consumes (R.left input.old) (R.left input.new) bytes.new) }
     ensures stopped { IfErr result (λ e. (part : List ℕ) × (length part < length bytes.old)
         × Consumes (R.left input.old) (R.left input.new) part
         × IsReadStop (R.left input.new) (R.failed input.new) e) }
 {
-    let mut at = 0;
-    'reads: while at < bytes.len() {
-        match input.read_some(&mut bytes[at..])? {
+    let mut filled_len = 0;
+    'reads: while filled_len < bytes.len() {
+        match input.read_some(&mut bytes[filled_len..])? {
+            // The slice is not empty, so this is the end of the input.
             0 => return Err(CaptureError::Truncated),
-            count => at += count,
+            count => filled_len += count,
         }
     }
     Ok(())
 }
 
 /// Reads until `bytes` is full, and returns true. Returns false if the input is at its end before
-/// the first byte. `bytes` must not be empty.
+/// the first byte. Fails with `Truncated` if the input ends after it, and with `Read` if a read
+/// failed. `bytes` must not be empty.
 pub(crate) fn fill_or_end<R: Source>(input: &mut R, bytes: &mut [u8]) -> Result<bool, CaptureError>
     requires { 0 < length bytes.old }
+    // `R.left`: the remaining bytes, if known. `Consumes old new bytes`: these bytes were read.
+    // `Keeps old new`: none were read.
     ensures filled { IfOk result (λ is_filled. MatchBool is_filled
         (Consumes (R.left input.old) (R.left input.new) bytes.new)
         (IsAtEnd (R.left input.new) × Keeps (R.left input.old) (R.left input.new))) }
+    // `part`: the bytes that were read. If the error is `Truncated`, there is at least one.
+    // `IsReadStop left failed e`: then the input is at its end, or a read failed.
     ensures stopped { IfErr result (λ e. (part : List ℕ) × (length part < length bytes.old)
         × (e ≡ CaptureError.Truncated → 0 < length part)
         × Consumes (R.left input.old) (R.left input.new) part
         × IsReadStop (R.left input.new) (R.failed input.new) e) }
 {
+    // One byte first: the input may end before it, but not after it.
     let (first, rest) = bytes.split_at_mut(1);
     if input.read_some(first)? == 0 {
         return Ok(false);
@@ -449,15 +485,16 @@ impl<'a> Packet<'a> {
     /// at offset 14 is 4, both big-endian `u16`. Returns `Other` if they are not, and `Short` if
     /// there are fewer than 16 bytes.
     pub fn parse(bytes: &'a [u8]) -> Packet<'a>
+        // `IsPacketOf bytes packet`: this is the content of a packet of these bytes.
         ensures { IsPacketOf bytes.entry.now result }
     {
-        if bytes.len() < COOKED_HEADER {
+        if bytes.len() < COOKED_HEADER_LEN {
             return Packet::Short;
         }
-        if BigEndian::read_u16(&bytes[2..]) == HARDWARE_TYPE
-            && BigEndian::read_u16(&bytes[14..]) == SOCK_DIAG
+        if BigEndian::read_u16(&bytes[2..]) == ARPHRD_NETLINK
+            && BigEndian::read_u16(&bytes[14..]) == NETLINK_SOCK_DIAG
         {
-            Packet::SockDiag(&bytes[COOKED_HEADER..])
+            Packet::SockDiag(&bytes[COOKED_HEADER_LEN..])
         } else {
             Packet::Other
         }

@@ -6,15 +6,16 @@ ghost use Rattle.std.specs.Io.KnownBytes.{Consumes, IsAtEnd};
 ghost use Rattle.netlink_captures.specs.Capture.{IsFileHeader, IsFileHeaderError, captured_packet};
 ghost use Rattle.netlink_captures.specs.Pcapng.{IsBlockStop, is_section_header, position_of};
 ghost use Rattle.netlink_captures.specs.Pcapng.{start_of_file};
-ghost use Rattle.netlink_captures.specs.Reader.{HasMagic, HasNoMagic, IsEarlyReadStop};
+ghost use Rattle.netlink_captures.specs.Reader.{HasMagic, IsRejectedByMagic, IsEarlyReadStop};
 ghost use Rattle.netlink_captures.specs.Reader.{IsCaptureEnd, IsCaptureStart, IsCaptureStartStop};
 ghost use Rattle.netlink_captures.specs.Reader.{IsCaptureStop, ReadsPacket, in_pcapng, state_of};
 ghost use Rattle.netlink_captures.specs.private.Capture.{IsReadStop};
 
 use crate::captures::{
-    ByteOrder, CaptureError, FILE_HEADER, FileHeader, PacketHeader, fill, fill_or_end, no_capture,
+    ByteOrder, CaptureError, FILE_HEADER_LEN, FileHeader, PacketHeader, fill, fill_or_end,
+    no_capture,
 };
-use crate::pcapng::{BLOCK_HEADER, PcapngReader, is_section_header};
+use crate::pcapng::{MIN_BLOCK_LEN, PcapngReader, is_section_header};
 use program_streams::Source;
 use std::alloc::Global;
 
@@ -28,21 +29,30 @@ pub enum CaptureReader {
     Pcapng(PcapngReader),
 }
 
-/// Checks that the first four bytes are a known magic number.
+/// Checks that the first four bytes are a known magic number. Fails with `Compressed` or
+/// `NoCapture` if they are not.
 fn check_magic(bytes: &[u8]) -> Result<(), CaptureError>
     requires { 4 ≤ length bytes.now }
-    ensures { MatchResult result (λ _. HasMagic bytes.now) (λ e. HasNoMagic bytes.now e) }
+    // `HasMagic bytes`: they begin as a pcapng file does, or with a magic number of pcap in either
+    // byte order. `IsRejectedByMagic bytes error`: they do not, and this is their error.
+    ensures { MatchResult result (λ _. HasMagic bytes.now) (IsRejectedByMagic bytes.now) }
 {
     if is_section_header(bytes) || ByteOrder::find(bytes).is_some() {
         Ok(())
     } else {
-        Err(no_capture(ByteOrder::BigEndian.word_at(bytes, 0)))
+        Err(no_capture(ByteOrder::BigEndian.u32_at(bytes, 0)))
     }
 }
 
-/// Reads the first four bytes of a capture, a known magic number.
+/// Reads the first four bytes of a capture into `magic`, and checks that they are a known magic
+/// number. Fails with `Empty`, `TooShort`, `Compressed`, `NoCapture` or `Read`, as
+/// `CaptureReader::open` does for these bytes.
 fn read_magic<R: Source>(input: &mut R, magic: &mut [u8]) -> Result<(), CaptureError>
     requires { length magic.old ≡ 4 }
+    // `R.left`: the remaining bytes, if known. `R.failed`: a read has failed with this error.
+    // `Consumes old new bytes`: these bytes were read. `part`: the bytes that were read.
+    // `HasMagic bytes`: they begin with a known magic number. `IsEarlyReadStop left failed part e`:
+    // `e` is the reason why reading stopped after the bytes `part`.
     ensures read { OnOk result (HasMagic magic.new
         × Consumes (R.left input.old) (R.left input.new) magic.new) }
     ensures stopped { IfErr result (λ e. (part : List ℕ) × (length part ≤ 4)
@@ -52,17 +62,24 @@ fn read_magic<R: Source>(input: &mut R, magic: &mut [u8]) -> Result<(), CaptureE
     match fill_or_end(input, magic) {
         Ok(true) => check_magic(magic),
         Ok(false) => Err(CaptureError::Empty),
+        // One to three bytes: `fill_or_end` fails so only after the first byte.
         Err(CaptureError::Truncated) => Err(CaptureError::TooShort),
         Err(error) => Err(error),
     }
 }
 
-/// Reads the first 12 bytes of a capture, which begin with a known magic number.
+/// Reads the first 12 bytes of a capture into `head`, and checks that they begin with a known magic
+/// number. These are as many as the shortest block of a pcapng file has, and half of the file
+/// header of a pcap file. Fails as `CaptureReader::open` does for these bytes.
 fn read_head<R: Source>(input: &mut R, head: &mut [u8]) -> Result<(), CaptureError>
-    requires { length head.old ≡ 12 }
+    requires { length head.old ≡ MIN_BLOCK_LEN }
+    // `R.left`: the remaining bytes, if known. `R.failed`: a read has failed with this error.
+    // `Consumes old new bytes`: these bytes were read. `part`: the bytes that were read.
+    // `HasMagic bytes`: they begin with a known magic number. `IsEarlyReadStop left failed part e`:
+    // `e` is the reason why reading stopped after the bytes `part`.
     ensures read { OnOk result (HasMagic head.new
         × Consumes (R.left input.old) (R.left input.new) head.new) }
-    ensures stopped { IfErr result (λ e. (part : List ℕ) × (length part < 12)
+    ensures stopped { IfErr result (λ e. (part : List ℕ) × (length part < MIN_BLOCK_LEN)
         × Consumes (R.left input.old) (R.left input.new) part
         × IsEarlyReadStop (R.left input.new) (R.failed input.new) part e) }
 {
@@ -71,9 +88,17 @@ fn read_head<R: Source>(input: &mut R, head: &mut [u8]) -> Result<(), CaptureErr
     fill(input, rest)
 }
 
-/// Reads the rest of the file header of a pcap file. `head` has its first 12 bytes.
+/// Reads the rest of the file header of a pcap file, 12 bytes. `head` has its first 12 bytes. Fails
+/// with `Truncated` if the input ends before, with `Read` if a read failed, or else with the error
+/// of `FileHeader::parse`.
 fn open_pcap<R: Source>(head: &[u8], input: &mut R) -> Result<FileHeader, CaptureError>
-    requires { length head.now ≡ 12 }
+    requires { length head.now ≡ MIN_BLOCK_LEN }
+    // `R.left`: the remaining bytes, if known. `R.failed`: a read has failed with this error.
+    // `more`, `part`: the bytes that were read (`Consumes old new bytes`).
+    // `IsFileHeader bytes header`: the bytes begin with this file header.
+    // `IsReadStop left failed e`: the input is at its end or a read failed, before 12 bytes were
+    // read. `IsFileHeaderError bytes e`: all 24 bytes were read, and are not a file header, for
+    // this reason.
     ensures read { IfOk result (λ file. (more : List ℕ) × (length more ≡ 12)
         × IsFileHeader (head.now ++ more) file
         × Consumes (R.left input.old) (R.left input.new) more) }
@@ -83,8 +108,8 @@ fn open_pcap<R: Source>(head: &[u8], input: &mut R) -> Result<FileHeader, Captur
         × IsReadStop (R.left input.new) (R.failed input.new) e)
         ⊎ ((length part ≡ 12) × IsFileHeaderError (head.now ++ part) e))) }
 {
-    let mut bytes = [0u8; FILE_HEADER];
-    let (first, rest) = bytes.split_at_mut(BLOCK_HEADER);
+    let mut bytes = [0u8; FILE_HEADER_LEN];
+    let (first, rest) = bytes.split_at_mut(MIN_BLOCK_LEN);
     first.copy_from_slice(head);
     fill(input, rest)?;
     FileHeader::parse(&bytes)
@@ -101,16 +126,18 @@ impl CaptureReader {
     /// `FileHeader::parse`. If a pcapng file begins with an invalid block, fails with `Block`, and
     /// if an allocation failed, with `Memory`.
     pub fn open<R: Source>(alloc: Global, input: &mut R) -> Result<CaptureReader, CaptureError>
-        // R.left: the remaining bytes, if known.
+        // `R.left`: the remaining bytes, if known. `Consumes old new bytes`: these bytes were read.
+        // `IsCaptureStart bytes state`: a capture begins with them, and the reader has this state.
         ensures read { IfOk result (λ reader. (bytes : List ℕ)
             × IsCaptureStart bytes (state_of reader)
             × Consumes (R.left input.old) (R.left input.new) bytes) }
-        // R.failed: a read has failed with this error. part: the bytes that were read.
+        // `IsCaptureStartStop left failed part e`: `e` is the reason why no capture was opened,
+        // after the bytes `part`. `R.failed`: a read has failed with this error.
         ensures stopped { IfErr result (λ e. (part : List ℕ)
             × Consumes (R.left input.old) (R.left input.new) part
             × IsCaptureStartStop (R.left input.new) (R.failed input.new) part e) }
     {
-        let mut head = [0u8; BLOCK_HEADER];
+        let mut head = [0u8; MIN_BLOCK_LEN];
         read_head(input, &mut head)?;
         if is_section_header(&head) {
             match PcapngReader::open(alloc, &head, input) {
@@ -132,27 +159,34 @@ impl CaptureReader {
     /// A pcap file has packets only, see `FileHeader::read_packet`. In a pcapng file, blocks
     /// without a packet are skipped. Fails with `Truncated` if the input ends within a packet or a
     /// block, with `Read` if a read failed, with `PacketTooLong` if the captured length is greater
-    /// than `MOST_OF_PACKET`, and with `Memory` if an allocation failed. If another pcap file
+    /// than `MAX_PACKET_LEN`, and with `Memory` if an allocation failed. If another pcap file
     /// begins in place of a packet of a pcap file, fails with `AnotherCapture`. If a block of a
     /// pcapng file is invalid, fails with `Block`, and if a packet has another link type than 253,
     /// with `OtherLinkType`. At the end of the input and after an error, the content of `packet` is
     /// not specified, and after an error neither is the state of the reader.
     ///
     /// Stores at most the bytes of the packet and, of a pcapng file, the last block, of at most
-    /// `MOST_OF_BLOCK` bytes, and the interfaces of the section, at most `MOST_INTERFACES`.
+    /// `MAX_BLOCK_LEN` bytes, and the interfaces of the section, at most `MAX_INTERFACES`.
     pub fn read_packet<R: Source>(
         &mut self,
         input: &mut R,
         packet: &mut Vec<u8>,
     ) -> Result<Option<PacketHeader>, CaptureError>
-        // R.left: the remaining bytes, if known. bytes: the bytes that were read.
+        // `R.left`: the remaining bytes, if known. `bytes`: the bytes that were read
+        // (`Consumes old new bytes`). `state_of reader`: the file header of a pcap file, or the
+        // position in a pcapng file. If there is no packet, the bytes are the rest of the input,
+        // and contain none (`IsCaptureEnd`). Else they lead over one packet, with the bytes in
+        // `packet` and the returned header (`captured_packet`), to the new state of the reader
+        // (`ReadsPacket`).
         ensures read { IfOk result (λ found. (bytes : List ℕ)
             × Consumes (R.left input.old) (R.left input.new) bytes
             × MatchOption found
             (IsAtEnd (R.left input.new) × IsCaptureEnd (state_of self.old) bytes)
             (λ header. ReadsPacket (state_of self.old) bytes
             (captured_packet packet.new.items header) (state_of self.new))) }
-        // R.failed: a read has failed with this error. part: the bytes that were read.
+        // `IsCaptureStop state left failed part e`: `e` is the reason why no packet was read after
+        // the state. `R.failed`: a read has failed with this error. `part`: the bytes that were
+        // read.
         ensures stopped { IfErr result (λ e. (part : List ℕ)
             × Consumes (R.left input.old) (R.left input.new) part
             × IsCaptureStop (state_of self.old) (R.left input.new) (R.failed input.new) part e) }

@@ -7,7 +7,8 @@ use Rattle.netlink_captures.specs.declared.captures.CaptureError.TheVariants.{Tr
 
 -- `IsReadStop left failed e`: `e` is the reason why reading stopped. The input is at its end
 -- (Truncated), or a read failed (Read). `left` are the remaining bytes, if known. `failed error`
--- states that a read failed with this error.
+-- states that a read failed with this error. Other errors are not possible (`⊥`). Unlike
+-- `IsInputStop`, this says nothing of the bytes that were read before.
 abbrev pub IsReadStop : Option (List ℕ) → (ReadError → Type 0) → CaptureError → Type 0
 IsReadStop left failed Truncated = IsAtEnd left
 IsReadStop left failed (Read error) = failed error

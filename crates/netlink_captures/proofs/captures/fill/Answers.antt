@@ -26,7 +26,7 @@ slice_range-put_mid a k n xs ys within fits =
 
 pub reads-preserved : goal.reads-preserved
 reads-preserved g c =
-    let from = c.reads.at in
+    let from = c.reads.filled_len in
     let room = length c.reads.bytes - from in
     let within = c.reads.invariant.1 in
     let part = slice_range-put_mid from room c.in_ok-count.count c.reads.bytes c.read_some.new.bytes
@@ -47,9 +47,9 @@ returns-in-0-clause-stopped g c =
     let none = subst (λ n. Consumes (g.R.Source.left c.reads.input)
     (g.R.Source.left c.read_some.new.self) (take n c.read_some.new.bytes))
     c.in-0.is got.0 in (
-      take c.reads.at c.reads.bytes,
-      omega (arith, length-take-le c.reads.at c.reads.bytes c.reads.invariant.1),
-      subst (Consumes _ _) (append-nil (take c.reads.at c.reads.bytes))
+      take c.reads.filled_len c.reads.bytes,
+      omega (arith, length-take-le c.reads.filled_len c.reads.bytes c.reads.invariant.1),
+      subst (Consumes _ _) (append-nil (take c.reads.filled_len c.reads.bytes))
           (Consumes-trans _ _ _ _ _ c.reads.invariant.2 none),
       got.1 c.in-0.is (omega arith),
     )

@@ -5,8 +5,9 @@ use Rattle.netlink_captures.proofs.captures.fill.Given as goal
 -- the bytes that are filled so far are those that were read
 abbrev pub invariant-reads : goal.invariant-reads
 invariant-reads g l =
-    (length l.bytes ≡ length l.initial.bytes) × (l.at ≤ length l.bytes)
-    × Consumes (g.R.Source.left l.initial.input) (g.R.Source.left l.input) (take l.at l.bytes)
+    (length l.bytes ≡ length l.initial.bytes) × (l.filled_len ≤ length l.bytes)
+    × Consumes (g.R.Source.left l.initial.input) (g.R.Source.left l.input)
+    (take l.filled_len l.bytes)
 
 abbrev pub decreases-reads : goal.decreases-reads
-decreases-reads g l = length l.bytes - l.at
+decreases-reads g l = length l.bytes - l.filled_len

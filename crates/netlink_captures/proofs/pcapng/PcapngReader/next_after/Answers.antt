@@ -1,7 +1,7 @@
 use Rattle.std.proofs.Common.{◌∙◌, arith, ap, inl, inr, length, length-append}
 use Rattle.std.proofs.lemmas.Result.{err_from_is_err_and}
 use Rattle.netlink_captures.specs.Pcapng.{Position, position_of}
-use Rattle.netlink_captures.proofs.PcapngLemmas.{frame_fits, has_frame-append, moved_over}
+use Rattle.netlink_captures.proofs.PcapngLemmas.{length_fits, has_checked_order-append, moved_over}
 use Rattle.netlink_captures.proofs.PcapngLemmas.{stop_after_head}
 use Rattle.netlink_captures.proofs.PcapngLemmas.{stop_at_content}
 use Rattle.netlink_captures.proofs.pcapng.PcapngReader.next_after.Goals as goal
@@ -38,7 +38,7 @@ returns-in_err-advance-clause-stopped g c =
       read,
       inr (inl (
         omega (arith, c.requires, length-append head rest),
-        has_frame-append (position_of c.args.self.now) head rest (omega (arith, c.requires))
+        has_checked_order-append (position_of c.args.self.now) head rest (omega (arith, c.requires))
             (c.in_ok-order.order, frame),
         p.2,
       )),
@@ -47,7 +47,8 @@ returns-in_err-advance-clause-stopped g c =
 pub advance-requires : goal.advance-requires
 advance-requires g c =
     let (frame, count, stored, read) = c.in_ok-order.ensures.read in
-    let fits = frame_fits (position_of c.args.self.now) c.args.head.now c.in_ok-order.order frame in
+    let fits = length_fits (position_of c.args.self.now) c.args.head.now c.in_ok-order.order frame
+    in
     let kept = ap (λ (p : Position). p.offset) c.in_ok-order.ensures.kept in
     omega (
       arith,

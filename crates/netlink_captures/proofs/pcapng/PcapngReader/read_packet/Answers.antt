@@ -3,8 +3,8 @@ use Rattle.std.specs.List.{concat}
 use Rattle.std.specs.Io.KnownBytes.{Consumes}
 use Rattle.std.proofs.KnownBytes.{Consumes-kept, Consumes-trans}
 use Rattle.std.proofs.lemmas.Result.{err_from_is_err_and}
-use Rattle.netlink_captures.specs.Pcapng.{AreSkipped, Position, position_of}
-use Rattle.netlink_captures.proofs.PcapngLemmas.{concat_push, frame_fits, no_packet, none_found}
+use Rattle.netlink_captures.specs.Pcapng.{AreSkipped, Position, block_at, position_of}
+use Rattle.netlink_captures.proofs.PcapngLemmas.{concat_push, length_fits, no_packet, none_found}
 use Rattle.netlink_captures.proofs.PcapngLemmas.{skipped_push}
 use Rattle.netlink_captures.proofs.pcapng.PcapngReader.read_packet.Goals as goal
 
@@ -18,8 +18,8 @@ returns-in_err-content-clause-stopped g c =
       Consumes-trans _ _ _ _ _ read more,
       record {
         blocks = blocks;
-        mid = position_of c.steps.self;
-        rest = part;
+        position' = position_of c.steps.self;
+        part = part;
         skipped = skipped;
         parts = refl;
         stopped = stop;
@@ -37,11 +37,11 @@ returns-in_err-copy_packet-clause-stopped g c =
       Consumes-trans _ _ _ _ _ read more,
       record {
         blocks = blocks;
-        mid = position_of c.steps.self;
-        rest = c.next.new.self.block.items;
+        position' = position_of c.steps.self;
+        part = c.next.new.self.block.items;
         skipped = skipped;
         parts = refl;
-        stopped = inr (inl (moves.1.framed.long, (moves.0, moves.1.framed.frame), p.2));
+        stopped = inr (inl (moves.1.is_whole.long, (moves.0, moves.1.is_whole.ordered), p.2));
       },
     )
 
@@ -53,9 +53,7 @@ returns-in-Captured-clause-read g c =
       Consumes-trans _ _ _ _ _ read more,
       record {
         blocks = blocks;
-        mid = position_of c.steps.self;
-        block = c.next.new.self.block.items;
-        order = moves.0;
+        block = block_at (position_of c.steps.self) moves.0 c.next.new.self.block.items;
         slot = c.in-Captured.slot;
         skipped = skipped;
         found = moves.1;
@@ -71,10 +69,10 @@ steps-smaller g c =
     omega (
       arith,
       ap (λ (p : Position). p.offset) moves.2,
-      moves.1.framed.long,
-      moves.1.framed.whole,
-      frame_fits (position_of c.steps.self) c.next.new.self.block.items moves.0
-          moves.1.framed.frame,
+      moves.1.is_whole.long,
+      moves.1.is_whole.whole,
+      length_fits (position_of c.steps.self) c.next.new.self.block.items moves.0
+          moves.1.is_whole.ordered,
     )
 
 pub steps-preserved : goal.steps-preserved
