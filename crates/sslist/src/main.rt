@@ -14,19 +14,22 @@ use std::process::ExitCode;
 use std::rt::Env;
 use std::{env, str};
 
+/// Exit status if the command line is rejected.
+const USAGE_ERROR: u8 = 2;
+
 /// Greatest length in bytes of an argument that Linux passes to a program (`MAX_ARG_STRLEN`).
 const LONGEST_ARGUMENT: usize = 131_072;
 
-/// What follows the error about a word of a filter of ss(8) that is not the name of a file.
+/// Text after the error about a file that cannot be opened, if its name may be a filter of ss(8).
 const FILTER_HINT: &str = "; a filter is written --state=STATE, --sport=PORT or --src=ADDRESS";
 
 fn main(rt: HostRuntime) -> ExitCode {
     let mut arguments = match env::args(&rt) {
         Ok(arguments) => arguments,
         Err(error) if error.kind() == ErrorKind::OutOfMemory => return out_of_memory(&rt),
-        Err(_) => return reject_bytes(&rt),
+        Err(_) => return reject_invalid_utf8(&rt),
     };
-    let _program = arguments.next();
+    let _program_name = arguments.next();
     match arguments.collect::<Vec<String>>(rt.alloc()) {
         Ok(arguments) => answer(&rt, arguments.as_slice()),
         Err(_) => out_of_memory(&rt),
@@ -44,7 +47,7 @@ fn answer(rt: &HostRuntime, arguments: &[String]) -> ExitCode {
         Choice::Reject(reason, argument) => reject(rt, reason, argument),
         Choice::MissingFamily => {
             let _ = rt.eprintln("sslist: -f without a family; try sslist --help");
-            ExitCode::from(2)
+            ExitCode::from(USAGE_ERROR)
         }
         Choice::Captures(options) => {
             let has_captions = names_several(arguments);
@@ -68,13 +71,14 @@ struct Lister<'a> {
 }
 
 impl ListCapture for Lister<'_> {
+    // The captures that were listed are not recorded: any list is possible.
     ghost listed = { λ _ _. ⊤ };
 
     fn list_capture(&mut self, name: Option<&str>) -> ExitCode {
-        let caption = match name {
-            _ if !self.has_captions => None,
-            Some(name) => Some(name),
-            None => Some("-"),
+        let caption = if self.has_captions {
+            Some(name.unwrap_or("-"))
+        } else {
+            None
         };
         let Ok(heading) = heading(self.rt.alloc(), self.options, caption) else {
             return out_of_memory(self.rt);
@@ -97,11 +101,7 @@ fn list_file(rt: &HostRuntime, options: Options, name: &str, heading: &[u8]) -> 
     match File::open(rt, name) {
         Ok(file) => list(rt, options, front.as_str(), heading, file),
         Err(error) => {
-            let hint = if is_filter_word(name) {
-                FILTER_HINT
-            } else {
-                ""
-            };
+            let hint = if may_be_filter(name) { FILTER_HINT } else { "" };
             let _ = eprintln!(rt; "{front}{error}{hint}");
             ExitCode::FAILURE
         }
@@ -110,14 +110,14 @@ fn list_file(rt: &HostRuntime, options: Options, name: &str, heading: &[u8]) -> 
 
 /// Returns whether a name that is no file may be a part of a filter of ss(8): it contains `=`, or
 /// its first word is the name of a condition.
-fn is_filter_word(name: &str) -> bool {
-    let word = match name.split_once(' ') {
-        Some((word, _)) => word,
+fn may_be_filter(name: &str) -> bool {
+    let first_word = match name.split_once(' ') {
+        Some((first_word, _)) => first_word,
         None => name,
     };
     name.contains('=')
         || matches!(
-            word,
+            first_word,
             "state" | "exclude" | "sport" | "dport" | "src" | "dst"
         )
 }
@@ -175,7 +175,7 @@ fn reject(rt: &HostRuntime, reason: Rejection, argument: &str) -> ExitCode {
     match rejection_text(rt.alloc(), reason, argument) {
         Ok(text) => {
             let _ = eprintln!(rt; "sslist: {text}; try sslist --help");
-            ExitCode::from(2)
+            ExitCode::from(USAGE_ERROR)
         }
         Err(_) => out_of_memory(rt),
     }
@@ -185,9 +185,10 @@ fn reject(rt: &HostRuntime, reason: Rejection, argument: &str) -> ExitCode {
 fn rejection_text(alloc: Global, reason: Rejection, argument: &str) -> Result<String, AllocError> {
     let shown = escaped(alloc, argument.as_bytes())?;
     match reason {
+        // The long name of `-p` in ss(8).
         Rejection::UnknownOption if argument == "--processes" => {
-            let reason = reason_of(b'p');
-            format!(in alloc; "unknown option {shown}{reason}")
+            let hint = letter_hint(b'p');
+            format!(in alloc; "unknown option {shown}{hint}")
         }
         Rejection::UnknownOption => format!(in alloc; "unknown option {shown}"),
         Rejection::UnknownLetter(letter) => unknown_letter_text(alloc, letter, argument),
@@ -202,7 +203,7 @@ fn rejection_text(alloc: Global, reason: Rejection, argument: &str) -> Result<St
             let value = name_of_value(argument);
             format!(in alloc; "{shown} needs a value: write {shown}={value}")
         }
-        Rejection::UnexpectedValue => takes_no_value(alloc, argument),
+        Rejection::UnexpectedValue => no_value_text(alloc, argument),
         Rejection::UnknownFamily => format!(in alloc; "unknown family {shown} after -f"),
         Rejection::UnknownFamilyValue => format!(in alloc; "unknown family in {shown}"),
         Rejection::UnknownStateValue => {
@@ -222,29 +223,30 @@ fn rejection_text(alloc: Global, reason: Rejection, argument: &str) -> Result<St
     }
 }
 
-/// Returns the text about an argument of joined letters, of which this one is not an option.
+/// Returns the text about an argument of a hyphen and letters, of which `letter` is not an option.
 fn unknown_letter_text(alloc: Global, letter: u8, argument: &str) -> Result<String, AllocError> {
+    // An option with a value, such as `-t=1`.
     if letter == b'=' {
-        return takes_no_value(alloc, argument);
+        return no_value_text(alloc, argument);
     }
     let shown = escaped(alloc, argument.as_bytes())?;
-    let reason = reason_of(letter);
+    let hint = letter_hint(letter);
     // A hyphen and one letter.
     if argument.len() == 2 {
-        return format!(in alloc; "unknown option {shown}{reason}");
+        return format!(in alloc; "unknown option {shown}{hint}");
     }
     let letter = escaped(alloc, &[letter])?;
-    format!(in alloc; "unknown option -{letter} in {shown}{reason}")
+    format!(in alloc; "unknown option -{letter} in {shown}{hint}")
 }
 
 /// Returns the text about an option with a value that takes none.
-fn takes_no_value(alloc: Global, argument: &str) -> Result<String, AllocError> {
+fn no_value_text(alloc: Global, argument: &str) -> Result<String, AllocError> {
     let name = escaped(alloc, name_of_option(argument).as_bytes())?;
     format!(in alloc; "{name} takes no value")
 }
 
-/// Returns what follows the error about a letter that is an option of ss(8), and not of sslist.
-fn reason_of(letter: u8) -> &'static str {
+/// Returns the text after the error about a letter that is an option of ss(8), and not of sslist.
+fn letter_hint(letter: u8) -> &'static str {
     match letter {
         b'p' => "; a capture has no processes",
         b's' => "; to count sockets, count the lines of -HO",
@@ -254,7 +256,7 @@ fn reason_of(letter: u8) -> &'static str {
     }
 }
 
-/// Returns what the usage calls the value of an option.
+/// Returns the name of the value of an option in the usage.
 fn name_of_value(option: &str) -> &'static str {
     match option {
         "--family" => "FAMILY",
@@ -272,8 +274,9 @@ fn name_of_option(argument: &str) -> &str {
     }
 }
 
-/// Reports the first argument that is not valid UTF-8, with status 2.
-fn reject_bytes(rt: &HostRuntime) -> ExitCode {
+/// Reports the first argument that is not valid UTF-8, with status 2. The arguments are read once
+/// more, as bytes.
+fn reject_invalid_utf8(rt: &HostRuntime) -> ExitCode {
     let mut bytes = Vec::new(rt.alloc());
     if bytes.resize(LONGEST_ARGUMENT, 0).is_err() {
         return out_of_memory(rt);
@@ -281,22 +284,23 @@ fn reject_bytes(rt: &HostRuntime) -> ExitCode {
     for index in 0..usize::MAX {
         match rt.arg(index, bytes.as_mut_slice()) {
             Ok(length) if str::from_utf8(&bytes[..length]).is_ok() => {}
-            Ok(length) => return report_bytes(rt, &bytes[..length]),
+            Ok(length) => return report_invalid_utf8(rt, &bytes[..length]),
+            // There are no more arguments.
             Err(_) => break,
         }
     }
     let _ = rt.eprintln("sslist: an argument is not valid UTF-8");
-    ExitCode::from(2)
+    ExitCode::from(USAGE_ERROR)
 }
 
 /// Reports an argument that is not valid UTF-8, with status 2.
-fn report_bytes(rt: &HostRuntime, argument: &[u8]) -> ExitCode {
+fn report_invalid_utf8(rt: &HostRuntime, argument: &[u8]) -> ExitCode {
     let Ok(shown) = escaped(rt.alloc(), argument) else {
         return out_of_memory(rt);
     };
     let advice = "rename the file, or write sslist <FILE";
     let _ = eprintln!(rt; "sslist: argument {shown} is not valid UTF-8; {advice}");
-    ExitCode::from(2)
+    ExitCode::from(USAGE_ERROR)
 }
 
 /// Reports that an allocation failed, with status 1.

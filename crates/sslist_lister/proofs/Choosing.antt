@@ -2,64 +2,81 @@
 use Rattle.std.proofs.Common.{◌≡◌, ◌≢◌, ◌<◌, ◌+◌, ℕ, true, false, List, length, map, drop, get_or}
 use Rattle.std.proofs.Common.{Some, refl, ap, sym, ◌∙◌}
 use Rattle.std.proofs.lemmas.List.{drop_more}
-use Rattle.sslist_lister.specs.command_line.Choice.{argument_at, decides, first_deciding}
+use Rattle.sslist_lister.specs.command_line.Choice.{argument_at, decides}
+use Rattle.sslist_lister.specs.command_line.Choice.{first_deciding_argument}
 use Rattle.sslist_lister.specs.command_line.Choice.{last_place, next_place, no_options}
 use Rattle.sslist_lister.specs.command_line.Choice.{options_after, with_argument}
 use Rattle.sslist_lister.specs.declared.command_line.options.Options.{Options}
 use Rattle.sslist_lister.specs.declared.command_line.arguments.Argument.{Argument}
-use Rattle.sslist_lister.specs.declared.command_line.arguments.Argument.TheVariants as argument
+use Rattle.sslist_lister.specs.declared.command_line.arguments.Argument.TheVariants as parsed_as
 use Rattle.sslist_lister.specs.declared.command_line.arguments.Place.{Place}
 use Rattle.sslist_lister.specs.declared.command_line.choice.Rejection.{Rejection}
-use Rattle.sslist_lister.specs.declared.command_line.arguments.Place.TheVariants as place
+use Rattle.sslist_lister.specs.declared.command_line.arguments.Place.TheVariants as places
 
--- After the first `i` arguments: none of them decides, the next one is at the place `p`, and the
--- options `o` with those of the remaining arguments are the options of all.
-pub record NoneDecidesSoFar {X : Type 0} (f : X → List ℕ) (xs : List X) (i : ℕ) (p : Place)
-    (o : Options) : Type 0 where
-  pub first : first_deciding p (map f (drop i xs)) ≡ first_deciding place.Any (map f xs)
-  pub last : last_place p (map f (drop i xs)) ≡ last_place place.Any (map f xs)
-  pub options : options_after o p (map f (drop i xs))
-      ≡ options_after no_options place.Any (map f xs)
+-- After the first `index` arguments: none of them decides, the next one is at this place, and the
+-- options `chosen` with those of the remaining arguments are the options of all.
+pub record NoneDecidesSoFar {X : Type 0} (bytes_of : X → List ℕ) (arguments : List X) (index : ℕ)
+    (place : Place) (chosen : Options) : Type 0 where
+  pub first : first_deciding_argument place (map bytes_of (drop index arguments))
+      ≡ first_deciding_argument places.Any (map bytes_of arguments)
+  pub last : last_place place (map bytes_of (drop index arguments))
+      ≡ last_place places.Any (map bytes_of arguments)
+  pub options : options_after chosen place (map bytes_of (drop index arguments))
+      ≡ options_after no_options places.Any (map bytes_of arguments)
 
 -- An argument that is neither Help, Version nor Rejected does not decide.
-pub argument_does_not_decide : (a : Argument) → (a ≢ argument.Help) → (a ≢ argument.Version)
-    → ((reason : Rejection) → a ≢ argument.Rejected reason) → decides a ≡ false
-argument_does_not_decide argument.Help h v u = absurd (h refl)
-argument_does_not_decide argument.Version h v u = absurd (v refl)
-argument_does_not_decide (argument.Rejected reason) h v u = absurd (u reason refl)
-argument_does_not_decide argument.Utf8 h v u = refl
-argument_does_not_decide argument.Requests h v u = refl
-argument_does_not_decide argument.Json h v u = refl
-argument_does_not_decide (argument.Sockets family) h v u = refl
-argument_does_not_decide (argument.States states) h v u = refl
-argument_does_not_decide (argument.Port end condition) h v u = refl
-argument_does_not_decide (argument.Address end condition) h v u = refl
-argument_does_not_decide (argument.Letters needs) h v u = refl
-argument_does_not_decide (argument.Letter letter) h v u = refl
-argument_does_not_decide argument.EndOfOptions h v u = refl
-argument_does_not_decide argument.File h v u = refl
+pub argument_does_not_decide : (parsed : Argument) → parsed ≢ parsed_as.Help
+    → parsed ≢ parsed_as.Version → ((reason : Rejection) → parsed ≢ parsed_as.Rejected reason)
+    → decides parsed ≡ false
+argument_does_not_decide parsed_as.Help no_help no_version no_rejection = absurd (no_help refl)
+argument_does_not_decide parsed_as.Version no_help no_version no_rejection =
+    absurd (no_version refl)
+argument_does_not_decide (parsed_as.Rejected reason) no_help no_version no_rejection =
+    absurd (no_rejection reason refl)
+argument_does_not_decide parsed_as.Utf8 no_help no_version no_rejection = refl
+argument_does_not_decide parsed_as.Requests no_help no_version no_rejection = refl
+argument_does_not_decide parsed_as.Json no_help no_version no_rejection = refl
+argument_does_not_decide (parsed_as.Sockets family) no_help no_version no_rejection = refl
+argument_does_not_decide (parsed_as.States states) no_help no_version no_rejection = refl
+argument_does_not_decide (parsed_as.Port end condition) no_help no_version no_rejection = refl
+argument_does_not_decide (parsed_as.Address end condition) no_help no_version no_rejection = refl
+argument_does_not_decide (parsed_as.Letters needs) no_help no_version no_rejection = refl
+argument_does_not_decide (parsed_as.Letter letter) no_help no_version no_rejection = refl
+argument_does_not_decide parsed_as.EndOfOptions no_help no_version no_rejection = refl
+argument_does_not_decide parsed_as.File no_help no_version no_rejection = refl
 
 -- The first argument that decides is found.
-pub first_deciding_argument_found : {X : Type 0} (f : X → List ℕ) (xs : List X) (i : ℕ) (p : Place)
-    (o : Options) (x : X) (a : Argument) (word : List ℕ) → NoneDecidesSoFar f xs i p o
-    → i < length xs → x ≡ get_or xs i x → word ≡ f x → a ≡ argument_at p word → decides a ≡ true
-    → first_deciding place.Any (map f xs) ≡ Some (a, word)
-first_deciding_argument_found f xs i p o x a word passed low is same kind held =
-    sym passed.first ∙ ap (λ l. first_deciding p (map f l)) (drop_more xs i x low)
-    ∙ (rw (sym is, sym same, sym kind, held) refl)
+pub first_deciding_argument_found : {X : Type 0} (bytes_of : X → List ℕ) (arguments : List X)
+    (index : ℕ) (place : Place) (chosen : Options) (argument : X) (parsed : Argument)
+    (bytes : List ℕ) → NoneDecidesSoFar bytes_of arguments index place chosen
+    → index < length arguments → argument ≡ get_or arguments index argument
+    → bytes ≡ bytes_of argument → parsed ≡ argument_at place bytes → decides parsed ≡ true
+    → first_deciding_argument places.Any (map bytes_of arguments)
+    ≡ Some (record { parsed = parsed; bytes = bytes })
+first_deciding_argument_found bytes_of arguments index place chosen argument parsed bytes so_far
+    in_range is same kind decided =
+    sym so_far.first
+    ∙ ap (λ l. first_deciding_argument place (map bytes_of l))
+    (drop_more arguments index argument in_range)
+    ∙ (rw (sym is, sym same, sym kind, decided) refl)
 
 -- An argument that does not decide is added to the options.
-pub argument_is_added : {X : Type 0} (f : X → List ℕ) (xs : List X) (i : ℕ) (p p' : Place)
-    (o o' : Options) (x : X) (a : Argument) (word : List ℕ) → NoneDecidesSoFar f xs i p o
-    → i < length xs → x ≡ get_or xs i x → word ≡ f x → a ≡ argument_at p word
-    → decides a ≡ false → o' ≡ with_argument o a word → p' ≡ next_place p a
-    → NoneDecidesSoFar f xs (i + 1) p' o'
-argument_is_added f xs i p p' o o' x a word passed low is same kind unmet more next = record {
-  first = sym (ap (λ l. first_deciding p (map f l)) (drop_more xs i x low)
-      ∙ (rw (sym is, sym same, sym kind, unmet, next) refl)) ∙ passed.first;
-  last = sym (ap (λ l. last_place p (map f l)) (drop_more xs i x low)
-      ∙ (rw (sym is, sym same) (ap (λ (q : Place). last_place q (map f (drop (i + 1) xs)))
-      (ap (next_place p) (sym kind) ∙ sym next)))) ∙ passed.last;
-  options = sym (ap (λ l. options_after o p (map f l)) (drop_more xs i x low)
-      ∙ (rw (sym is, sym same, sym kind, more, next) refl)) ∙ passed.options;
-}
+pub argument_is_added : {X : Type 0} (bytes_of : X → List ℕ) (arguments : List X) (index : ℕ)
+    (place place' : Place) (chosen chosen' : Options) (argument : X) (parsed : Argument)
+    (bytes : List ℕ) → NoneDecidesSoFar bytes_of arguments index place chosen
+    → index < length arguments → argument ≡ get_or arguments index argument
+    → bytes ≡ bytes_of argument → parsed ≡ argument_at place bytes → decides parsed ≡ false
+    → chosen' ≡ with_argument chosen parsed bytes → place' ≡ next_place place parsed
+    → NoneDecidesSoFar bytes_of arguments (index + 1) place' chosen'
+argument_is_added bytes_of arguments index place place' chosen chosen' argument parsed bytes so_far
+    in_range is same kind undecided added next =
+    let later = drop_more arguments index argument in_range in record {
+      first = sym (ap (λ l. first_deciding_argument place (map bytes_of l)) later
+          ∙ (rw (sym is, sym same, sym kind, undecided, next) refl)) ∙ so_far.first;
+      last = sym (ap (λ l. last_place place (map bytes_of l)) later
+          ∙ (rw (sym is, sym same)
+          (ap (λ (q : Place). last_place q (map bytes_of (drop (index + 1) arguments)))
+          (ap (next_place place) (sym kind) ∙ sym next)))) ∙ so_far.last;
+      options = sym (ap (λ l. options_after chosen place (map bytes_of l)) later
+          ∙ (rw (sym is, sym same, sym kind, added, next) refl)) ∙ so_far.options;
+    }

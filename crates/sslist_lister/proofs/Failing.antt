@@ -363,14 +363,14 @@ module _ (o : Options) (left left' held held' : Option (List ℕ)) (heading fron
 pub run_outcome : (o : Options) (left left' held held' : Option (List ℕ)) (heading front : List ℕ)
     (P Q : List ℕ → Type 0) (unread : ReadError → Type 0) (r : Result Bool ListError)
     → ((diagnostics : List ℕ) → P diagnostics → Q (diagnostics ++ closing_text front r))
-    → IfOk r (Finishes o left left' held held' heading front P)
-    → IfErr r (Fails o left left' held held' heading front P unread)
+    → MatchResult r (Finishes o left left' held held' heading front P)
+    (Fails o left left' held held' heading front P unread)
     → MatchResult r (Finishes o left left' held held' heading front Q)
     (λ e. Fails o left left' held held' heading front
     (λ diagnostics. Q (diagnostics ++ closing_line front e)) unread e)
-run_outcome o left left' held held' heading front P Q unread (Ok whole) implies finishes fails =
+run_outcome o left left' held held' heading front P Q unread (Ok whole) implies finishes =
     finishes_implies o left left' held held' heading front P Q
     (λ d h. subst Q (append-nil d) (implies d h)) whole finishes
-run_outcome o left left' held held' heading front P Q unread (Err e) implies finishes fails =
+run_outcome o left left' held held' heading front P Q unread (Err e) implies fails =
     fails_implies o left left' held held' heading front P
     (λ diagnostics. Q (diagnostics ++ closing_line front e)) implies unread e fails

@@ -11,7 +11,7 @@ use Rattle.sock_diag_attributes.specs.declared.unix.name.SocketName.TheVariants.
 use Rattle.sslist_lister.specs.texts.JsonData.{bytes_member, json_text}
 use Rattle.sslist_lister.specs.JsonNames.{name_members}
 use Rattle.sslist_lister.specs.texts.JsonData.{text_member}
-use Rattle.sslist_lister.specs.private.JsonNames.{HaveSameText, name_bytes}
+use Rattle.sslist_lister.specs.private.JsonNames.{HaveSameText, bytes_of_name}
 
 -- the object with one member, a string
 abbrev object_of_text : List ℕ → List ℕ → json.Json
@@ -83,8 +83,8 @@ names_differ b c =
     (is_utf8 b) (is_utf8 c)
 
 -- Names with the same text are equal.
-pub names_with_same_text : (n m : SocketName (List ℕ)) → IsBytes (name_bytes n)
-    → IsBytes (name_bytes m)
+pub names_with_same_text : (n m : SocketName (List ℕ)) → IsBytes (bytes_of_name n)
+    → IsBytes (bytes_of_name m)
     → HaveSameText (name_members n) (name_members m) → n ≡ m
 unfolding bytes_member
 names_with_same_text (Pathname b) (Pathname c) low_b low_c e =

@@ -1,7 +1,7 @@
 -- Tokens of members of JSON objects.
 use Rattle.std.proofs.Common.{arith, ◌≡◌, ℕ, List, [], ◌∷◌, ◌++◌, ◌∙◌, Bool, true, false, cond}
 use Rattle.std.proofs.Common.{refl, sym, ap, map, flat_map, decimal, IsUtf8, append_assoc}
-use Rattle.std.proofs.Common.{append-nil}
+use Rattle.std.proofs.Common.{append-nil, None, Some}
 use Rattle.std.specs.Borrow.{Bor}
 use Rattle.std.specs.Str.{is_utf8}
 use Rattle.std.proofs.lemmas.Grind.{flat_map-append}
@@ -9,11 +9,12 @@ use Rattle.std.proofs.lemmas.Str.{IsUtf8-from_is_utf8, is_utf8-from_IsUtf8}
 use Rattle.hex.specs.Hex.{encode_lower}
 use Rattle.json.specs.Json.{Json}
 use Rattle.json.specs.Token.{Token, begin_array, begin_object, end_array, end_object, key, number}
+use Rattle.json.specs.Token.{boolean, string}
 use Rattle.json.specs.Tree as tree
-use Rattle.sslist_lister.specs.texts.JsonData.{JsonMember, bytes_member, items_of}
+use Rattle.sslist_lister.specs.texts.JsonData.{JsonMember, bytes_member, flag_member, items_of}
 use Rattle.sslist_lister.specs.texts.JsonData.{number_members, number_value, numbers_member}
 use Rattle.sslist_lister.specs.texts.JsonData.{object_member, array_member, text_member}
-use Rattle.sslist_lister.specs.texts.JsonData.{object_of}
+use Rattle.sslist_lister.specs.texts.JsonData.{object_of, optional_member}
 use Rattle.sslist_lister.specs.texts.JsonWriting.{items_tokens, members_tokens}
 use Rattle.sslist_lister.specs.laws.MemberTokens.{tokens_append, object_end, object_member_tokens}
 
@@ -25,6 +26,39 @@ unfolding members_tokens number_members
 rows_are_members [] = refl
 rows_are_members (row ∷ later) =
     ap (λ (t : List Token). key row.0.now ∷ number (decimal row.1) ∷ t) (rows_are_members later)
+
+-- the tokens of a member whose value is a string
+pub text_member_tokens : (name text : List ℕ)
+    → members_tokens (text_member name text) ≡ key name ∷ string text ∷ []
+unfolding members_tokens text_member
+text_member_tokens name text = refl
+
+-- the tokens of a member whose value is a number
+pub number_member_tokens : (name : List ℕ) (n : ℕ)
+    → members_tokens (optional_member name (Some n)) ≡ key name ∷ number (decimal n) ∷ []
+unfolding members_tokens optional_member
+number_member_tokens name n = refl
+
+-- No member has no tokens.
+pub no_member_tokens : (name : List ℕ) → members_tokens (optional_member name None) ≡ []
+unfolding members_tokens optional_member
+no_member_tokens name = refl
+
+-- the tokens of a member whose value is `true` or `false`
+pub flag_member_tokens : (name : List ℕ) (flag : Bool)
+    → members_tokens (flag_member name flag) ≡ key name ∷ boolean flag ∷ []
+unfolding members_tokens flag_member
+flag_member_tokens name flag = refl
+
+-- the rules by which the tokens of a member with a plain value are put together
+pub ruleset plain_member_rules = (
+  append_assoc,
+  append-nil,
+  text_member_tokens,
+  number_member_tokens,
+  no_member_tokens,
+  flag_member_tokens,
+)
 
 -- the tokens of an array, after its beginning
 pub array_end : (items : List Json)
@@ -77,6 +111,9 @@ pub other_member : (name hex_name bytes : List ℕ) → ¬ IsUtf8 bytes
 unfolding bytes_member
 other_member name hex_name bytes wrong =
     other_case (is_utf8 bytes) _ _ (λ is. wrong (IsUtf8-from_is_utf8 bytes is))
+
+-- the two cases of `bytes_member`
+pub ruleset bytes_member_rules = (utf8_member, other_member)
 
 -- the tokens of an object
 pub object_tokens : (members : List JsonMember)
@@ -175,3 +212,6 @@ pub ruleset json_rules = (
   array_member_tokens,
   numbers_member_tokens,
 )
+
+-- these rules and that of the tokens of an object
+pub ruleset json_object_rules = (json_rules, object_tokens)

@@ -1,10 +1,14 @@
 -- The MD5 keys in a value, one after the other.
 use Rattle.std.proofs.Common.{arith, ◌≡◌, ℕ, suc, ◌/◌, ◌<◌, ◌≤◌, List, [], ◌∷◌, ap, drop, length}
-use Rattle.std.proofs.Common.{◌++◌, ◌-◌, ◌∙◌, append_assoc, flat_map, length-drop, sym, take}
+use Rattle.std.proofs.Common.{◌++◌, ◌-◌, ◌∙◌, append_assoc, append-nil, codes, flat_map, None}
+use Rattle.std.proofs.Common.{Some, length-drop, refl, sym, take}
 use Rattle.std.proofs.lemmas.List.{take_rest}
 use Rattle.sock_diag_extras.specs.declared.md5_signature.Md5Signature.{Md5Signature}
 use Rattle.sslist_lister.specs.Md5Keys.{first_keys, key_at, md5_key_text, md5_keys}
-use Rattle.sslist_lister.specs.Md5Keys.{md5_keys_text}
+use Rattle.sslist_lister.specs.Md5Keys.{md5_keys_text, peer_member}
+use Rattle.sslist_lister.specs.texts.JsonData.{address_member}
+use Rattle.sslist_lister.specs.texts.JsonWriting.{members_tokens}
+use Rattle.std.specs.declared.net.ip_addr.IpAddr.{IpAddr}
 
 -- The first key, and those after it.
 pub keys_step : (bytes : List ℕ) → 100 ≤ length bytes
@@ -57,3 +61,16 @@ pub ruleset key_rules = (
   keys_step,
   keys_end,
 )
+
+-- If there is no address, there is no member and no token.
+pub no_peer_tokens : members_tokens (peer_member None) ≡ []
+unfolding peer_member members_tokens
+no_peer_tokens = refl
+
+-- If there is an address, it is the value of the member.
+pub some_peer_member : (ip : IpAddr) → peer_member (Some ip) ≡ address_member (codes "addr") ip
+unfolding peer_member
+some_peer_member ip = refl
+
+-- the two cases of `peer_member`
+pub ruleset peer_rules = (append-nil, no_peer_tokens, some_peer_member)

@@ -12,14 +12,15 @@ use Rattle.netlink_core.specs.Datagram.{SplitsIntoMessages, StartsWithMessage}
 use Rattle.netlink_core.specs.Header.{HasHeader, IsMessageError}
 use Rattle.netlink_core.specs.declared.error.DecodeError.{DecodeError}
 use Rattle.netlink_core.specs.declared.header.NetlinkHeader.{NetlinkHeader}
-use Rattle.sslist_lister.specs.Diagnostics.{lines_about, lines_about_message}
-use Rattle.sslist_lister.specs.Messages.{begins_with_message, header_in, header_with}
+use Rattle.sslist_lister.specs.Diagnostics.{line_start, lines_about, lines_about_message}
+use Rattle.sslist_lister.specs.Messages.{begins_with_message, leading_header, header_with}
 use Rattle.netlink_core.specs.declared.message.TheConstants.{NLM_F_REQUEST}
 use Rattle.sslist_lister.specs.Messages.{MessageParts, message_in, request_in}
 
 -- The header that bytes begin with.
-pub header_found : (bytes : List ℕ) (h : NetlinkHeader) → HasHeader bytes h → header_in bytes ≡ h
-unfolding header_in
+pub header_found : (bytes : List ℕ) (h : NetlinkHeader) → HasHeader bytes h
+    → leading_header bytes ≡ h
+unfolding leading_header
 header_found bytes h has = ap header_with has.0
 
 -- Bytes with a header begin with a message.
@@ -30,7 +31,7 @@ message_begins bytes h has = rw (header_found bytes h has) (grind (arith, leb_te
 -- Bytes with an error do not begin with a message.
 pub no_message_begins : (bytes : List ℕ) (e : DecodeError) → IsMessageError bytes e
     → begins_with_message bytes ≡ false
-unfolding header_in
+unfolding leading_header
 no_message_begins bytes e error = grind (arith, leb_tells, error)
 
 -- The request that bytes with a header begin with.
@@ -111,25 +112,26 @@ one_more_clean clean passed m parts so_far is same before now =
 module _ (front : List ℕ) (packet : ℕ) where
   about_push : (n : ℕ) (xs : List (List ℕ)) (m : List ℕ)
       → lines_about front packet n (xs ++ m ∷ []) ≡ lines_about front packet n xs
-      ++ lines_about_message front packet (length xs + n) (message_in m)
+      ++ lines_about_message (line_start front packet (length xs + n)) (message_in m)
   about_push n [] m =
       let same : n ≡ 0 + n = omega arith in
-      append-nil (lines_about_message front packet n (message_in m))
-      ∙ ap (λ (k : ℕ). lines_about_message front packet k (message_in m)) same
+      append-nil (lines_about_message (line_start front packet n) (message_in m))
+      ∙ ap (λ (k : ℕ). lines_about_message (line_start front packet k) (message_in m)) same
   about_push n (x ∷ xs) m =
       let same : length xs + (n + 1) ≡ length (x ∷ xs) + n = omega arith in
-      let first = lines_about_message front packet n (message_in x) in
+      let first = lines_about_message (line_start front packet n) (message_in x) in
       let later = lines_about front packet (n + 1) xs in
       ap (λ (t : List ℕ). first ++ t) (about_push (n + 1) xs m)
       ∙ sym (append_assoc first later
-      (lines_about_message front packet (length xs + (n + 1)) (message_in m)))
-      ∙ ap (λ (k : ℕ). (first ++ later) ++ lines_about_message front packet k (message_in m)) same
+      (lines_about_message (line_start front packet (length xs + (n + 1))) (message_in m)))
+      ∙ ap (λ (k : ℕ). (first ++ later)
+      ++ lines_about_message (line_start front packet k) (message_in m)) same
 
   -- The lines about one more message follow those about the others.
   pub one_more_diagnosed : (passed : List (List ℕ)) (m : List ℕ) (parts : MessageParts) (count : ℕ)
       (before now new : List ℕ) → parts ≡ message_in m → count ≡ length passed + 1
       → now ≡ before ++ lines_about front packet 1 passed
-      → new ≡ now ++ lines_about_message front packet count parts
+      → new ≡ now ++ lines_about_message (line_start front packet count) parts
       → new ≡ before ++ lines_about front packet 1 (passed ++ m ∷ [])
   one_more_diagnosed passed m parts count before now new same counted so_far added =
       grind (arith, append_assoc, about_push 1 passed m)

@@ -89,13 +89,13 @@ unfolding attributes_or_error
 first_attribute_and_rest [] rest a s = absurd (StartsWithAttribute-nonempty [] rest a s refl)
 first_attribute_and_rest (b ∷ bs) rest a s =
     let all : List ℕ = b ∷ bs in
-    let word : ℕ = little_number 2 all in
-    let n : ℕ = word + padding_length word - 1 in
-    let next : suc n ≡ word + padding_length word =
+    let nla_len : ℕ = little_number 2 all in
+    let n : ℕ = nla_len + padding_length nla_len - 1 in
+    let next : suc n ≡ nla_len + padding_length nla_len =
     omega (arith, length_field_of_first all rest a s) in
-    let behind : drop n bs ≡ rest = ap (λ (k : ℕ). drop k all) next ∙ rest_is all rest a s in
+    let is_rest : drop n bs ≡ rest = ap (λ (k : ℕ). drop k all) next ∙ rest_is all rest a s in
     let later : attributes_or_error n bs ≡ attributes_or_error 0 rest =
-    attributes_or_error_after_drop n bs ∙ ap (attributes_or_error 0) behind in
+    attributes_or_error_after_drop n bs ∙ ap (attributes_or_error 0) is_rest in
     ap (λ (p : AttributeOrError). before_error p (attributes_or_error n bs))
     (first_attribute_is_listed all rest a s)
     ∙ ap (λ (l : List AttributeOrError). Ok a ∷ l) later
@@ -105,14 +105,14 @@ first_error_is_listed : (bytes : List ℕ) (e : DecodeError) → IsFramingError 
     → first_attribute_or_error bytes ≡ Err e
 first_error_is_listed bytes (AttributeHeaderCut left) f =
     rw (lt-ltb (length bytes) 4 f.1, f.0) refl
-first_error_is_listed bytes (AttributeLengthUnder4 word) (is, long, short) =
-    rw (le-ltb (length bytes) 4 long, ← is, lt-ltb word 4 short) refl
-first_error_is_listed bytes (AttributeLengthPast word left) (is, same, long, whole, past) =
+first_error_is_listed bytes (AttributeLengthUnder4 nla_len) (is, long, short) =
+    rw (le-ltb (length bytes) 4 long, ← is, lt-ltb nla_len 4 short) refl
+first_error_is_listed bytes (AttributeLengthPast nla_len left) (is, same, long, whole, past) =
     rw (
       le-ltb (length bytes) 4 long,
       ← is,
-      le-ltb word 4 whole,
-      lt-ltb (length bytes) word past,
+      le-ltb nla_len 4 whole,
+      lt-ltb (length bytes) nla_len past,
       same,
     ) refl
 first_error_is_listed bytes _ f = absurd f

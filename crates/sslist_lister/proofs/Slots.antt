@@ -1,6 +1,6 @@
 -- Collected attributes.
 use Rattle.std.proofs.Common.{◌≡◌, ℕ, List, [], ◌++◌, ◌∙◌, ◌<◌, map, flat_map, length, refl}
-use Rattle.std.proofs.Common.{Bool, None, Option, Result, Some, slice_index_or, sym}
+use Rattle.std.proofs.Common.{Bool, Err, None, Ok, Option, Result, Some, codes, slice_index_or, sym}
 use Rattle.std.specs.List.{range_with_len}
 use Rattle.std.specs.Option.{option_or}
 use Rattle.std.proofs.lemmas.List.{append-nil, get_or-map, length-map}
@@ -12,11 +12,15 @@ use Rattle.netlink_core.specs.Attribute.{Attribute}
 use Rattle.netlink_core.specs.declared.attribute.NlaBuffer.{NlaBuffer}
 use Rattle.netlink_core.specs.declared.error.DecodeError.{DecodeError}
 use Rattle.sslist_lister.specs.Collected.{first_valid, other_in_piece, slot_attribute}
-use Rattle.sslist_lister.specs.Collected.{summary_of}
+use Rattle.sslist_lister.specs.Collected.{Summary, summary_of}
 use Rattle.sslist_lister.specs.Pieces.{AttributeOrError, framing_error_of}
 use Rattle.sslist_lister.specs.declared.attributes.Sockets.{Sockets}
-use Rattle.sslist_lister.proofs.JsonWriting.{items_of_map, tokens_of_each}
-use Rattle.sslist_lister.specs.texts.JsonData.{JsonMember}
+use Rattle.sslist_lister.specs.JsonAttributes.{attributes_members, other_item, valid_members}
+use Rattle.sslist_lister.specs.JsonAttributes.{attribute_members, item_members}
+use Rattle.sslist_lister.proofs.Adding.{appended_texts_concatenate}
+use Rattle.sslist_lister.proofs.JsonWriting.{items_of_map, json_rules, tokens_of_each}
+use Rattle.sslist_lister.specs.texts.JsonData.{JsonMember, array_member, text_member}
+use Rattle.sslist_lister.specs.Details.{error_reason}
 use Rattle.sslist_lister.specs.texts.JsonWriting.{items_tokens, members_tokens}
 
 -- The elements that are each the first valid attribute are all of them.
@@ -71,3 +75,34 @@ tokens_of_others f g xs = items_of_map f (map g xs) ∙ flat_map-map (λ y. json
 pub mapped_texts : {X Y : Type 0} (f : Y → List ℕ) (g : X → Y) (xs : List X)
     → flat_map f (map g xs) ≡ flat_map (λ x. f (g x)) xs
 mapped_texts f g xs = flat_map-map f g xs
+
+-- what is appended for the attributes of a socket
+pub ruleset detail_rules = (appended_texts_concatenate, mapped_texts)
+
+-- The members of all attributes are those of the valid ones, and of the others.
+pub attributes_are_valid_and_other : (s : Summary)
+    → attributes_members s ≡ flat_map (valid_members s.sockets) s.first
+    ++ array_member (codes "other_attributes") (map other_item s.others)
+unfolding attributes_members
+attributes_are_valid_and_other s = refl
+
+-- the rules by which the members of all attributes are put together
+pub ruleset attributes_rules = (json_rules, attributes_are_valid_and_other)
+
+-- The members of an unknown attribute are its type and its length.
+pub unknown_item_members : (a : Attribute) (has_facts : Bool)
+    → item_members a (Ok has_facts) ≡ attribute_members a
+unfolding item_members
+unknown_item_members a has_facts = refl
+
+-- Those of an invalid one are also the reason.
+pub invalid_item_members : (a : Attribute) (e : DecodeError)
+    → item_members a (Err e) ≡ attribute_members a ++ text_member (codes "error") (error_reason e)
+unfolding item_members
+invalid_item_members a e = refl
+
+-- the rules by which the members of an unknown or invalid attribute are put together
+pub ruleset item_rules = (json_rules, unknown_item_members, invalid_item_members)
+
+-- the rules by which the items of unknown and invalid attributes are put together
+pub ruleset other_rules = (json_rules, tokens_of_others)

@@ -1,12 +1,13 @@
 -- Facts of the attributes of a reply. Names in JSON are the kernel's names in lowercase, without
--- the prefix that all names of a struct or an enum have.
+-- the prefix that all names of a struct or an enum have. `a` is an attribute. What it says is an
+-- `Outcome`: its facts, or nothing (None) if its type is unknown, or the error of its value. `utf8`
+-- is the option `--utf8`.
 use Rattle.std.specs.Prelude.{ℕ, ◌==◌, nat_le, if◌then◌else◌, List, [], ◌∷◌, codes, length}
 use Rattle.std.specs.Prelude.{Bool, false, None, Some, Ok, Option}
 use Rattle.std.specs.Option.{option_map_or}
 use Rattle.byteorder.specs.Endian.{little_number}
 use Rattle.netlink_core.specs.Attribute.{Attribute, attribute_kind}
 use Rattle.netlink_core.specs.AttributeSet.{decode_attribute}
-use Rattle.netlink_core.specs.Errors.{map_ok}
 use Rattle.netlink_core.specs.Layout.{parse_record}
 use Rattle.sock_diag_values.specs.MemInfo.{mem_info}
 use Rattle.sock_diag_values.specs.declared.inet.legacy_mem_info.LegacyMemInfo.{LegacyMemInfo}
@@ -34,8 +35,8 @@ use Rattle.sock_diag_records.specs.declared.constants.TheConstants.{INET_DIAG_DC
 use Rattle.sock_diag_records.specs.declared.constants.TheConstants.{INET_DIAG_INFO}
 use Rattle.sock_diag_records.specs.declared.constants.TheConstants.{INET_DIAG_MD5SIG}
 use Rattle.sock_diag_records.specs.declared.constants.TheConstants.{INET_DIAG_VEGASINFO}
-use Rattle.sock_diag_families.specs.PacketAttributes.{packet_info}
-use Rattle.sock_diag_families.specs.XdpAttributes.{xdp_info}
+use Rattle.sock_diag_families.specs.PacketAttributes.{parse_packet_info}
+use Rattle.sock_diag_families.specs.XdpAttributes.{parse_xdp_info}
 use Rattle.sock_diag_families.specs.declared.netlink.TheConstants.{NETLINK_DIAG_GROUPS}
 use Rattle.sock_diag_families.specs.declared.netlink.TheConstants.{NETLINK_DIAG_MEMINFO}
 use Rattle.sock_diag_families.specs.declared.packet.TheConstants.{PACKET_DIAG_MEMINFO}
@@ -48,9 +49,9 @@ use Rattle.sslist_lister.specs.declared.command_line.options.Family.{Family}
 use Rattle.sslist_lister.specs.declared.command_line.options.Family.TheVariants.{Netlink, Packet}
 use Rattle.sslist_lister.specs.declared.command_line.options.Family.TheVariants.{Vsock, Xdp}
 use Rattle.sslist_lister.specs.Facts.{Facts, Outcome, decoded_outcome, flag_facts, flag_number}
-use Rattle.sslist_lister.specs.Facts.{group, hidden_number, list_facts, name_facts, numbers}
-use Rattle.sslist_lister.specs.Facts.{length_error, number_facts, number_outcome}
-use Rattle.sslist_lister.specs.Facts.{record_outcome, shown_number, text_facts}
+use Rattle.sslist_lister.specs.Facts.{group, hidden_number, json_group, length_outcome, list_facts}
+use Rattle.sslist_lister.specs.Facts.{name_facts, number_facts, number_outcome, numbers}
+use Rattle.sslist_lister.specs.Facts.{parsed_outcome, record_outcome, shown_number, text_facts}
 use Rattle.sslist_lister.specs.Md5Keys.{md5_outcome}
 use Rattle.sslist_lister.specs.Tcp.{mptcp_info, tcp_info}
 use Rattle.sslist_lister.specs.UlpInfo.{ulp_outcome}
@@ -63,8 +64,10 @@ use Rattle.sslist_lister.specs.declared.facts.Shown.TheVariants.{Hex, Never}
 
 -- ---- memory in bytes
 
--- `memory_group member m backlog drops`: the memory of a socket in bytes, as ss(8) prints it, by
--- the indices SK_MEMINFO_.. of linux/sock_diag.h. `member`: the name in JSON.
+-- `memory_group member m backlog drops`: the memory `m` of a socket in bytes, with this backlog in
+-- bytes and this number of drops, each left out if it is None. The table shows it as ss(8) does.
+-- JSON has it as the object `member`, whose members have the names of the indices SK_MEMINFO_.. of
+-- linux/sock_diag.h.
 unfoldable pub memory_group : List ℕ → MemInfo → Option ℕ → Option ℕ → Facts
 memory_group member m backlog drops =
     group (codes " skmem:(") (codes ")") member (numbers (
@@ -78,14 +81,16 @@ memory_group member m backlog drops =
     (Always, codes ",bl", Some (codes "backlog"), backlog) ∷
     (Always, codes ",d", Some (codes "drops"), drops) ∷ []))
 
--- the same, with the backlog and the drops if the value has them
+-- `memory_facts member m`: the memory `m` as `memory_group` shows it, with its own backlog and
+-- drops, if it has them
 abbrev pub memory_facts : List ℕ → MemInfo → Facts
 memory_facts member m = memory_group member m m.backlog_queue_length m.drops
 
--- the memory in the value of an attribute
+-- `memory_outcome member a`: the memory in the value of the attribute `a`, as the object `member`
+-- in JSON; or the error of its value. The parser has no parameter (`tt`).
 abbrev pub memory_outcome : List ℕ → Attribute → Outcome
 memory_outcome member a =
-    map_ok (λ m. Some (memory_facts member m)) (parse_record mem_info tt a.value)
+    parsed_outcome (memory_facts member) (parse_record mem_info tt a.value)
 
 -- The memory of a socket in the format of old kernels, `struct inet_diag_meminfo`: `idiag_rmem`,
 -- `idiag_wmem`, `idiag_fmem` and `idiag_tmem`.
@@ -99,52 +104,63 @@ legacy_memory_facts m =
 
 -- ---- UNIX sockets
 
--- the inode and the device of a file, `udiag_vfs_ino` and `udiag_vfs_dev`
+-- `vfs_facts inode device`: the file of a UNIX socket, `udiag_vfs_ino` and `udiag_vfs_dev`
 abbrev pub vfs_facts : ℕ → ℕ → Facts
 vfs_facts inode device =
-    group [] [] (codes "vfs") (numbers (
+    json_group (codes "vfs") (numbers (
     shown_number (codes " vfs:(") (codes "ino") inode ∷
     (Closed, codes ",", Some (codes "dev"), Some device) ∷ []))
 
--- the lengths of the queues, `udiag_rqueue` and `udiag_wqueue`
+-- `queue_facts receive send`: the lengths of the queues of a UNIX socket, `udiag_rqueue` and
+-- `udiag_wqueue`. Only JSON has them here, since the table has columns for them.
 abbrev pub queue_facts : ℕ → ℕ → Facts
-queue_facts first second =
-    group [] [] (codes "rqlen") (numbers (
-    hidden_number (codes "rqueue") first ∷ hidden_number (codes "wqueue") second ∷ []))
+queue_facts receive send =
+    json_group (codes "rqlen") (numbers (
+    hidden_number (codes "rqueue") receive ∷ hidden_number (codes "wqueue") send ∷ []))
 
--- the shutdown state
+-- `shutdown_facts n`: the directions that are shut down, by the value `n` of an attribute
+-- `.._DIAG_SHUTDOWN`. In the table no text precedes them (`[]`).
 abbrev pub shutdown_facts : ℕ → Facts
 shutdown_facts n = number_facts Directions [] (Some (codes "shutdown")) n
 
--- the user id of the owner, for which the table has a column; any other attribute is unknown
+-- `newer_unix_outcome a`: what an attribute of a UNIX socket says that the port leaves undecoded:
+-- the user id of the owner, of four bytes, if its type is UNIX_DIAG_UID; or else nothing. Only JSON
+-- has the user id here (Never), since the table has a column for it.
 abbrev pub newer_unix_outcome : Attribute → Outcome
 newer_unix_outcome a =
     if attribute_kind a == UNIX_DIAG_UID
     then number_outcome 4 (number_facts Never [] (Some (codes "uid"))) a else Ok None
 
--- What an attribute `a` of a UNIX socket says (linux/unix_diag.h), by its decoded value. The name,
--- the peer and the queues have columns. `icons` are the inodes of connections that wait to be
--- accepted. The memory is parsed again, since its variant has only three of nine fields.
-abbrev pub unix_outcome : Attribute → UnixNla (SocketName (List ℕ)) (List ℕ) Attribute → Outcome
-unix_outcome a (unix_nla.Name name) = Ok (Some (name_facts name))
-unix_outcome a (unix_nla.Vfs v) = Ok (Some (vfs_facts v.inode v.device))
-unix_outcome a (unix_nla.Peer n) = Ok (Some (number_facts Never [] (Some (codes "peer")) n))
-unix_outcome a (unix_nla.PendingConnections inodes) =
+-- `decoded_unix_outcome a value`: what the attribute `a` of a UNIX socket says
+-- (linux/unix_diag.h), which the port decodes as `value`. Only JSON has the name, the peer and the
+-- queues here, since the table has columns for them. `icons` are the inodes of connections that
+-- wait to be accepted. The memory is parsed again from `a`, since the decoded value has only three
+-- of its nine fields.
+abbrev pub decoded_unix_outcome : Attribute
+    → UnixNla (SocketName (List ℕ)) (List ℕ) Attribute → Outcome
+decoded_unix_outcome a (unix_nla.Name name) = Ok (Some (name_facts name))
+decoded_unix_outcome a (unix_nla.Vfs v) = Ok (Some (vfs_facts v.inode v.device))
+decoded_unix_outcome a (unix_nla.Peer n) = Ok (Some (number_facts Never [] (Some (codes "peer")) n))
+decoded_unix_outcome a (unix_nla.PendingConnections inodes) =
     Ok (Some (list_facts (codes " pending:") (codes "icons") inodes))
-unix_outcome a (unix_nla.ReceiveQueueLength first second) = Ok (Some (queue_facts first second))
-unix_outcome a (unix_nla.MemInfo m) = memory_outcome (codes "meminfo") a
-unix_outcome a (unix_nla.Shutdown n) = Ok (Some (shutdown_facts n))
-unix_outcome a (unix_nla.Other other) = newer_unix_outcome a
+decoded_unix_outcome a (unix_nla.ReceiveQueueLength receive send) =
+    Ok (Some (queue_facts receive send))
+decoded_unix_outcome a (unix_nla.MemInfo m) = memory_outcome (codes "meminfo") a
+decoded_unix_outcome a (unix_nla.Shutdown n) = Ok (Some (shutdown_facts n))
+decoded_unix_outcome a (unix_nla.Other other) = newer_unix_outcome a
 
--- what an attribute of a UNIX socket says
-abbrev pub unix_facts : Attribute → Outcome
-unix_facts a =
-    decoded_outcome (λ v. unix_outcome a (unix_variant v)) (decode_attribute unix_attribute_set a)
+-- what an attribute of a UNIX socket says: `decoded_unix_outcome` of its decoded value, or the
+-- decode error
+abbrev pub unix_attribute_outcome : Attribute → Outcome
+unix_attribute_outcome a =
+    decoded_outcome (λ v. decoded_unix_outcome a (unix_variant v))
+    (decode_attribute unix_attribute_set a)
 
 -- ---- IPv4 and IPv6 sockets
 
--- the options of a socket, `struct inet_diag_sockopt`: both bytes as a little-endian number, and a
--- name for each bit that is set
+-- `option_bits bits`: the options of a socket, `struct inet_diag_sockopt`. `bits` are its two bytes
+-- as a little-endian number. JSON has this number. The table has a name for each bit that is set,
+-- in the order of the fields of the struct.
 unfoldable pub option_bits : ℕ → Facts
 option_bits bits = numbers (
     hidden_number (codes "sockopt") bits ∷
@@ -156,7 +172,7 @@ option_bits bits = numbers (
     flag_number 512 (codes " recverr_rfc4884") bits ∷
     flag_number 1024 (codes " defer_connect") bits ∷ [])
 
--- the same
+-- the options of a socket, by the parsed struct (`option_bits`)
 abbrev pub option_facts : SocketOptions → Facts
 option_facts options = option_bits options.bits
 
@@ -190,7 +206,8 @@ bbr_facts v =
     shown_number (codes ",pacing_gain:") (codes "pacing_gain") v.pacing_gain ∷
     shown_number (codes ",cwnd_gain:") (codes "cwnd_gain") v.window_gain ∷ []))
 
--- what an attribute of an IPv4 or IPv6 socket says that the port leaves undecoded
+-- `newer_inet_outcome a`: what an attribute of an IPv4 or IPv6 socket says that the port leaves
+-- undecoded; nothing if its type is unknown here too. INET_DIAG_CGROUP_ID has eight bytes.
 abbrev pub newer_inet_outcome : Attribute → Outcome
 newer_inet_outcome a =
     if attribute_kind a == INET_DIAG_CGROUP_ID
@@ -205,61 +222,68 @@ newer_inet_outcome a =
     else if attribute_kind a == INET_DIAG_ULP_INFO then ulp_outcome a.value
     else Ok None
 
--- What an attribute `a` of an IPv4 or IPv6 socket says (linux/inet_diag.h), by its decoded value.
-abbrev pub inet_outcome : Bool → Attribute → InetNla (List ℕ) Attribute → Outcome
-inet_outcome utf8 a (inet_nla.LegacyMemInfo m) = Ok (Some (legacy_memory_facts m))
-inet_outcome utf8 a (inet_nla.TcpInfo t) = Ok (Some (tcp_info a.value))
-inet_outcome utf8 a (inet_nla.Congestion name) =
+-- `decoded_inet_outcome utf8 a value`: what the attribute `a` of an IPv4 or IPv6 socket says
+-- (linux/inet_diag.h), which the port decodes as `value`. A `struct tcp_info` is shown from the
+-- value of `a`, which may have fields that the decoded value lacks.
+abbrev pub decoded_inet_outcome : Bool → Attribute → InetNla (List ℕ) Attribute → Outcome
+decoded_inet_outcome utf8 a (inet_nla.LegacyMemInfo m) = Ok (Some (legacy_memory_facts m))
+decoded_inet_outcome utf8 a (inet_nla.TcpInfo t) = Ok (Some (tcp_info a.value))
+decoded_inet_outcome utf8 a (inet_nla.Congestion name) =
     Ok (Some (text_facts utf8 (codes " cong:") (codes "cong") name))
-inet_outcome utf8 a (inet_nla.Tos n) =
+decoded_inet_outcome utf8 a (inet_nla.Tos n) =
     Ok (Some (number_facts Hex (codes " tos:0x") (Some (codes "tos")) n))
-inet_outcome utf8 a (inet_nla.Tc n) =
+decoded_inet_outcome utf8 a (inet_nla.Tc n) =
     Ok (Some (number_facts Hex (codes " tclass:0x") (Some (codes "tclass")) n))
-inet_outcome utf8 a (inet_nla.MemInfo m) = Ok (Some (memory_facts (codes "skmeminfo") m))
-inet_outcome utf8 a (inet_nla.Shutdown n) = Ok (Some (shutdown_facts n))
-inet_outcome utf8 a (inet_nla.Protocol n) =
+decoded_inet_outcome utf8 a (inet_nla.MemInfo m) = Ok (Some (memory_facts (codes "skmeminfo") m))
+decoded_inet_outcome utf8 a (inet_nla.Shutdown n) = Ok (Some (shutdown_facts n))
+decoded_inet_outcome utf8 a (inet_nla.Protocol n) =
     Ok (Some (number_facts Always (codes " protocol:") (Some (codes "protocol")) n))
-inet_outcome utf8 a (inet_nla.SkV6Only flag) =
+decoded_inet_outcome utf8 a (inet_nla.SkV6Only flag) =
     Ok (Some (flag_facts Always (codes " v6only:") (codes "skv6only") flag))
-inet_outcome utf8 a (inet_nla.Mark n) =
+decoded_inet_outcome utf8 a (inet_nla.Mark n) =
     Ok (Some (number_facts Hex (codes " fwmark:0x") (Some (codes "mark")) n))
-inet_outcome utf8 a (inet_nla.ClassId n) =
+decoded_inet_outcome utf8 a (inet_nla.ClassId n) =
     Ok (Some (number_facts Hex (codes " class_id:0x") (Some (codes "class_id")) n))
-inet_outcome utf8 a (inet_nla.Other other) = newer_inet_outcome a
+decoded_inet_outcome utf8 a (inet_nla.Other other) = newer_inet_outcome a
 
--- what an attribute of an IPv4 or IPv6 socket says, as the port decodes it
-abbrev pub port_inet_facts : Bool → Attribute → Outcome
-port_inet_facts utf8 a = decoded_outcome (λ v. inet_outcome utf8 a (inet_variant v))
+-- `port_inet_outcome utf8 a`: what an attribute of an IPv4 or IPv6 socket says, as the port decodes
+-- it: `decoded_inet_outcome` of its decoded value, or the decode error
+abbrev pub port_inet_outcome : Bool → Attribute → Outcome
+port_inet_outcome utf8 a = decoded_outcome (λ v. decoded_inet_outcome utf8 a (inet_variant v))
     (decode_attribute inet_attribute_set a)
 
--- what an attribute of an IPv4 or IPv6 socket says, by the meaning of INET_DIAG_INFO
-abbrev pub inet_facts : Bool → Info → Attribute → Outcome
-inet_facts utf8 Tcp a =
+-- `inet_attribute_outcome utf8 info a`: what an attribute of an IPv4 or IPv6 socket says. `info` is
+-- the meaning of INET_DIAG_INFO: for Tcp and Mptcp its value may have any length, and for Unknown
+-- the port decodes it.
+abbrev pub inet_attribute_outcome : Bool → Info → Attribute → Outcome
+inet_attribute_outcome utf8 Tcp a =
     if attribute_kind a == INET_DIAG_INFO then Ok (Some (tcp_info a.value))
-    else port_inet_facts utf8 a
-inet_facts utf8 Mptcp a =
+    else port_inet_outcome utf8 a
+inet_attribute_outcome utf8 Mptcp a =
     if attribute_kind a == INET_DIAG_INFO then Ok (Some (mptcp_info a.value))
-    else port_inet_facts utf8 a
-inet_facts utf8 Unknown a = port_inet_facts utf8 a
+    else port_inet_outcome utf8 a
+inet_attribute_outcome utf8 Unknown a = port_inet_outcome utf8 a
 
 -- ---- netlink, packet, vsock and XDP sockets
 
--- The type of the attribute with the memory. Vsock sockets have none.
+-- The type of the attribute with the memory of a socket of this family. Vsock sockets have none.
 abbrev pub memory_kind : Family → Option ℕ
 memory_kind Netlink = Some NETLINK_DIAG_MEMINFO
 memory_kind Packet = Some PACKET_DIAG_MEMINFO
 memory_kind Vsock = None
 memory_kind Xdp = Some XDP_DIAG_MEMINFO
 
--- an attribute of this type has the memory of a socket of this family
+-- `is_memory_kind family kind`: an attribute of this type has the memory of a socket of this
+-- family; always false for vsock, which has no such attribute
 abbrev pub is_memory_kind : Family → ℕ → Bool
-is_memory_kind family kind = option_map_or (λ k. k == kind) (memory_kind family) false
+is_memory_kind family kind =
+    option_map_or (λ of_memory. of_memory == kind) (memory_kind family) false
 
--- PACKET_DIAG_INFO, `struct packet_diag_info` of linux/packet_diag.h, with a name for each bit
--- PDI_.. of `pdi_flags`
+-- PACKET_DIAG_INFO, `struct packet_diag_info` of linux/packet_diag.h. The table has a name for each
+-- bit PDI_.. of `pdi_flags` that is set.
 unfoldable pub packet_facts : PacketInfo → Facts
 packet_facts p =
-    group [] [] (codes "info") (numbers (
+    json_group (codes "info") (numbers (
     hidden_number (codes "index") p.interface ∷
     shown_number (codes " ver:") (codes "version") p.version ∷
     hidden_number (codes "reserve") p.reserve ∷
@@ -270,48 +294,53 @@ packet_facts p =
     flag_number 4 (codes " origdev") p.flags ∷ flag_number 8 (codes " vnethdr") p.flags ∷
     flag_number 16 (codes " loss") p.flags ∷ []))
 
--- XDP_DIAG_INFO, `struct xdp_diag_info` of linux/if_xdp.h. The table has a column for it.
+-- XDP_DIAG_INFO, `struct xdp_diag_info` of linux/if_xdp.h. Only JSON has it here, since the table
+-- has a column for it.
 unfoldable pub xdp_facts : XdpInfo → Facts
 xdp_facts x =
-    group [] [] (codes "info") (numbers (
+    json_group (codes "info") (numbers (
     hidden_number (codes "ifindex") x.interface ∷ hidden_number (codes "queue_id") x.queue ∷ []))
 
--- the user id of a socket's owner: ` uid:` in the table, `uid` in JSON; an error if the value does
--- not have four bytes
+-- `uid_outcome a`: the user id of a socket's owner: ` uid:` in the table, `uid` in JSON; an error
+-- if the value does not have four bytes
 abbrev pub uid_outcome : Attribute → Outcome
 uid_outcome a = number_outcome 4 (number_facts Always (codes " uid:") (Some (codes "uid"))) a
 
--- the first 32 groups of a netlink socket, a bit for each, in the first four bytes of a value
+-- the first 32 groups of a netlink socket, a bit for each, in the first four bytes of the value; an
+-- error if the value is shorter
 abbrev pub groups_outcome : Attribute → Outcome
 groups_outcome a =
     if nat_le 4 (length a.value)
     then Ok (Some
     (number_facts Hex (codes " groups:0x") (Some (codes "groups")) (little_number 4 a.value)))
-    else length_error a 4
+    else length_outcome a 4
 
--- an attribute other than the memory of a netlink, packet, vsock or XDP socket
-abbrev pub family_outcome : Family → Attribute → Outcome
-family_outcome Netlink a =
+-- `family_outcome_except_memory family a`: what an attribute of a socket of this family says,
+-- except for its memory
+abbrev pub family_outcome_except_memory : Family → Attribute → Outcome
+family_outcome_except_memory Netlink a =
     if attribute_kind a == NETLINK_DIAG_GROUPS then groups_outcome a else Ok None
-family_outcome Packet a =
+family_outcome_except_memory Packet a =
     if attribute_kind a == PACKET_DIAG_INFO
-    then map_ok (λ p. Some (packet_facts p)) (packet_info a.value)
+    then parsed_outcome packet_facts (parse_packet_info a.value)
     else if attribute_kind a == PACKET_DIAG_UID then uid_outcome a else Ok None
-family_outcome Vsock a = Ok None
-family_outcome Xdp a =
-    if attribute_kind a == XDP_DIAG_INFO then map_ok (λ x. Some (xdp_facts x)) (xdp_info a.value)
+family_outcome_except_memory Vsock a = Ok None
+family_outcome_except_memory Xdp a =
+    if attribute_kind a == XDP_DIAG_INFO then parsed_outcome xdp_facts (parse_xdp_info a.value)
     else if attribute_kind a == XDP_DIAG_UID then uid_outcome a else Ok None
 
--- what an attribute of a netlink, packet, vsock or XDP socket says
-abbrev pub family_facts : Family → Attribute → Outcome
-family_facts family a =
+-- `family_attribute_outcome family a`: what an attribute of a netlink, packet, vsock or XDP socket
+-- says
+abbrev pub family_attribute_outcome : Family → Attribute → Outcome
+family_attribute_outcome family a =
     if is_memory_kind family (attribute_kind a) then memory_outcome (codes "meminfo") a
-    else family_outcome family a
+    else family_outcome_except_memory family a
 
--- ---- all
+-- ---- attributes of all kinds
 
--- what an attribute says, by the kind of sockets that the reply is about; `utf8` as in `text_facts`
-abbrev pub attribute_facts : Bool → Sockets → Attribute → Outcome
-attribute_facts utf8 Unix a = unix_facts a
-attribute_facts utf8 (Inet info) a = inet_facts utf8 info a
-attribute_facts utf8 (Other family) a = family_facts family a
+-- `attribute_outcome utf8 sockets a`: what an attribute says, by the kind of sockets that the reply
+-- is about
+abbrev pub attribute_outcome : Bool → Sockets → Attribute → Outcome
+attribute_outcome utf8 Unix a = unix_attribute_outcome a
+attribute_outcome utf8 (Inet info) a = inet_attribute_outcome utf8 info a
+attribute_outcome utf8 (Other family) a = family_attribute_outcome family a

@@ -27,7 +27,7 @@ use Rattle.sock_diag_records.specs.declared.constants.TheConstants.{INET_DIAG_ME
 use Rattle.sock_diag_records.specs.declared.constants.TheConstants.{INET_DIAG_SKMEMINFO}
 use Rattle.sock_diag_records.specs.declared.constants.TheConstants.{INET_DIAG_VEGASINFO}
 use Rattle.sock_diag_records.specs.declared.constants.TheConstants.{UNIX_DIAG_MEMINFO}
-use Rattle.sslist_lister.specs.AttributeFacts.{attribute_facts, is_memory_kind}
+use Rattle.sslist_lister.specs.AttributeFacts.{attribute_outcome, is_memory_kind}
 use Rattle.sslist_lister.specs.Collected.{Summary}
 use Rattle.sslist_lister.specs.Facts.{facts_in}
 use Rattle.sslist_lister.specs.declared.attributes.Sockets.{Sockets}
@@ -35,7 +35,7 @@ use Rattle.sslist_lister.specs.declared.attributes.Sockets.TheVariants.{Unix, In
 
 -- ---- invalid values
 
--- the reason why a value is invalid, in one word
+-- the reason why a value is invalid, in one word: `refused` for the errors that are not listed here
 abbrev pub error_reason : DecodeError → List ℕ
 error_reason (BufferTooSmall which got need) = codes "too-short"
 error_reason (WrongLength kind got need) = codes "wrong-length"
@@ -46,27 +46,29 @@ error_reason (NameInnerZero index) = codes "inner-zero"
 error_reason NameWithoutEnd = codes "no-end"
 error_reason _ = codes "refused"
 
--- an attribute with an invalid value: its type, the length of the value, and the reason. Example: a
--- space and `unread:(4,3,not-utf8)`.
+-- `invalid_attribute_text a e`: an attribute whose value is invalid with the error `e`: its type,
+-- the length of the value, and the reason. Example: ` unread:(4,3,not-utf8)`.
 abbrev pub invalid_attribute_text : Attribute → DecodeError → List ℕ
 invalid_attribute_text a e =
     codes " unread:(" ++ decimal (attribute_kind a) ++ 44 ∷ decimal (length a.value)
     ++ 44 ∷ error_reason e ++ 41 ∷ []
 
--- an unknown attribute: its type and the length of its value. Example: ` unknown:(42,8)`.
+-- `unknown_attribute_text a`: an unknown attribute: its type and the length of its value. Example:
+-- ` unknown:(42,8)`.
 abbrev pub unknown_attribute_text : Attribute → List ℕ
 unknown_attribute_text a = pair_detail (codes "unknown") (attribute_kind a) (length a.value)
 
 -- ---- attributes
 
--- the text of an attribute without facts, by its status (`status_of`)
+-- `status_text a status`: the text of an unknown or invalid attribute, by its status (`status_of`);
+-- nothing for a valid one, of which the facts are shown
 abbrev pub status_text : Attribute → Result Bool DecodeError → List ℕ
 status_text a (Ok true) = []
 status_text a (Ok false) = unknown_attribute_text a
 status_text a (Err e) = invalid_attribute_text a e
 
--- The group of details of an attribute, by the kind of sockets that the reply is about and the type
--- of the attribute.
+-- `detail_group sockets kind`: the group of details of an attribute of this type, in a reply about
+-- these sockets: Memory for the option `-m`, Connection for `-i`, Extended for `-e`
 abbrev pub detail_group : Sockets → ℕ → Detail
 detail_group Unix kind = if kind == UNIX_DIAG_MEMINFO then Memory else Extended
 detail_group (Inet info) kind =
@@ -77,21 +79,24 @@ detail_group (Inet info) kind =
     then Connection else Extended
 detail_group (Other family) kind = if is_memory_kind family kind then Memory else Extended
 
--- the facts of a first valid attribute, if there is one and the options select its group of details
+-- `valid_detail o sockets first`: the text of the facts of the attribute `first`, the first valid
+-- one of its kind. Nothing if there is none (None), or if the options do not select its group of
+-- details.
 abbrev pub valid_detail : Options → Sockets → Option Attribute → List ℕ
 valid_detail o sockets None = []
 valid_detail o sockets (Some a) =
     if shows_detail o (detail_group sockets (attribute_kind a))
-    then (facts_in (attribute_facts o.utf8 sockets a)).text else []
+    then (facts_in (attribute_outcome o.utf8 sockets a)).text else []
 
--- the text of an unknown or invalid attribute with its status, if the options select its group
+-- `other_detail o sockets other`: the text of an unknown or invalid attribute (`other.0`) with its
+-- status (`other.1`). Nothing if the options do not select its group of details.
 abbrev pub other_detail : Options → Sockets → Attribute × Result Bool DecodeError → List ℕ
 other_detail o sockets other =
     if shows_detail o (detail_group sockets (attribute_kind other.0))
     then status_text other.0 other.1 else []
 
--- The timer fields of a reply about an IPv4 or IPv6 socket: `idiag_timer` at 2, `idiag_retrans` at
--- 3 and `idiag_expires` at 52, in milliseconds.
+-- `timer_in b`: the timer fields of a reply about an IPv4 or IPv6 socket, whose payload is `b`:
+-- `idiag_timer` at 2, `idiag_retrans` at 3 and `idiag_expires` at 52, in milliseconds
 abbrev pub timer_in : List ℕ → TimerFields
 timer_in b = record {
   class = slice_index b 2;

@@ -1,5 +1,5 @@
--- Diagnostics on standard error. `front` is the prefix of each line. Packets and messages are
--- numbered from 1 on.
+-- Diagnostics on standard error. `front` is the prefix of each line, and 10 is a line feed. Packets
+-- and messages are numbered from 1 on. `whole` is false if the packet was truncated.
 use Rattle.std.specs.Prelude.{◌≡◌, ℕ, ◌+◌, ◌==◌, if◌then◌else◌, nat_lt, List, [], ◌∷◌, ◌++◌, ◌⊎◌}
 use Rattle.std.specs.Prelude.{bit_and, codes, decimal, drop, length, Option, None, Some}
 use Rattle.std.specs.Prelude.{◌||◌, Bool, false, nat_le, not, true}
@@ -112,106 +112,107 @@ diagnostic_text NoNumber = codes "the kernel's answer has no error number"
 
 -- ---- lines of messages
 
--- the start of a line about the message with the number `message` in the packet with the number
--- `packet`
+-- `line_start front packet message`: the start of a line about the message with the number
+-- `message` in the packet with the number `packet`
 abbrev pub line_start : List ℕ → ℕ → ℕ → List ℕ
 line_start front packet message =
     front ++ codes "packet " ++ decimal packet ++ codes ", message " ++ decimal message
     ++ codes ": "
 
--- `message_line front packet message text`: the line with this text about this message
-abbrev pub message_line : List ℕ → ℕ → ℕ → List ℕ → List ℕ
-message_line front packet message text = line_start front packet message ++ text ++ 10 ∷ []
+-- `diagnostic_line start diagnostic`: the line of a diagnostic, which begins with `start`
+-- (`line_start`); nothing if there is no diagnostic (None)
+abbrev pub diagnostic_line : List ℕ → Option Diagnostic → List ℕ
+diagnostic_line start None = []
+diagnostic_line start (Some diagnostic) = start ++ diagnostic_text diagnostic ++ 10 ∷ []
 
--- `diagnostic_line front packet message diagnostic`: the line of a diagnostic about this message,
--- or nothing if there is none (None)
-abbrev pub diagnostic_line : List ℕ → ℕ → ℕ → Option Diagnostic → List ℕ
-diagnostic_line front packet message None = []
-diagnostic_line front packet message (Some diagnostic) =
-    message_line front packet message (diagnostic_text diagnostic)
-
--- Interrupted if the flags of a message have NLM_F_DUMP_INTR, else None
+-- the diagnostic of the flags of a message: Interrupted if they have NLM_F_DUMP_INTR, else None
 abbrev pub interrupted_diagnostic : ℕ → Option Diagnostic
 interrupted_diagnostic flags =
     if bit_and flags NLM_F_DUMP_INTR == 0 then None else Some Interrupted
 
--- `explained_line front packet message diagnostic more`: the line of a diagnostic about this
--- message, with the text `more` at its end, or nothing if there is none (None)
-abbrev pub explained_line : List ℕ → ℕ → ℕ → Option Diagnostic → List ℕ → List ℕ
-explained_line front packet message None more = []
-explained_line front packet message (Some diagnostic) more =
-    message_line front packet message (diagnostic_text diagnostic ++ more)
+-- `explained_line start diagnostic explained`: the line of a diagnostic, which begins with `start`
+-- (`line_start`) and ends with the text `explained`; nothing if there is no diagnostic (None)
+abbrev pub explained_line : List ℕ → Option Diagnostic → List ℕ → List ℕ
+explained_line start None explained = []
+explained_line start (Some diagnostic) explained =
+    start ++ (diagnostic_text diagnostic ++ explained) ++ 10 ∷ []
 
--- `lines_about_message front packet message m`: the lines about the message `m`, whose number is
--- `message`. The first is about an interrupted dump, the second about its other diagnostic, with
--- what the kernel explains about an error. Each is present only if there is such a diagnostic.
-abbrev pub lines_about_message : List ℕ → ℕ → ℕ → MessageParts → List ℕ
-lines_about_message front packet message m =
-    diagnostic_line front packet message (interrupted_diagnostic m.header.flags)
-    ++ explained_line front packet message (message_diagnostic m.header.message_type m.payload)
-    (explanation m)
+-- `lines_about_message start m`: the lines about the message `m`, each of which begins with `start`
+-- (`line_start`). The first is about an interrupted dump. The second is about any other diagnostic
+-- of the message, and ends with what the kernel explains about an error. Each line is present only
+-- if there is such a diagnostic.
+abbrev pub lines_about_message : List ℕ → MessageParts → List ℕ
+lines_about_message start m =
+    diagnostic_line start (interrupted_diagnostic m.header.flags)
+    ++ explained_line start (message_diagnostic m.header.message_type m.payload) (explanation m)
 
--- `lines_about front packet message messages`: the lines about consecutive messages, of which the
--- first has the number `message`
+-- `lines_about front packet message messages`: the lines about these consecutive messages of the
+-- packet with the number `packet`. The first of them has the number `message`.
 abbrev pub lines_about : List ℕ → ℕ → ℕ → List (List ℕ) → List ℕ
 lines_about front packet message [] = []
 lines_about front packet message (m ∷ later) =
-    lines_about_message front packet message (message_in m)
+    lines_about_message (line_start front packet message) (message_in m)
     ++ lines_about front packet (message + 1) later
 
--- the decode error of a message whose last bytes are missing
+-- the error is that of a message whose last bytes are missing: its header is incomplete, or its
+-- length is greater than the number of bytes
 abbrev pub is_cut : DecodeError → Bool
 is_cut (EnvelopeCut got) = true
 is_cut (EnvelopeLengthPast len got) = true
 is_cut error = false
 
--- `end_line front packet message whole error`: the line about the bytes after the last message,
--- with their decode error, or nothing if there are no such bytes. They count as the message with
--- the number `message`. `whole` is false if the packet was truncated. Then a message whose last
+-- `framing_error_line start whole error`: the line about the bytes after the last message of a
+-- datagram, with their decode error; nothing if there are no such bytes (None). It begins with
+-- `start` (`line_start`). If the packet was truncated (`whole` is false), a message whose last
 -- bytes are missing has no line, since the line about the truncation names the cause.
-abbrev pub end_line : List ℕ → ℕ → ℕ → Bool → Option DecodeError → List ℕ
-end_line front packet message whole None = []
-end_line front packet message whole (Some error) =
-    if whole || not (is_cut error)
-    then diagnostic_line front packet message (Some (Refused error)) else []
+abbrev pub framing_error_line : List ℕ → Bool → Option DecodeError → List ℕ
+framing_error_line start whole None = []
+framing_error_line start whole (Some error) =
+    if whole || not (is_cut error) then diagnostic_line start (Some (Refused error)) else []
 
 -- ---- datagrams and packets
 
--- The text `after` is the text `before`, the lines about the messages of the datagram in order, and
--- the line about the bytes after the last message, if there is one. `packet` is the number of the
--- packet that contains the datagram, and `whole` is false if the packet was truncated.
+-- `DiagnosesMessages front packet whole datagram before after`: the text `after` is the text
+-- `before`, the lines about the messages of the datagram in order, and the line about the bytes
+-- after the last message, if there are any. `packet` is the number of the packet that contains the
+-- datagram.
 pub record DiagnosesMessages (front : List ℕ) (packet : ℕ) (whole : Bool)
     (datagram before after : List ℕ) : Type 0 where
   -- the messages of the datagram, without the padding between them
   pub messages : List (List ℕ)
   -- the error of the bytes after the last message, if there are any
   pub end : Option DecodeError
+  -- the datagram consists of these messages and of the bytes with this error
   pub cut : SplitsIntoMessages datagram messages end
+  -- The first message has the number 1. The bytes after the last one count as one more message.
   pub lines : after ≡ before ++ (lines_about front packet 1 messages
-      ++ end_line front packet (length messages + 1) whole end)
+      ++ framing_error_line (line_start front packet (length messages + 1)) whole end)
 
 -- `DiagnosesFirst request front packet whole datagram before after`: the text `after` is the text
--- `before` and the lines about a datagram that begins with this request, or with none. A request
--- has no lines.
+-- `before` and the lines about a datagram that begins with this request, or with none (None). A
+-- datagram that begins with a request has no lines.
 abbrev pub DiagnosesFirst : Option MessageParts → List ℕ → ℕ → Bool → List ℕ → List ℕ → List ℕ
     → Type 0
 DiagnosesFirst None front packet whole datagram before after =
     DiagnosesMessages front packet whole datagram before after
 DiagnosesFirst (Some request) front packet whole datagram before after = after ≡ before
 
--- the same for any datagram
+-- `DiagnosesDatagram front packet whole datagram before after`: the text `after` is the text
+-- `before` and the lines about the datagram. It has none if it begins with a request.
 abbrev pub DiagnosesDatagram : List ℕ → ℕ → Bool → List ℕ → List ℕ → List ℕ → Type 0
 DiagnosesDatagram front packet whole datagram before after =
     DiagnosesFirst (request_in datagram) front packet whole datagram before after
 
--- the line about a packet with fewer than 16 bytes, if it was not truncated
+-- `short_line_if_whole front packet whole`: the line about the packet with this number, which has
+-- fewer than 16 bytes; nothing if it was truncated
 abbrev pub short_line_if_whole : List ℕ → ℕ → Bool → List ℕ
 short_line_if_whole front packet whole = if whole then short_line front packet else []
 
 -- `DiagnosesContent front packet whole bytes before after`: the text `after` is the text `before`
--- and the lines about the bytes of the packet with this number. These are the lines about its
--- datagram if it is one of sock_diag(7), a line if it has fewer than 16 bytes and was not
--- truncated, or else none. `whole` is false if the packet was truncated.
+-- and the lines about the bytes of the packet with this number. If the packet is one of
+-- sock_diag(7), these are the lines about its datagram, which follows the cooked header of 16
+-- bytes. Otherwise there is one line if the packet has fewer than 16 bytes and was not truncated,
+-- or else none.
 abbrev pub DiagnosesContent : List ℕ → ℕ → Bool → List ℕ → List ℕ → List ℕ → Type 0
 DiagnosesContent front packet whole bytes before after =
     (IsSockDiag bytes × DiagnosesDatagram front packet whole (drop 16 bytes) before after)
@@ -224,15 +225,16 @@ abbrev pub is_complete : CapturedPacket → Bool
 is_complete packet = nat_le packet.header.whole_length (length packet.bytes)
 
 -- `DiagnosesPacket front number packet before after`: the text `after` is the text `before` and the
--- lines about the packet, whose number is `number`: first a line if it was truncated, then those
--- about its bytes.
+-- lines about the packet, whose number is `number`. If it was truncated, the first line says so.
+-- The lines about its bytes follow.
 abbrev pub DiagnosesPacket : List ℕ → ℕ → CapturedPacket → List ℕ → List ℕ → Type 0
 DiagnosesPacket front number packet before after =
     DiagnosesContent front number (is_complete packet) packet.bytes
     (before ++ truncation_line front number (length packet.bytes) packet.header.whole_length) after
 
 -- `AreDiagnosed front number packets lines`: `lines` are the lines about consecutive packets, of
--- which the first has this number
+-- which the first has this number. `first` are the lines about the first packet, without a text
+-- before them (`[]`), and `rest` those about the later ones.
 abbrev pub AreDiagnosed : List ℕ → ℕ → List CapturedPacket → List ℕ → Type 0
 AreDiagnosed front number [] lines = lines ≡ []
 AreDiagnosed front number (packet ∷ packets) lines =

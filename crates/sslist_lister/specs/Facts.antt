@@ -1,8 +1,9 @@
 -- Facts of a reply, and what they are shown as. Texts are lists of ASCII codes: 41 is a closing
 -- parenthesis and 44 a comma.
 use Rattle.std.specs.Prelude.{◌≡◌, ℕ, ◌==◌, ◌/◌, ◌%◌, ◌||◌, if◌then◌else◌, Bool, List, [], ◌∷◌}
-use Rattle.std.specs.Prelude.{◌++◌, IfOk, OnOk, bit_and, codes, decimal, false, flat_map, is_some}
-use Rattle.std.specs.Prelude.{length, nat_le, Option, None, Some, Result, Ok, Err}
+use Rattle.std.specs.Prelude.{◌++◌, bit_and, codes, decimal, false, flat_map, is_some}
+use Rattle.std.specs.Prelude.{length, nat_le, Option, None, Some, option_map, Result, Ok, Err}
+use Rattle.std.specs.Borrow.{Bor}
 use Rattle.std.specs.Fmt.{digits}
 use Rattle.std.specs.Option.{option_map_or}
 use Rattle.byteorder.specs.Endian.{little_number}
@@ -36,15 +37,15 @@ pub record Facts : Type 0 where
 abbrev pub no_facts : Facts
 no_facts = record { text = []; members = [] }
 
--- facts, and those after them
+-- `both a b`: the facts `a`, and after them the facts `b`
 abbrev pub both : Facts → Facts → Facts
 both a b = record { text = a.text ++ b.text; members = a.members ++ b.members }
 
--- the facts of each item of a list, in order
-abbrev pub facts_of_each : {X : Type 0} → (X → Facts) → List X → Facts
-facts_of_each f xs = record {
-  text = flat_map (λ x. (f x).text) xs;
-  members = flat_map (λ x. (f x).members) xs;
+-- `facts_of_each facts items`: the facts of each item of a list, in order
+abbrev pub facts_of_each : {Item : Type 0} → (Item → Facts) → List Item → Facts
+facts_of_each facts items = record {
+  text = flat_map (λ item. (facts item).text) items;
+  members = flat_map (λ item. (facts item).members) items;
 }
 
 -- `group opening closing member facts`: facts that belong together. The table has `opening` before
@@ -55,9 +56,16 @@ group opening closing member facts = record {
   members = object_member member facts.members;
 }
 
+-- `json_group member facts`: facts that belong together. JSON has the object `member` with them,
+-- and the table has no text around them (`[]`).
+abbrev pub json_group : List ℕ → Facts → Facts
+json_group member facts = group [] [] member facts
+
 -- ---- numbers
 
--- `number_text format text n`: the number `n` in the table
+-- `number_text format text n`: the number `n` in the table, by `format` (`Shown` of `src/facts.rt`)
+-- and after `text`. 0xffffffffffffffff is `u64::MAX`, and 0x7fffffff is TCP_INFINITE_SSTHRESH.
+-- `digits 16 false n` are hexadecimal digits in lowercase.
 abbrev pub number_text : Shown → List ℕ → ℕ → List ℕ
 number_text Never text n = []
 number_text Always text n = text ++ decimal n
@@ -75,7 +83,7 @@ number_text Cipher text n = text ++ name_or_number (tls_cipher_name n) n
 number_text Mode text n = text ++ name_or_number (tls_mode_name n) n
 number_text Letters text n = if n == 0 then [] else text ++ flag_letters n
 
--- a number in JSON, under its name; no member for None
+-- `named_member member n`: the number `n` in JSON, under the name `member`; no member for None
 abbrev pub named_member : Option (List ℕ) → ℕ → List JsonMember
 named_member None n = []
 named_member (Some name) n = optional_member name (Some n)
@@ -93,62 +101,84 @@ number_facts format text member n = record {
 abbrev pub NumberRow : Type 0
 NumberRow = Shown × List ℕ × Option (List ℕ) × Option ℕ
 
--- the fact of a row
-abbrev pub number_row : NumberRow → Facts
-number_row row = option_map_or (number_facts row.0 row.1 row.2) row.3 no_facts
+-- the model of a row in the program (`NumberRow` of `src/facts.rt`), whose texts are borrowed
+abbrev pub number_row_of : Shown × Bor (List ℕ) × Option (Bor (List ℕ)) × Option ℕ → NumberRow
+number_row_of row = (row.0, row.1.now, option_map (λ member. member.now) row.2, row.3)
 
--- the facts of a list of numbers
+-- the fact of a row; no fact if its number is None
+abbrev pub number_row_facts : NumberRow → Facts
+number_row_facts row = option_map_or (number_facts row.0 row.1 row.2) row.3 no_facts
+
+-- the facts of these rows, in order
 unfoldable pub numbers : List NumberRow → Facts
-numbers rows = facts_of_each number_row rows
+numbers rows = facts_of_each number_row_facts rows
 
--- a number that the table shows after this text, and JSON has
+-- `shown_number text member n`: the row of a number that the table shows after `text`, and JSON has
+-- under `member`
 abbrev pub shown_number : List ℕ → List ℕ → ℕ → NumberRow
 shown_number text member n = (Always, text, Some member, Some n)
 
--- a number that only JSON has
+-- `hidden_number member n`: the row of a number that only JSON has, under `member`
 abbrev pub hidden_number : List ℕ → ℕ → NumberRow
 hidden_number member n = (Never, [], Some member, Some n)
 
--- bits that only the table shows, by a text, if the number has one of them
+-- `flag_number bits text n`: the row of a text that the table shows if the number `n` has one of
+-- these bits. JSON does not have it.
 abbrev pub flag_number : ℕ → List ℕ → ℕ → NumberRow
 flag_number bits text n = (Bits bits, text, None, Some n)
 
 -- ---- other values
 
--- a flag, which the table shows as the number 0 or 1
+-- `flag_facts format text member flag`: a flag. The table shows it as the number 0 or 1, by
+-- `format` and after `text`. JSON has it under `member`, as `true` or `false`.
 unfoldable pub flag_facts : Shown → List ℕ → List ℕ → Bool → Facts
 flag_facts format text member flag = record {
   text = number_text format text (if flag then 1 else 0);
   members = flag_member member flag;
 }
 
--- `text_facts utf8 text member name`: a name, which the table shows after `text`, escaped as names
--- of sockets are
+-- `text_facts utf8 text member name`: a name. The table shows it after `text`, escaped as names of
+-- sockets are; `utf8` is the option `--utf8`. JSON has it under `member`.
 unfoldable pub text_facts : Bool → List ℕ → List ℕ → List ℕ → Facts
 text_facts utf8 text member name = record {
   text = text ++ shown_name utf8 name;
   members = text_member member name;
 }
 
--- `list_facts text member ns`: numbers, of which the table shows each after `text`
+-- `list_facts text member ns`: the numbers `ns`. The table shows each after `text`. JSON has the
+-- array `member`.
 unfoldable pub list_facts : List ℕ → List ℕ → List ℕ → Facts
 list_facts text member ns = record {
   text = flat_map (λ n. text ++ decimal n) ns;
   members = numbers_member member ns;
 }
 
--- the name of a UNIX socket, for which the table has a column
+-- the name of a UNIX socket, which only JSON has here, since the table has a column for it
 unfoldable pub name_facts : SocketName (List ℕ) → Facts
 name_facts name = record { text = []; members = object_member (codes "name") (name_members name) }
 
 -- ---- sinks
 
--- `Shows kept content items result old new facts`: unless an allocation failed, these facts were
--- appended to a sink (`src/facts.rt`), and the text before its content is unchanged.
-abbrev pub Shows : {W I A E : Type 0} → (W → List ℕ) → (W → List I) → (Facts → List I)
-    → Result A E → W → W → Facts → Type 0
-Shows kept content items result old new facts =
-    OnOk result ((kept new ≡ kept old) × (content new ≡ content old ++ items facts))
+-- What a sink (`src/facts.rt`) shows: a list of items, ASCII codes in the table and tokens in JSON.
+-- `items facts` are the items of facts.
+pub record SinkContent {Item : Type 0} (items : Facts → List Item) : Type 0 where
+  -- the items that were appended so far
+  pub shown : List Item
+  -- the text in the sink before the first item; no fact changes it
+  pub text_before : List ℕ
+
+-- `AddsItems old new added`: the items `added` were appended to the content `old` of a sink, which
+-- then is `new`. `Item` and `items` are those of the sink.
+abbrev pub AddsItems : {Item : Type 0} {items : Facts → List Item} → SinkContent items
+    → SinkContent items → List Item → Type 0
+AddsItems old new added =
+    (new.text_before ≡ old.text_before) × (new.shown ≡ old.shown ++ added)
+
+-- `AddsFacts old new facts`: the items of these facts were appended to the content `old` of a sink,
+-- which then is `new`
+abbrev pub AddsFacts : {Item : Type 0} {items : Facts → List Item} → SinkContent items
+    → SinkContent items → Facts → Type 0
+AddsFacts {items = items} old new facts = AddsItems old new (items facts)
 
 -- ---- attributes
 
@@ -163,36 +193,45 @@ facts_in (Ok (Some facts)) = facts
 facts_in (Ok None) = no_facts
 facts_in (Err e) = no_facts
 
--- whether an outcome has facts; the error of an invalid value
+-- the status of an attribute that says this (`Status` of `src/facts.rt`): true if it has facts,
+-- false if its type is unknown, or the error of its value
 abbrev pub status_of : Outcome → Result Bool DecodeError
 status_of outcome = map_ok is_some outcome
 
--- `Decodes kept content items result old new outcome`: unless an allocation failed, the facts of
--- the outcome were appended to a sink, and the result is its status.
-abbrev pub Decodes : {W I E : Type 0} → (W → List ℕ) → (W → List I) → (Facts → List I)
-    → Result (Result Bool DecodeError) E → W → W → Outcome → Type 0
-Decodes kept content items result old new outcome =
-    IfOk result (λ status. (kept new ≡ kept old)
-    × (content new ≡ content old ++ items (facts_in outcome)) × (status ≡ status_of outcome))
+-- `AddsOutcome old new outcome status`: the facts of the outcome, if it has any, were appended to
+-- the content `old` of a sink, which then is `new`, and `status` is the status of the outcome
+abbrev pub AddsOutcome : {Item : Type 0} {items : Facts → List Item} → SinkContent items
+    → SinkContent items → Outcome → Result Bool DecodeError → Type 0
+AddsOutcome old new outcome =
+    λ status. AddsFacts old new (facts_in outcome) × (status ≡ status_of outcome)
 
--- `decoded_outcome facts value`: the outcome `facts` of a decoded value, or the error of an invalid
--- one
-abbrev pub decoded_outcome : {A : Type 0} → (A → Outcome) → Result A DecodeError → Outcome
-decoded_outcome facts (Ok value) = facts value
-decoded_outcome facts (Err e) = Err e
+-- `decoded_outcome outcome parsed`: what an attribute says whose value was decoded with the result
+-- `parsed`: `outcome` of the decoded value, or the decode error
+abbrev pub decoded_outcome : {Value : Type 0} → (Value → Outcome) → Result Value DecodeError
+    → Outcome
+decoded_outcome outcome (Ok value) = outcome value
+decoded_outcome outcome (Err e) = Err e
 
--- the error of an attribute whose value does not have `need` bytes
-abbrev pub length_error : Attribute → ℕ → Outcome
-length_error a need = Err (WrongLength (Some (attribute_kind a)) (length a.value) need)
+-- `parsed_outcome facts parsed`: what an attribute says whose value was parsed with the result
+-- `parsed`: `facts` of the parsed value, or the decode error
+abbrev pub parsed_outcome : {Value : Type 0} → (Value → Facts) → Result Value DecodeError → Outcome
+parsed_outcome facts parsed = map_ok (λ value. Some (facts value)) parsed
 
--- `number_outcome width facts a`: the facts of a little-endian number, which is the whole value
+-- `length_outcome a need`: the error of the attribute `a`, whose value does not have `need` bytes
+abbrev pub length_outcome : Attribute → ℕ → Outcome
+length_outcome a need = Err (WrongLength (Some (attribute_kind a)) (length a.value) need)
+
+-- `number_outcome width facts a`: what the attribute `a` says, whose value is a little-endian
+-- number of `width` bytes: `facts` of this number; an error for any other length
 abbrev pub number_outcome : ℕ → (ℕ → Facts) → Attribute → Outcome
 number_outcome width facts a =
     if length a.value == width then Ok (Some (facts (little_number width a.value)))
-    else length_error a width
+    else length_outcome a width
 
--- `record_outcome layout facts a`: the facts of the record at the start of a value
-abbrev pub record_outcome : {V : Type 0} → RecordTable V → (V → Facts) → Attribute → Outcome
+-- `record_outcome layout facts a`: what the attribute `a` says, whose value begins with a record of
+-- this layout: `facts` of this record; an error if the value is too short
+abbrev pub record_outcome : {Value : Type 0} → RecordTable Value → (Value → Facts) → Attribute
+    → Outcome
 record_outcome layout facts a =
     if nat_le layout.size (length a.value) then Ok (Some (facts (parse_by_table layout a.value)))
-    else length_error a layout.size
+    else length_outcome a layout.size

@@ -18,10 +18,10 @@ abbrev pub text_before_table : Options → Option (List ℕ) → List ℕ → Li
 text_before_table o name heading =
     if o.no_heading || o.json then [] else caption o.utf8 name ++ heading
 
--- `list_heading o h heading is_repetition`: the text before the lines of a request. If it repeats
--- the first request, it begins another list of sockets: an empty line (10), a line with the time of
--- its capture, which is in the packet header `h`, and the heading. Nothing for other requests, and
--- with `-H` or `--json`.
+-- `list_heading o h heading is_repetition`: the text before the lines of a request. A request that
+-- repeats the first one (`is_repetition`) begins another list of sockets. Then the text is an empty
+-- line (10), a line with the time of its capture, which is in the packet header `h`, and the
+-- heading. It is empty for any other request, and with `-H` or `--json`.
 abbrev pub list_heading : Options → PacketHeader → List ℕ → Bool → List ℕ
 list_heading o h heading is_repetition =
     if not is_repetition || (o.no_heading || o.json) then []

@@ -9,7 +9,7 @@ use Rattle.sslist_lister.specs.Collected.{Summary}
 use Rattle.sslist_lister.specs.Details.{error_reason}
 use Rattle.sslist_lister.specs.texts.JsonData.{JsonMember, array_member, number_members, object_of}
 use Rattle.sslist_lister.specs.texts.JsonData.{json_line, optional_member, text_member}
-use Rattle.sslist_lister.specs.AttributeFacts.{attribute_facts}
+use Rattle.sslist_lister.specs.AttributeFacts.{attribute_outcome}
 use Rattle.sslist_lister.specs.Facts.{facts_in}
 use Rattle.sslist_lister.specs.declared.attributes.Sockets.{Sockets}
 
@@ -21,22 +21,24 @@ unfoldable pub attribute_members : Attribute → List JsonMember
 attribute_members a =
     number_members ((codes "kind", attribute_kind a) ∷ (codes "length", length a.value) ∷ [])
 
--- the members of an attribute with this status: its type and the length of its value, and the
--- reason in one word if the value is invalid
+-- `item_members a status`: the members of an attribute with this status: its type and the length of
+-- its value, and the reason in one word if the value is invalid
 unfoldable pub item_members : Attribute → Result Bool DecodeError → List JsonMember
 item_members a (Ok has_facts) = attribute_members a
 item_members a (Err e) = attribute_members a ++ text_member (codes "error") (error_reason e)
 
--- the item of an unknown or invalid attribute, with its status, in the array `other_attributes`
+-- the item of an unknown or invalid attribute (`.0`) with its status (`.1`) in the array
+-- `other_attributes`
 abbrev pub other_item : Attribute × Result Bool DecodeError → Json
 other_item other = object_of (item_members other.0 other.1)
 
 -- ---- all attributes of a reply
 
--- the members of a first valid attribute, if there is one
+-- `valid_members sockets first`: the members of the facts of the attribute `first`; none if there
+-- is no attribute (None). JSON does not depend on the option `--utf8`, for which `false` is passed.
 abbrev pub valid_members : Sockets → Option Attribute → List JsonMember
 valid_members sockets None = []
-valid_members sockets (Some a) = (facts_in (attribute_facts false sockets a)).members
+valid_members sockets (Some a) = (facts_in (attribute_outcome false sockets a)).members
 
 -- The members of the attributes of a reply: those of the first valid attribute of each kind, in the
 -- order of the kinds, and `other_attributes` with the unknown and the invalid attributes, in the
@@ -48,7 +50,7 @@ attributes_members s =
 
 -- ---- sockets
 
--- the number of a list, if it is not the first one
+-- the number of a list; None for the first list, whose number is not shown
 abbrev pub later_list : ℕ → Option ℕ
 later_list list = if nat_lt 1 list then Some list else None
 
@@ -58,6 +60,7 @@ abbrev pub socket_members : ℕ → List JsonMember → Summary → List JsonMem
 socket_members list header s =
     header ++ attributes_members s ++ optional_member (codes "list") (later_list list)
 
--- the line of a socket
+-- `socket_json list header s`: the line of a socket: an object with `socket_members`, and a line
+-- feed
 abbrev pub socket_json : ℕ → List JsonMember → Summary → List ℕ
 socket_json list header s = json_line (socket_members list header s)

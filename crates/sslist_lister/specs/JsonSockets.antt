@@ -21,24 +21,27 @@ unix_header_members h =
     (codes "state", h.state) ∷ (codes "ino", h.inode) ∷ [])
     ++ cookie_member h.cookie))
 
--- the members of the header of an IPv4 or IPv6 socket that precede the addresses: `idiag_family`,
--- `idiag_state`, `idiag_timer` and `idiag_retrans`, and `idiag_sport` and `idiag_dport` of its `id`
+-- `inet_front_members timer h`: the members of the header of an IPv4 or IPv6 socket that precede
+-- the addresses: `idiag_family`, `idiag_state`, `idiag_timer` and `idiag_retrans`, and
+-- `idiag_sport` and `idiag_dport` of its `id`
 abbrev pub inet_front_members : TimerFields → InetResponseHeader → List JsonMember
 inet_front_members timer h =
     number_members ((codes "family", h.family) ∷ (codes "state", h.state) ∷
     (codes "timer", timer.class) ∷ (codes "retrans", timer.retransmits) ∷
     (codes "sport", h.socket_id.source_port) ∷ (codes "dport", h.socket_id.destination_port) ∷ [])
 
--- the members of the header of an IPv4 or IPv6 socket that follow the cookie: `idiag_expires` in
--- milliseconds, `idiag_rqueue` and `idiag_wqueue` in bytes, `idiag_uid` and `idiag_inode`
+-- `inet_back_members timer h`: the members of the header of an IPv4 or IPv6 socket that follow the
+-- cookie: `idiag_expires` in milliseconds, `idiag_rqueue` and `idiag_wqueue` in bytes, `idiag_uid`
+-- and `idiag_inode`
 abbrev pub inet_back_members : TimerFields → InetResponseHeader → List JsonMember
 inet_back_members timer h =
     number_members ((codes "expires", timer.expires) ∷ (codes "rqueue", h.recv_queue) ∷
     (codes "wqueue", h.send_queue) ∷ (codes "uid", h.uid) ∷ (codes "inode", h.inode) ∷ [])
 
--- The members of the header of an IPv4 or IPv6 socket, `struct inet_diag_msg` of linux/inet_diag.h.
--- `src`, `dst`, `if` and `cookie` are `idiag_src`, `idiag_dst`, `idiag_if` and `idiag_cookie` of
--- its `id`. `protocol` is the protocol of the request.
+-- `inet_header_members protocol timer h`: the members of the header `h` of an IPv4 or IPv6 socket,
+-- `struct inet_diag_msg` of linux/inet_diag.h. `src`, `dst`, `if` and `cookie` are `idiag_src`,
+-- `idiag_dst`, `idiag_if` and `idiag_cookie` of its `id`. `protocol` is the protocol of the
+-- request, None if that is not known, and `timer` are the timer fields of the header.
 unfoldable pub inet_header_members : Option ℕ → TimerFields → InetResponseHeader → List JsonMember
 inet_header_members protocol timer h =
     text_member (codes "netid") (inet_kind protocol h.family)

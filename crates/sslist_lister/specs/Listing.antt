@@ -1,6 +1,7 @@
 -- The lines and diagnostics of messages, datagrams and packets of a capture. `b` is the payload of
 -- a message. `list` is the number of the list of sockets that a reply belongs to (`PastRequests`),
--- and `protocol` is the protocol of its request, None if that is not known.
+-- and `protocol` is the protocol of its request, None if that is not known. The parsers of headers
+-- have no parameter (`tt`).
 use Rattle.std.specs.Prelude.{◌≡◌, ◌↔◌, Bool, true, false, IsTrue, ℕ, ℤ, pos, negsuc, ◌+◌}
 use Rattle.std.specs.Prelude.{◌==◌, ◌&&◌, if◌then◌else◌, nat_le, nat_lt, List, [], ◌++◌, ◌≤◌, ◌⊎◌}
 use Rattle.std.specs.Prelude.{bit_and, drop, length, flat_map, is_none, Option, None, Some}
@@ -25,12 +26,24 @@ use Rattle.sock_diag_records.specs.InetResponse.{inet_response_header}
 use Rattle.sock_diag_records.specs.UnixResponseHeader.{unix_response_header}
 use Rattle.sock_diag_records.specs.ResponseKind.{MessageKind, inet_response, response_kind}
 use Rattle.sock_diag_records.specs.ResponseKind.{unix_response}
+use Rattle.sock_diag_records.specs.declared.inet.response.TheConstants.{INET_RESPONSE_HEADER_LEN}
+use Rattle.sock_diag_records.specs.declared.unix.response.TheConstants.{UNIX_RESPONSE_HEADER_LEN}
 use Rattle.sock_diag_families.specs.NetlinkResponseHeader.{netlink_header}
 use Rattle.sock_diag_families.specs.PacketResponseHeader.{packet_header}
 use Rattle.sock_diag_families.specs.VsockResponseHeader.{vsock_header}
 use Rattle.sock_diag_families.specs.XdpResponseHeader.{xdp_header}
+use Rattle.sock_diag_families.specs.declared.netlink.response.NetlinkResponseHeader.{
+  NetlinkResponseHeader,
+}
+use Rattle.sock_diag_families.specs.declared.packet.response.PacketResponseHeader.{
+  PacketResponseHeader,
+}
+use Rattle.sock_diag_families.specs.declared.vsock.response.VsockResponseHeader.{
+  VsockResponseHeader,
+}
+use Rattle.sock_diag_families.specs.declared.xdp.response.XdpResponseHeader.{XdpResponseHeader}
 use Rattle.sslist_lister.specs.Collected.{Summary, summary_of}
-use Rattle.sslist_lister.specs.Pieces.{AttributeOrError, framing_error_of, attributes_or_error}
+use Rattle.sslist_lister.specs.Pieces.{AttributeOrError, framing_error_of, pieces_in}
 use Rattle.sslist_lister.specs.Table.{info_of_protocol}
 use Rattle.sslist_lister.specs.declared.attributes.Sockets.{Sockets}
 use Rattle.sslist_lister.specs.declared.attributes.Sockets.TheVariants.{Inet, Other, Unix}
@@ -49,6 +62,8 @@ use Rattle.sslist_lister.specs.texts.JsonData.{JsonMember}
 use Rattle.sslist_lister.specs.JsonListing.{inet_output, other_output, unix_output}
 use Rattle.sslist_lister.specs.JsonOthers.{netlink_header_members, packet_header_members}
 use Rattle.sslist_lister.specs.JsonOthers.{vsock_header_members, xdp_header_members}
+use Rattle.sock_diag_records.specs.declared.inet.response.InetResponseHeader.{InetResponseHeader}
+use Rattle.sslist_lister.specs.declared.line.InetSocket.{InetSocket}
 use Rattle.sslist_lister.specs.declared.list.Diagnostic.{Diagnostic}
 use Rattle.sslist_lister.specs.declared.list.Diagnostic.TheVariants.{Refused, Answered, Lost}
 use Rattle.sslist_lister.specs.declared.list.Diagnostic.TheVariants.{Invalid, NoEntry}
@@ -56,51 +71,94 @@ use Rattle.sslist_lister.specs.declared.list.Diagnostic.TheVariants.{NoNumber}
 
 -- ---- replies
 
--- `lines_after_header lines sockets result given`: the lines of a reply about these sockets with
--- these attributes, whose header parses to `result`. There are none if the header is invalid.
-abbrev pub lines_after_header : {H : Type 0} → (H → Summary → List ℕ) → Sockets
+-- `reply_lines lines sockets header attributes`: the lines of a reply about these sockets: `lines`
+-- of its header and of the summary of its attributes. There are none if the header is invalid:
+-- `header` is the parsed one, or its decode error.
+abbrev pub reply_lines : {H : Type 0} → (H → Summary → List ℕ) → Sockets
     → Result H DecodeError → List AttributeOrError → List ℕ
-lines_after_header lines sockets (Ok h) given = lines h (summary_of sockets given)
-lines_after_header lines sockets (Err e) given = []
+reply_lines lines sockets (Ok header) attributes = lines header (summary_of sockets attributes)
+reply_lines lines sockets (Err e) attributes = []
 
--- `error_after_reply_header result given`: the decode error of a reply: of its header, or else of
--- the bytes after its last attribute; None if there is none. `result` and `given` are those of
--- `lines_after_header`.
-abbrev pub error_after_reply_header : {H : Type 0} → Result H DecodeError → List AttributeOrError
+-- `reply_error header attributes`: the decode error of a reply: of its header, or else of the bytes
+-- after its last attribute; None if there is none
+abbrev pub reply_error : {H : Type 0} → Result H DecodeError → List AttributeOrError
     → Option DecodeError
-error_after_reply_header (Ok h) given = framing_error_of given
-error_after_reply_header (Err e) given = Some e
+reply_error (Ok header) attributes = framing_error_of attributes
+reply_error (Err e) attributes = Some e
 
--- `other_reply_lines o list header socket family members b`: the lines of a reply about a netlink,
--- packet, vsock or XDP socket in the list of this number. `header` is the layout of its header,
--- which has `header.least` bytes, `socket h s` are the values that a line of the table shows, and
--- `members h` are the members of the header in a line of JSON.
-abbrev pub other_reply_lines : {T H : Type 0} → Options → ℕ → Layout (Unit {0}) T H
-    → (H → Summary → OtherSocket) → Family → (H → List JsonMember) → List ℕ → List ℕ
-other_reply_lines o list header socket family members b =
-    lines_after_header (λ h s. other_output o list (socket h s) (members h) s) (Other family)
-    (parse_record header tt b) (attributes_or_error 0 (drop header.least b))
+-- How the replies about sockets of a netlink, packet, vsock or XDP family are listed. `Header` is
+-- the type of their header, and `Tag` is the type of the tag of its layout.
+pub record ReplyFormat (Tag Header : Type 0) : Type 1 where
+  pub family : Family
+  -- the layout of the header, which has `layout.least` bytes
+  pub layout : Layout (Unit {0}) Tag Header
+  -- the values that a line of the table shows
+  pub socket : Header → Summary → OtherSocket
+  -- the members of the header in a line of JSON
+  pub members : Header → List JsonMember
 
--- `other_reply_error header b`: the decode error of a reply with this layout of its header, or None
+-- `other_reply_lines o list format b`: the lines of a reply in this format, about a socket in the
+-- list of this number
+abbrev pub other_reply_lines : {Tag Header : Type 0} → Options → ℕ → ReplyFormat Tag Header
+    → List ℕ → List ℕ
+other_reply_lines o list format b =
+    reply_lines
+    (λ header s. other_output o list (format.socket header s) (format.members header) s)
+    (Other format.family)
+    (parse_record format.layout tt b) (pieces_in (drop format.layout.least b))
+
+-- `other_reply_error layout b`: the decode error of a reply with this layout of its header, or None
 abbrev pub other_reply_error : {T H : Type 0} → Layout (Unit {0}) T H → List ℕ → Option DecodeError
-other_reply_error header b = error_after_reply_header (parse_record header tt b)
-    (attributes_or_error 0 (drop header.least b))
+other_reply_error layout b =
+    reply_error (parse_record layout tt b) (pieces_in (drop layout.least b))
+
+-- the format of replies about netlink sockets; the layout of the header has no tag (Unit)
+abbrev pub netlink_format : ReplyFormat (Unit {0}) NetlinkResponseHeader
+netlink_format = record {
+  family = Netlink;
+  layout = netlink_header;
+  socket = netlink_socket;
+  members = netlink_header_members;
+}
+
+-- the format of replies about packet sockets; the layout of the header has no tag (Unit)
+abbrev pub packet_format : ReplyFormat (Unit {0}) PacketResponseHeader
+packet_format = record {
+  family = Packet;
+  layout = packet_header;
+  socket = packet_socket;
+  members = packet_header_members;
+}
+
+-- the format of replies about vsock sockets; the layout of the header has no tag (Unit)
+abbrev pub vsock_format : ReplyFormat (Unit {0}) VsockResponseHeader
+vsock_format = record {
+  family = Vsock;
+  layout = vsock_header;
+  socket = vsock_socket;
+  members = vsock_header_members;
+}
+
+-- the format of replies about XDP sockets; the layout of the header has no tag (Unit)
+abbrev pub xdp_format : ReplyFormat (Unit {0}) XdpResponseHeader
+xdp_format = record {
+  family = Xdp;
+  layout = xdp_header;
+  socket = xdp_socket;
+  members = xdp_header_members;
+}
 
 -- `family_lines o list family b`: the lines of a reply about a socket of this family; none for an
 -- unknown family (None)
 abbrev pub family_lines : Options → ℕ → Option Family → List ℕ → List ℕ
-family_lines o list (Some Netlink) b =
-    other_reply_lines o list netlink_header netlink_socket Netlink netlink_header_members b
-family_lines o list (Some Packet) b =
-    other_reply_lines o list packet_header packet_socket Packet packet_header_members b
-family_lines o list (Some Vsock) b =
-    other_reply_lines o list vsock_header vsock_socket Vsock vsock_header_members b
-family_lines o list (Some Xdp) b =
-    other_reply_lines o list xdp_header xdp_socket Xdp xdp_header_members b
+family_lines o list (Some Netlink) b = other_reply_lines o list netlink_format b
+family_lines o list (Some Packet) b = other_reply_lines o list packet_format b
+family_lines o list (Some Vsock) b = other_reply_lines o list vsock_format b
+family_lines o list (Some Xdp) b = other_reply_lines o list xdp_format b
 family_lines o list None b = []
 
--- `family_error family b`: the decode error of a reply about a socket of this family, if there is
--- one; None for an unknown family
+-- `family_error family b`: the decode error of a reply about a socket of this family, or None; also
+-- None for an unknown family, whose replies are not checked
 abbrev pub family_error : Option Family → List ℕ → Option DecodeError
 family_error (Some Netlink) b = other_reply_error netlink_header b
 family_error (Some Packet) b = other_reply_error packet_header b
@@ -108,39 +166,50 @@ family_error (Some Vsock) b = other_reply_error vsock_header b
 family_error (Some Xdp) b = other_reply_error xdp_header b
 family_error None b = None
 
+-- `inet_socket protocol b header`: the IPv4 or IPv6 socket of the reply with the payload `b`, which
+-- begins with this header. `protocol` is the protocol of the request.
+abbrev pub inet_socket : Option ℕ → List ℕ → InetResponseHeader → InetSocket
+inet_socket protocol b header = record {
+  protocol = protocol;
+  timer = timer_in b;
+  header = header;
+}
+
 -- `payload_lines o list protocol kind b`: the lines of the payload `b`. `kind` is the kind of the
--- reply, or the reason why it is not one. Attributes follow a `struct unix_diag_msg` of 16 bytes,
--- or a `struct inet_diag_msg` of 72 bytes. A payload that is not a reply has no lines, except for
--- one about a netlink, packet, vsock or XDP socket (`family_lines`).
+-- reply, or the reason why it is not one. Attributes follow a `struct unix_diag_msg` or a `struct
+-- inet_diag_msg`. A payload that is not a reply has no lines, except for one about a netlink,
+-- packet, vsock or XDP socket (`family_lines`).
 abbrev pub payload_lines : Options → ℕ → Option ℕ → Result MessageKind DecodeError → List ℕ
     → List ℕ
 payload_lines o list protocol (Ok unix_response) b =
-    lines_after_header (unix_output o list) Unix (parse_record unix_response_header tt b)
-    (attributes_or_error 0 (drop 16 b))
+    reply_lines (unix_output o list) Unix (parse_record unix_response_header tt b)
+    (pieces_in (drop UNIX_RESPONSE_HEADER_LEN b))
 payload_lines o list protocol (Ok inet_response) b =
-    lines_after_header (inet_output o list protocol (timer_in b)) (Inet (info_of_protocol protocol))
-    (parse_record inet_response_header tt b) (attributes_or_error 0 (drop 72 b))
+    reply_lines (λ header. inet_output o list (inet_socket protocol b header))
+    (Inet (info_of_protocol protocol))
+    (parse_record inet_response_header tt b) (pieces_in (drop INET_RESPONSE_HEADER_LEN b))
 payload_lines o list protocol (Err (UnknownFamily n)) b = family_lines o list (family_numbered n) b
 payload_lines o list protocol _ b = []
 
--- `payload_error kind b`: the decode error of the payload `b`: of the reply, or the reason why it
--- is not a reply. An invalid value of an attribute is not considered. A reply about a socket of an
--- unknown family has no error.
+-- `payload_error kind b`: the decode error of the payload `b`: that of the reply, or the reason why
+-- it is not a reply. An invalid value of an attribute is not considered. A reply about a socket of
+-- an unknown family has no error. `kind` is never a request (`response_kind`), the case of the last
+-- equation.
 abbrev pub payload_error : Result MessageKind DecodeError → List ℕ → Option DecodeError
 payload_error (Ok unix_response) b =
-    error_after_reply_header (parse_record unix_response_header tt b)
-    (attributes_or_error 0 (drop 16 b))
+    reply_error (parse_record unix_response_header tt b)
+    (pieces_in (drop UNIX_RESPONSE_HEADER_LEN b))
 payload_error (Ok inet_response) b =
-    error_after_reply_header (parse_record inet_response_header tt b)
-    (attributes_or_error 0 (drop 72 b))
+    reply_error (parse_record inet_response_header tt b)
+    (pieces_in (drop INET_RESPONSE_HEADER_LEN b))
 payload_error (Err (UnknownFamily n)) b = family_error (family_numbered n) b
 payload_error (Err e) b = Some e
 payload_error _ b = None
 
 -- ---- messages
 
--- `is_control t`: the type `t` is the one of a control message: NLMSG_NOOP (1), NLMSG_ERROR (2),
--- NLMSG_DONE (3) or NLMSG_OVERRUN (4), which are consecutive
+-- `is_control t`: the type `t` is the one of a control message: NLMSG_NOOP, NLMSG_ERROR, NLMSG_DONE
+-- or NLMSG_OVERRUN, which are the numbers 1 to 4
 abbrev pub is_control : ℕ → Bool
 is_control t = nat_le NLMSG_NOOP t && nat_le t NLMSG_OVERRUN
 
@@ -164,7 +233,7 @@ errno_diagnostic errno =
     if errno == ENOENT then NoEntry else if errno == EINVAL then Invalid else Answered errno
 
 -- the diagnostic of an NLMSG_ERROR or NLMSG_DONE with this number: a negated number of errno(3), or
--- else no error; None is too short for a number. `negsuc n` is the number -(n + 1).
+-- else no error. None: the message is too short for a number. `negsuc n` is the number -(n + 1).
 abbrev pub answer_diagnostic : Option ℤ → Option Diagnostic
 answer_diagnostic None = Some NoNumber
 answer_diagnostic (Some (pos n)) = None
@@ -185,14 +254,14 @@ message_diagnostic t payload =
     if is_control t then control_diagnostic t payload
     else option_map Refused (payload_error (response_kind payload t) payload)
 
--- there is no diagnostic, or it is one of the two notes
+-- there is no diagnostic, or it is one of the two notes: NoEntry or Invalid
 abbrev pub is_informational_or_none : Option Diagnostic → Bool
 is_informational_or_none None = true
 is_informational_or_none (Some NoEntry) = true
 is_informational_or_none (Some Invalid) = true
 is_informational_or_none (Some diagnostic) = false
 
--- the message has neither the flag NLM_F_DUMP_INTR nor a diagnostic other than a note
+-- the message has neither the flag NLM_F_DUMP_INTR nor a diagnostic, except for a note
 abbrev pub is_clean_message : MessageParts → Bool
 is_clean_message m = (bit_and m.header.flags NLM_F_DUMP_INTR == 0)
     && is_informational_or_none (message_diagnostic m.header.message_type m.payload)
@@ -214,23 +283,25 @@ pub record ListsMessages (o : Options) (past : PastRequests) (datagram before af
   pub messages : List (List ℕ)
   -- the error of the bytes after the last message, if there are any
   pub end : Option DecodeError
+  -- the datagram consists of these messages and of the bytes with this error
   pub cut : SplitsIntoMessages datagram messages end
   pub lines : after ≡ before ++ flat_map (λ m. message_lines o past (message_in m)) messages
   pub clean : is_clean
       ≡ (list_all (λ m. is_clean_message (message_in m)) messages && is_none end)
 
--- `request_lines o past header request`: the lines of a request: if it repeats the first one of
--- the requests `past`, which precede it, the text that begins another list of sockets; and its own
--- line, if `--requests` is set. `header` is the packet header, with the time of capture.
+-- `request_lines o past header request`: the lines of a request. If the request repeats the first
+-- one of the earlier requests `past`, they begin with the text that begins another list of sockets.
+-- Its own line follows, if `--requests` is set and `--json` is not. `header` is the packet header,
+-- with the time of capture.
 abbrev pub request_lines : Options → PastRequests → PacketHeader → MessageParts → List ℕ
 request_lines o past header request =
     list_heading o header HEADING.now (is_repetition past.first request)
     ++ request_line_if_selected o header request
 
 -- `ListsFirst request o past header datagram before after is_clean`: the text `after` is the text
--- `before` and the lines of a datagram that begins with this request, or with none. A request has
--- its lines, and is clean; any other datagram has the lines of its messages. `past` are the
--- requests before the datagram.
+-- `before` and the lines of a datagram that begins with this request, or with none (None). A
+-- datagram that begins with a request has the lines of the request, and is clean. Any other one has
+-- the lines of its messages. `past` are the requests before the datagram.
 abbrev pub ListsFirst : Option MessageParts → Options → PastRequests → PacketHeader → List ℕ
     → List ℕ → List ℕ → Bool → Type 0
 ListsFirst None o past header datagram before after is_clean =
@@ -238,19 +309,21 @@ ListsFirst None o past header datagram before after is_clean =
 ListsFirst (Some request) o past header datagram before after is_clean =
     (after ≡ before ++ request_lines o past header request) × (is_clean ≡ true)
 
--- the same for any datagram
+-- `ListsDatagram o past header datagram before after is_clean`: the text `after` is the text
+-- `before` and the lines of the datagram: those of its request if it begins with one, or else those
+-- of its messages (`ListsFirst`)
 abbrev pub ListsDatagram : Options → PastRequests → PacketHeader → List ℕ → List ℕ → List ℕ → Bool
     → Type 0
 ListsDatagram o past header datagram before after is_clean =
     ListsFirst (request_in datagram) o past header datagram before after is_clean
 
--- the requests after a datagram: if it begins with a request this is added
+-- the requests after a datagram: if it begins with a request, that is added
 abbrev pub requests_after_datagram : PastRequests → List ℕ → PastRequests
 requests_after_datagram past datagram = with_optional_request (request_in datagram) past
 
--- `requests_after_packet past packet`: the requests after a packet. If it has a cooked header of
--- sock_diag(7) (the hardware type at 2 is 824 and the protocol at 14 is 4, both big-endian), the
--- request that its datagram begins with is added, if there is one. The datagram is at 16.
+-- `requests_after_packet past packet`: the requests after a packet. If its cooked header, the first
+-- 16 bytes, is one of sock_diag(7), the request that its datagram begins with is added, if there is
+-- one. Such a header has the hardware type 824 at 2 and the protocol 4 at 14, both big-endian.
 unfoldable pub requests_after_packet : PastRequests → List ℕ → PastRequests
 requests_after_packet past packet =
     if nat_lt (length packet) 16 then past
@@ -259,8 +332,8 @@ requests_after_packet past packet =
 
 -- `ListsPacket o past packet before after is_clean`: the text `after` is the text `before` and the
 -- lines of a packet: those of its datagram if it is one of sock_diag(7), or else none. A packet of
--- another protocol is clean, and a packet with fewer than 16 bytes is not. Whether the packet was
--- truncated is not considered. `past` are the requests before the packet.
+-- another protocol is clean, and a packet with fewer than 16 bytes is not. A truncated packet may
+-- be clean. `past` are the requests before the packet.
 abbrev pub ListsPacket : Options → PastRequests → CapturedPacket → List ℕ → List ℕ → Bool → Type 0
 ListsPacket o past packet before after is_clean =
     (IsSockDiag packet.bytes

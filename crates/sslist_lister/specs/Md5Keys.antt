@@ -15,49 +15,50 @@ use Rattle.sslist_lister.specs.texts.Escapes.{byte_digits, escaped_byte}
 use Rattle.sslist_lister.specs.texts.JsonData.{JsonMember, address_member, array_member}
 use Rattle.sslist_lister.specs.texts.JsonData.{number_members, object_of, text_member}
 use Rattle.netlink_core.specs.Attribute.{Attribute}
-use Rattle.sslist_lister.specs.Facts.{Facts, Outcome, length_error}
+use Rattle.sslist_lister.specs.Facts.{Facts, Outcome, length_outcome}
+use Rattle.sslist_lister.specs.declared.md5_keys.TheConstants.{KEY_LENGTH}
 
--- the record in the first 100 bytes
+-- the record at the start of the bytes
 unfoldable pub key_at : List ℕ → Md5Signature
 key_at bytes = parse_by_table md5_signature bytes
 
 -- `first_keys count bytes`: the first `count` records in the bytes
 abbrev pub first_keys : ℕ → List ℕ → List Md5Signature
 first_keys zero bytes = []
-first_keys (suc count) bytes = key_at bytes ∷ first_keys count (drop 100 bytes)
+first_keys (suc count) bytes = key_at bytes ∷ first_keys count (drop KEY_LENGTH bytes)
 
 -- `md5_keys bytes`: all whole records in the bytes
 abbrev pub md5_keys : List ℕ → List Md5Signature
-md5_keys bytes = first_keys (length bytes / 100) bytes
+md5_keys bytes = first_keys (length bytes / KEY_LENGTH) bytes
 
 -- the bytes are at least one record, and only whole ones
 abbrev pub are_md5_keys : List ℕ → Bool
-are_md5_keys bytes = nat_le 100 (length bytes) && (length bytes % 100 == 0)
+are_md5_keys bytes = nat_le KEY_LENGTH (length bytes) && (length bytes % KEY_LENGTH == 0)
 
 -- a byte of a key, escaped as in names; a comma, which separates keys, is escaped too
 abbrev pub key_byte : ℕ → List ℕ
 key_byte byte = if byte == 44 then byte_digits byte else escaped_byte byte
 
--- the address, or `*` if the family has none
+-- the address of the peers of a key, or `*` if the family has none (None)
 abbrev pub peer_text : Option IpAddr → List ℕ
 peer_text None = codes "*"
 peer_text (Some ip) = ip_text ip
 
--- a key: the address of the peers, the length of the prefix, and the bytes of the key. Example:
--- `192.0.2.0/24=secret`.
+-- the text of a key: the address of the peers, a slash, the length of the prefix, an equals sign,
+-- and the bytes of the key. Example: `192.0.2.0/24=secret`.
 unfoldable pub md5_key_text : Md5Signature → List ℕ
 md5_key_text k =
     peer_text (peer_ip k) ++ 47 ∷ decimal k.prefix_length ++ 61 ∷ flat_map key_byte (used_key k)
 
--- `md5_keys_text separator keys`: the keys. The first one follows `separator`, and each other one a
--- comma.
+-- `md5_keys_text separator keys`: the keys, each after a separator: the first one after
+-- `separator`, and each later one after a comma (44)
 abbrev pub md5_keys_text : ℕ → List Md5Signature → List ℕ
 md5_keys_text separator [] = []
 md5_keys_text separator (k ∷ later) = separator ∷ md5_key_text k ++ md5_keys_text 44 later
 
 -- ---- JSON
 
--- the address, or no member if the family has none
+-- the member with the address of the peers of a key; no member if the family has none (None)
 unfoldable pub peer_member : Option IpAddr → List JsonMember
 peer_member None = []
 peer_member (Some ip) = address_member (codes "addr") ip
@@ -73,14 +74,16 @@ md5_key_members k =
 abbrev pub md5_key_value : Md5Signature → Json
 md5_key_value k = object_of (md5_key_members k)
 
--- the keys in a value
+-- `md5_facts value`: the keys in the value of an attribute: ` md5keys:` and the keys in the table,
+-- the array `md5sig` of their objects in JSON. 58 is the colon before the first key.
 unfoldable pub md5_facts : List ℕ → Facts
 md5_facts value = record {
   text = codes " md5keys" ++ md5_keys_text 58 (md5_keys value);
   members = array_member (codes "md5sig") (map md5_key_value (md5_keys value));
 }
 
--- the keys in the value of an attribute
+-- what an attribute INET_DIAG_MD5SIG says: the keys in its value; an error if the value is not an
+-- array of at least one key. The error names the length of one key.
 abbrev pub md5_outcome : Attribute → Outcome
 md5_outcome a =
-    if are_md5_keys a.value then Ok (Some (md5_facts a.value)) else length_error a 100
+    if are_md5_keys a.value then Ok (Some (md5_facts a.value)) else length_outcome a KEY_LENGTH

@@ -26,30 +26,32 @@ header_with numbers = record {
 }
 
 -- the header that the bytes begin with
-unfoldable pub header_in : List ℕ → NetlinkHeader
-header_in bytes = header_with (values_of header_fields bytes)
+unfoldable pub leading_header : List ℕ → NetlinkHeader
+leading_header bytes = header_with (values_of header_fields bytes)
 
--- the message that the bytes begin with; the length in its header includes the header
+-- the message that the bytes begin with. The length in its header includes the header, so the
+-- payload has NETLINK_HEADER_LEN bytes less.
 abbrev pub message_in : List ℕ → MessageParts
 message_in bytes = record {
-  header = header_in bytes;
+  header = leading_header bytes;
   payload =
-      take ((header_in bytes).length - NETLINK_HEADER_LEN) (drop NETLINK_HEADER_LEN bytes);
+      take ((leading_header bytes).length - NETLINK_HEADER_LEN) (drop NETLINK_HEADER_LEN bytes);
 }
 
--- the bytes begin with a message: the length in its header includes the header, and is at most the
--- number of bytes
+-- the bytes begin with a message: they have at least the bytes of a header, and the length in it is
+-- at least that of the header and at most the number of bytes
 abbrev pub begins_with_message : List ℕ → Bool
 begins_with_message bytes = nat_le NETLINK_HEADER_LEN (length bytes)
-    && (nat_le NETLINK_HEADER_LEN (header_in bytes).length
-    && nat_le (header_in bytes).length (length bytes))
+    && (nat_le NETLINK_HEADER_LEN (leading_header bytes).length
+    && nat_le (leading_header bytes).length (length bytes))
 
--- the request that the bytes begin with: a message whose flags have NLM_F_REQUEST; or None
+-- the request that the bytes begin with: a message whose flags have NLM_F_REQUEST. None if they do
+-- not begin with a message, or if it is not a request.
 abbrev pub request_in : List ℕ → Option MessageParts
 request_in bytes =
-    if begins_with_message bytes && not (bit_and (header_in bytes).flags NLM_F_REQUEST == 0)
+    if begins_with_message bytes && not (bit_and (leading_header bytes).flags NLM_F_REQUEST == 0)
     then Some (message_in bytes) else None
 
--- what a message has
+-- the header and the payload of a message of the program (`Message` of `src/messages.rt`)
 abbrev pub message_parts : Message → MessageParts
 message_parts message = record { header = message.header; payload = message.payload.now }

@@ -1,5 +1,5 @@
 -- Lines of netlink, packet, vsock and XDP sockets. `s` is what a reply has in its attributes.
-use Rattle.std.specs.Prelude.{ℕ, ◌+◌, ◌==◌, nat_lt, if◌then◌else◌, List, [], ◌∷◌, ◌++◌, length}
+use Rattle.std.specs.Prelude.{ℕ, ◌+◌, ◌*◌, ◌==◌, nat_lt, if◌then◌else◌, List, [], ◌∷◌, ◌++◌, length}
 use Rattle.std.specs.Prelude.{drop, codes, Option, None, Some, option_and_then}
 use Rattle.byteorder.specs.Endian.{little_bytes, little_number}
 use Rattle.sslist_lister.specs.texts.Parts.{no_timer, details_after_separator}
@@ -19,7 +19,11 @@ use Rattle.sock_diag_families.specs.declared.vsock.response.VsockResponseHeader.
   VsockResponseHeader,
 }
 use Rattle.sock_diag_families.specs.declared.xdp.response.XdpResponseHeader.{XdpResponseHeader}
+use Rattle.sock_diag_extras.specs.declared.constants.TheConstants.{SK_MEMINFO_RMEM_ALLOC}
+use Rattle.sock_diag_extras.specs.declared.constants.TheConstants.{SK_MEMINFO_WMEM_ALLOC}
 use Rattle.sock_diag_records.specs.declared.constants.TheConstants.{AF_NETLINK, AF_PACKET}
+use Rattle.sock_diag_records.specs.declared.constants.TheConstants.{SOCK_DGRAM, SOCK_RAW}
+use Rattle.sock_diag_records.specs.declared.constants.TheConstants.{SOCK_SEQPACKET, SOCK_STREAM}
 use Rattle.sock_diag_records.specs.declared.constants.TheConstants.{TCP_CLOSE}
 use Rattle.sock_diag_families.specs.declared.packet.TheConstants.{PACKET_DIAG_INFO, PACKET_DIAG_UID}
 use Rattle.sock_diag_families.specs.declared.vsock.TheConstants.{AF_VSOCK}
@@ -40,31 +44,32 @@ family_numbered n =
 
 -- ---- values of attributes
 
--- `u32_in_attribute place attribute`: the little-endian `u32` at the offset `place` of the
--- attribute's value; None if there is no attribute or its value ends before
+-- `u32_in_attribute offset attribute`: the little-endian `u32` at this offset of the value of an
+-- attribute; None if there is no attribute, or if its value ends before the end of the `u32`
 abbrev pub u32_in_attribute : ℕ → Option Attribute → Option ℕ
-u32_in_attribute place None = None
-u32_in_attribute place (Some a) =
-    if nat_lt (length a.value) (place + 4) then None
-    else Some (little_number 4 (drop place a.value))
+u32_in_attribute offset None = None
+u32_in_attribute offset (Some a) =
+    if nat_lt (length a.value) (offset + 4) then None
+    else Some (little_number 4 (drop offset a.value))
 
--- `none_if_equal none n`: the number `n`, or None if it is `none`
+-- `none_if_equal none n`: the number `n`, or None if it is equal to the number `none`
 abbrev pub none_if_equal : ℕ → ℕ → Option ℕ
 none_if_equal none n = if n == none then None else Some n
 
--- `u32_in_first kind place s`: the `u32` at the offset `place` of the value of the first valid
--- attribute of this kind; None if there is none, or if `kind` is None
+-- `u32_in_first kind offset s`: the `u32` at this offset of the value of the first valid attribute
+-- of this kind; None if there is none, or if `kind` is None
 abbrev pub u32_in_first : Option ℕ → ℕ → Summary → Option ℕ
-u32_in_first None place s = None
-u32_in_first (Some kind) place s = u32_in_attribute place (first_in kind s)
+u32_in_first None offset s = None
+u32_in_first (Some kind) offset s = u32_in_attribute offset (first_in kind s)
 
--- the interface number: the `u32` at 0 of the first valid attribute of this kind; None if it is 0
--- or absent
+-- `interface_number kind s`: the interface number, which is the `u32` at offset 0 of the first
+-- valid attribute of this kind. None if there is no such attribute, or if the number is 0, which is
+-- no interface.
 abbrev pub interface_number : ℕ → Summary → Option ℕ
 interface_number kind s = option_and_then (none_if_equal 0) (u32_in_first (Some kind) 0 s)
 
--- `user_kind family`: the type of the attribute with the user id of the owner; None for a family
--- without one
+-- `user_kind family`: the type of the attribute with the user id of the owner; None for netlink and
+-- vsock, which have none
 abbrev pub user_kind : Family → Option ℕ
 user_kind Packet = Some PACKET_DIAG_UID
 user_kind Xdp = Some XDP_DIAG_UID
@@ -72,8 +77,9 @@ user_kind _ = None
 
 -- ---- sockets of each family
 
--- A netlink socket. Local: protocol and port. Peer: group and port, if the socket is connected.
--- The column State has UNCONN (TCP_CLOSE) in any case, as in ss(8).
+-- `netlink_socket h s`: the netlink socket with the header `h`. Its local address is protocol and
+-- port. Its peer is group and port, if the socket is connected. None of this is in the attributes,
+-- so `s` is not used. The column State has UNCONN (TCP_CLOSE) in any case, as in ss(8).
 abbrev pub netlink_socket : NetlinkResponseHeader → Summary → OtherSocket
 netlink_socket h s = record {
   family = Netlink;
@@ -86,8 +92,9 @@ netlink_socket h s = record {
       then Some (Some h.destination_group, Some h.destination_port) else None;
 }
 
--- A packet socket. Local: protocol, and interface number at 0 of the attribute PACKET_DIAG_INFO.
--- The column State has UNCONN (TCP_CLOSE).
+-- `packet_socket h s`: the packet socket with the header `h`. Its local address is the protocol,
+-- and the interface number at 0 of the attribute PACKET_DIAG_INFO. It has no peer. The column State
+-- has UNCONN (TCP_CLOSE).
 abbrev pub packet_socket : PacketResponseHeader → Summary → OtherSocket
 packet_socket h s = record {
   family = Packet;
@@ -99,7 +106,9 @@ packet_socket h s = record {
   peer = None;
 }
 
--- A vsock socket. Local and peer: context and port, None for ANY (VMADDR_CID_ANY, VMADDR_PORT_ANY).
+-- `vsock_socket h s`: the vsock socket with the header `h`. Local address and peer are context and
+-- port, each None if it is ANY (VMADDR_CID_ANY, VMADDR_PORT_ANY). None of this is in the
+-- attributes, so `s` is not used.
 abbrev pub vsock_socket : VsockResponseHeader → Summary → OtherSocket
 vsock_socket h s = record {
   family = Vsock;
@@ -114,8 +123,9 @@ vsock_socket h s = record {
   );
 }
 
--- An XDP socket. Local: interface number at 0 and queue at 4 of the attribute XDP_DIAG_INFO.
--- The column State has UNCONN (TCP_CLOSE).
+-- `xdp_socket h s`: the XDP socket with the header `h`. Its local address is the interface number
+-- at 0 and the queue at 4 of the attribute XDP_DIAG_INFO. It has no peer. The column State has
+-- UNCONN (TCP_CLOSE).
 abbrev pub xdp_socket : XdpResponseHeader → Summary → OtherSocket
 xdp_socket h s = record {
   family = Xdp;
@@ -132,51 +142,50 @@ xdp_socket h s = record {
 
 -- ---- lines
 
--- `vsock_kind kind`: the column Netid of a vsock socket, by its type: SOCK_STREAM (1), SOCK_DGRAM
--- (2), SOCK_SEQPACKET (5), or any other
+-- `vsock_kind kind`: the column Netid of a vsock socket, by its type `SOCK_..`
 abbrev pub vsock_kind : ℕ → List ℕ
 vsock_kind kind =
-    if kind == 1 then codes "v_str" else if kind == 2 then codes "v_dgr"
-    else if kind == 5 then codes "v_seq" else codes "vsock"
+    if kind == SOCK_STREAM then codes "v_str" else if kind == SOCK_DGRAM then codes "v_dgr"
+    else if kind == SOCK_SEQPACKET then codes "v_seq" else codes "vsock"
 
--- `other_kind family kind`: the column Netid of a socket, by its family and its type, of which 3 is
--- SOCK_RAW
+-- `other_kind family kind`: the column Netid of a socket, by its family and its type `SOCK_..`
 abbrev pub other_kind : Family → ℕ → List ℕ
 other_kind Netlink kind = codes "nl"
-other_kind Packet kind = if kind == 3 then codes "p_raw" else codes "p_dgr"
+other_kind Packet kind = if kind == SOCK_RAW then codes "p_raw" else codes "p_dgr"
 other_kind Vsock kind = vsock_kind kind
 other_kind Xdp kind = codes "xdp"
 
--- `other_columns socket s`: the first columns. Recv-Q is the `u32` at 0 (SK_MEMINFO_RMEM_ALLOC) of
--- the attribute with the memory, Send-Q the one at 8 (SK_MEMINFO_WMEM_ALLOC).
-abbrev pub other_columns : OtherSocket → Summary → FirstColumns
-other_columns socket s = record {
+-- `other_first_columns socket s`: the first columns of a socket. The attribute with the memory is
+-- an array of `u32`: Recv-Q is the one at the index SK_MEMINFO_RMEM_ALLOC, Send-Q at
+-- SK_MEMINFO_WMEM_ALLOC. The attribute with the user id is a `u32` (at 0).
+abbrev pub other_first_columns : OtherSocket → Summary → FirstColumns
+other_first_columns socket s = record {
   kind = other_kind socket.family socket.kind;
   state = socket.state;
-  receive_queue = u32_in_first (memory_kind socket.family) 0 s;
-  send_queue = u32_in_first (memory_kind socket.family) 8 s;
+  receive_queue = u32_in_first (memory_kind socket.family) (4 * SK_MEMINFO_RMEM_ALLOC) s;
+  send_queue = u32_in_first (memory_kind socket.family) (4 * SK_MEMINFO_WMEM_ALLOC) s;
   inode = socket.inode;
   uid = u32_in_first (user_kind socket.family) 0 s;
 }
 
--- `numbers_text end`: both numbers of an address, separated by a colon (58); a number that is None
--- is shown as `*`
-abbrev pub numbers_text : Option ℕ × Option ℕ → List ℕ
-numbers_text end = number_or_star end.0 ++ 58 ∷ number_or_star end.1
+-- `address_text address`: both numbers of an address, separated by a colon (58); a number that is
+-- None is shown as `*`
+abbrev pub address_text : Option ℕ × Option ℕ → List ℕ
+address_text address = number_or_star address.0 ++ 58 ∷ number_or_star address.1
 
--- `optional_numbers_text end`: an address, or `*` if there is none (None)
-abbrev pub optional_numbers_text : Option (Option ℕ × Option ℕ) → List ℕ
-optional_numbers_text None = codes "*"
-optional_numbers_text (Some end) = numbers_text end
+-- `optional_address_text address`: an address, or `*` if there is none (None)
+abbrev pub optional_address_text : Option (Option ℕ × Option ℕ) → List ℕ
+optional_address_text None = codes "*"
+optional_address_text (Some address) = address_text address
 
--- the columns: the first columns, the local address and the peer's
-abbrev pub other_line : OtherSocket → Summary → List ℕ
-other_line socket s = table_line (other_columns socket s) (numbers_text socket.local)
-    (optional_numbers_text socket.peer)
+-- `other_columns socket s`: the columns: the first columns, the local address and the peer's
+abbrev pub other_columns : OtherSocket → Summary → List ℕ
+other_columns socket s = table_line (other_first_columns socket s) (address_text socket.local)
+    (optional_address_text socket.peer)
 
 -- `other_lines o socket s`: the lines of a socket: the columns, the details and a line feed (10).
 -- The cookie is passed as eight bytes, little-endian.
 abbrev pub other_lines : Options → OtherSocket → Summary → List ℕ
 other_lines o socket s =
-    other_line socket s
+    other_columns socket s
     ++ details_after_separator o (details o no_timer (little_bytes 8 socket.cookie) s) ++ 10 ∷ []

@@ -25,41 +25,44 @@ requested_family_text families.Xdp = codes "xdp"
 -- the text about requested IPv4 or IPv6 sockets: the protocol, the family and a bit for each
 -- requested state. Example: `tcp family:inet states:0xfff`.
 abbrev pub inet_request_text : Query → List ℕ
-inet_request_text a =
-    inet_kind (Some a.protocol) a.family ++ codes " family:" ++ family_name a.family
-    ++ hex_detail (codes "states") a.states
+inet_request_text query =
+    inet_kind (Some query.protocol) query.family ++ codes " family:" ++ family_name query.family
+    ++ hex_detail (codes "states") query.states
 
--- the text about requested sockets: IPv4 or IPv6 sockets, `unix` and the requested states, the name
--- of the family, or `other`
+-- the text about requested sockets: for IPv4 and IPv6 sockets `inet_request_text`, for UNIX sockets
+-- `unix` and a bit for each requested state, for other families the name, and `other` if it is not
+-- known what is requested
 abbrev pub requested_text : Requested → List ℕ
 requested_text (requests.Inet query) = inet_request_text query
 requested_text (requests.Unix states) = codes "unix" ++ hex_detail (codes "states") states
 requested_text (requests.Other family) = requested_family_text family
 requested_text requests.Unknown = codes "other"
 
--- the text before the sockets of a request of this type: `destroy ` if it closes them
-abbrev pub verb : ℕ → List ℕ
-verb message_type = if message_type == SOCK_DESTROY then codes "destroy " else []
+-- the text before the sockets of a request of this type: `destroy ` if it closes them, or else
+-- nothing
+abbrev pub request_verb : ℕ → List ℕ
+request_verb message_type = if message_type == SOCK_DESTROY then codes "destroy " else []
 
--- what a request asks for
+-- what a request asks for, as text: `destroy ` if it closes sockets, and then these sockets
 unfoldable pub request_text : MessageParts → List ℕ
-request_text request = verb request.header.message_type ++ requested_text (requested request)
+request_text request =
+    request_verb request.header.message_type ++ requested_text (requested request)
 
 -- it is known what a request asks for
-abbrev pub is_known : Requested → Bool
-is_known requests.Unknown = false
-is_known what = true
+abbrev pub is_known_request : Requested → Bool
+is_known_request requests.Unknown = false
+is_known_request sockets = true
 
--- ` (request: `, what a request asks for, and `)`
+-- the note of a request: ` (request: `, what it asks for, and `)`
 abbrev pub known_request_note : MessageParts → List ℕ
 known_request_note request = codes " (request: " ++ request_text request ++ codes ")"
 
--- `request_note unknown request`: the same; the text `unknown` if it is not known what the request
--- asks for, or if there is none
+-- `request_note unknown request`: the note of a request; the text `unknown` if it is not known what
+-- the request asks for, or if there is no request (None)
 abbrev pub request_note : List ℕ → Option MessageParts → List ℕ
 request_note unknown None = unknown
 request_note unknown (Some request) =
-    if is_known (requested request) then known_request_note request else unknown
+    if is_known_request (requested request) then known_request_note request else unknown
 
 -- `request_line h request`: the line of a request: `-- `, the time of its capture, which is in the
 -- packet header `h`, a space (32), what it asks for, and a line feed (10)
@@ -67,7 +70,8 @@ abbrev pub request_line : PacketHeader → MessageParts → List ℕ
 request_line h request =
     codes "-- " ++ time_text h ++ 32 ∷ request_text request ++ 10 ∷ []
 
--- the line of a request if `--requests` is set and `--json` is not, or else nothing
+-- `request_line_if_selected o h request`: the line of a request if `--requests` is set and `--json`
+-- is not, or else nothing
 abbrev pub request_line_if_selected : Options → PacketHeader → MessageParts → List ℕ
 request_line_if_selected o h request =
     if o.requests && not o.json then request_line h request else []

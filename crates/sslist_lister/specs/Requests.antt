@@ -10,11 +10,11 @@ use Rattle.sock_diag_records.specs.declared.inet.request.TheConstants.{INET_DIAG
 use Rattle.sock_diag_records.specs.declared.inet.request.TheConstants.{INET_REQUEST_LEN}
 use Rattle.sock_diag_records.specs.declared.unix.request.TheConstants.{UNIX_REQUEST_LEN}
 use Rattle.sslist_lister.specs.declared.command_line.options.Family.{Family}
-use Rattle.sslist_lister.specs.Lists.{RequestContent, first_request, first_with}
+use Rattle.sslist_lister.specs.Lists.{ComparedContent, first_request, first_with}
 use Rattle.sslist_lister.specs.Lists.{is_repetition}
 use Rattle.sslist_lister.specs.Messages.{MessageParts}
 use Rattle.sslist_lister.specs.Others.{family_numbered}
-use Rattle.sslist_lister.specs.Pieces.{first_of_kind, attributes_or_error}
+use Rattle.sslist_lister.specs.Pieces.{first_of_kind, pieces_in}
 use Rattle.sslist_lister.specs.declared.requests.Query.{Query}
 use Rattle.sslist_lister.specs.declared.requests.Requested.{Requested}
 use Rattle.sslist_lister.specs.declared.requests.Requested.TheVariants as requests
@@ -35,7 +35,7 @@ query_of request = record {
   sequence_number = request.header.sequence_number;
   port_number = request.header.port_number;
   protocol = protocol_by (slice_index request.payload 1) (first_of_kind INET_DIAG_REQ_PROTOCOL
-      (attributes_or_error 0 (drop INET_REQUEST_LEN request.payload)));
+      (pieces_in (drop INET_REQUEST_LEN request.payload)));
   family = slice_index request.payload 0;
   states = little_number 4 (drop 4 request.payload);
 }
@@ -51,8 +51,9 @@ abbrev pub requested_other : Option Family → Requested
 requested_other (Some family) = requests.Other family
 requested_other None = requests.Unknown
 
--- what a request about sockets of this family asks for. It has to be as long as a `struct
--- inet_diag_req_v2` or a `struct unix_diag_req`, whose `udiag_states` are at 4, little-endian.
+-- `requested_of_family family request`: what a request about sockets of this family asks for. A
+-- request for IPv4 or IPv6 sockets has at least a `struct inet_diag_req_v2`, one for UNIX sockets a
+-- `struct unix_diag_req`, whose `udiag_states` are at 4, little-endian. A shorter one is Unknown.
 abbrev pub requested_of_family : ℕ → MessageParts → Requested
 requested_of_family family request =
     if ((family == c.AF_INET) || (family == c.AF_INET6))
@@ -62,21 +63,22 @@ requested_of_family family request =
     then requests.Unix (little_number 4 (drop 4 request.payload))
     else requested_other (family_numbered family)
 
--- what a request asks for. The first byte of its payload is the family.
+-- what a request asks for. The first byte of its payload is the family. A request without a
+-- payload, or of another type, is Unknown.
 abbrev pub requested : MessageParts → Requested
 requested request =
     if not (is_about_sockets request.header.message_type) || (length request.payload == 0)
     then requests.Unknown else requested_of_family (slice_index request.payload 0) request
 
--- `with_newest what asked`: the requests after one more, which asks for `what`. If this is IPv4 or
--- IPv6 sockets it is the first one, and at most 15 of the older ones in `asked` follow. So at most
--- 16 are kept, from the newest to the oldest.
+-- `with_newest sockets asked`: the requests after one more, which asks for these sockets. If they
+-- are IPv4 or IPv6 sockets, the request becomes the first one, and at most 15 of the older ones in
+-- `asked` follow, so that at most 16 are kept. Other requests are not added.
 abbrev pub with_newest : Requested → List Query → List Query
 with_newest (requests.Inet newest) asked = newest ∷ take 15 asked
-with_newest what asked = asked
+with_newest sockets asked = asked
 
--- the requests for IPv4 and IPv6 sockets after one more request; one that closes sockets has no
--- replies, and is not kept
+-- `with_query request asked`: the requests for IPv4 and IPv6 sockets after one more request. A
+-- request that closes sockets is not added, since it has no replies.
 abbrev pub with_query : MessageParts → List Query → List Query
 with_query request asked =
     if request.header.message_type == c.SOCK_DIAG_BY_FAMILY
@@ -87,11 +89,11 @@ pub record PastRequests : Type 0 where
   -- those for IPv4 and IPv6 sockets, at most 16, the newest first
   pub queries : List Query
   -- the first request of any kind
-  pub first : Option RequestContent
+  pub first : Option ComparedContent
   -- the number of the list; the first list is 1
   pub list : ℕ
 
--- what `Requests` keeps
+-- what `Requests` of `src/requests.rt` keeps
 abbrev pub past_requests : Requests → PastRequests
 past_requests r = record {
   queries = r.asked.items;
@@ -99,17 +101,17 @@ past_requests r = record {
   list = r.list;
 }
 
--- before the first request
+-- the state before the first request: the first list has the number 1
 abbrev pub no_requests : PastRequests
 no_requests = record { queries = []; first = None; list = 1 }
 
--- the number of the list after one more request: a repetition of the first request begins the next
--- list, with a number of at most 2 ^ 64 - 1
+-- `list_with request past`: the number of the list after one more request. A repetition of the
+-- first request begins the next list. The number is at most 2 ^ 64 - 1, which is `u64::MAX`.
 abbrev pub list_with : MessageParts → PastRequests → ℕ
 list_with request past =
     if is_repetition past.first request then min (past.list + 1) (2 ^ 64 - 1) else past.list
 
--- the requests after one more
+-- `with_request request past`: the requests after one more
 abbrev pub with_request : MessageParts → PastRequests → PastRequests
 with_request request past = record {
   queries = with_query request past.queries;
@@ -117,7 +119,8 @@ with_request request past = record {
   list = list_with request past;
 }
 
--- the requests after a datagram that begins with this request, or with none
+-- `with_optional_request request past`: the requests after a datagram that begins with this
+-- request, or with none (None)
 abbrev pub with_optional_request : Option MessageParts → PastRequests → PastRequests
 with_optional_request None past = past
 with_optional_request (Some request) past = with_request request past
@@ -127,6 +130,7 @@ with_optional_request (Some request) past = with_request request past
 -- is equal, and its port number is equal or 0. None if there is no such request.
 abbrev pub protocol_of : List Query → ℕ → ℕ → Option ℕ
 protocol_of [] sequence port = None
-protocol_of (a ∷ asked) sequence port =
-    if (a.sequence_number == sequence) && ((a.port_number == port) || (a.port_number == 0))
-    then Some a.protocol else protocol_of asked sequence port
+protocol_of (newest ∷ older) sequence port =
+    if (newest.sequence_number == sequence)
+    && ((newest.port_number == port) || (newest.port_number == 0))
+    then Some newest.protocol else protocol_of older sequence port

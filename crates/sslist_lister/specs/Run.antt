@@ -1,6 +1,6 @@
 -- Listing of a whole capture.
 use Rattle.std.specs.Prelude.{◌≡◌, ◌↔◌, ℕ, ◌+◌, ◌-◌, ◌^◌, ◌⊎◌, List, [], ◌∷◌, ◌++◌, length}
-use Rattle.std.specs.Prelude.{flat_map, Bool, IsTrue, Option, ⊤}
+use Rattle.std.specs.Prelude.{flat_map, Bool, IsTrue, MatchResult, Option, Result, ⊤}
 use Rattle.std.specs.Io.KnownBytes.{Appends, Consumes, IsAtEnd, Keeps}
 use Rattle.std.specs.List.{AllByRecursion}
 use Rattle.program_streams.specs.declared.streams.ReadError.{ReadError}
@@ -16,6 +16,7 @@ use Rattle.sslist_lister.specs.declared.command_line.options.Options.{Options}
 use Rattle.sslist_lister.specs.Diagnostics.{AreDiagnosed}
 use Rattle.sslist_lister.specs.Listing.{ListsCapturedPacket, requests_after_packet}
 use Rattle.sslist_lister.specs.Requests.{PastRequests, no_requests}
+use Rattle.sslist_lister.specs.texts.Reports.{closing_line}
 
 -- the lines of a packet, and whether it was listed completely
 pub record ListedPacket : Type 0 where
@@ -33,7 +34,7 @@ abbrev pub IsListedCompletely : ListedPacket → Type 0
 IsListedCompletely listing = IsTrue listing.whole
 
 -- `IsListed o past packet listing`: `listing` has the lines of the packet, and whether it was
--- listed completely. `past` are the requests before this packet.
+-- listed completely. `past` are the requests before this packet. No text precedes the lines (`[]`).
 abbrev pub IsListed : Options → PastRequests → CapturedPacket → ListedPacket → Type 0
 IsListed o past packet listing = ListsCapturedPacket o past packet [] listing.lines listing.whole
 
@@ -55,10 +56,10 @@ ArePackets s bytes (packet ∷ later) s' =
     (first rest : List ℕ) × (mid : CaptureState) × ReadsPacket s first packet mid
     × (bytes ≡ first ++ rest) × ArePackets mid rest later s'
 
--- `IsTableOfCapture o front bytes lines diagnostics is_whole`: the bytes of a capture, and the
--- lines and diagnostics of its packets, in order. The first bytes open the capture (`header`), and
--- packets follow (`records`). Each diagnostic begins with `front`. Packets are numbered from 1
--- on. `is_whole` is true if and only if each packet was listed completely.
+-- `IsTableOfCapture o front bytes lines diagnostics is_whole`: `lines` and `diagnostics` are those
+-- of the packets of a capture, in order. `bytes` are the bytes of the capture: the first ones open
+-- it (`header`), and packets follow (`records`). Each diagnostic begins with `front`. Packets are
+-- numbered from 1 on. `is_whole` is true if and only if each packet was listed completely.
 pub record IsTableOfCapture (o : Options) (front bytes lines diagnostics : List ℕ) (is_whole : Bool)
     : Type 0 where
   -- the bytes that open the capture
@@ -83,10 +84,10 @@ pub record IsTableOfCapture (o : Options) (front bytes lines diagnostics : List 
   pub diagnosed : AreDiagnosed front 1 packets diagnostics
   pub whole : IsTrue is_whole ↔ AllByRecursion IsListedCompletely listings
 
--- The parameters are the state of a run: the bytes that remain to be read (`left` before the run,
--- `left'` after it) and the bytes written (`held` and `held'`), each if known; the heading of the
--- table, the prefix of each diagnostic, and `Reported`, which states that a text was reported on
--- standard error.
+-- The parameters describe a run: its options `o`; the bytes that are left to read (`left` before
+-- the run, `left'` after it) and the bytes written (`held` and `held'`), each if known; the heading
+-- of the table; the prefix `front` of each diagnostic; and `Reported`, which states that a text was
+-- reported on standard error.
 module _ (o : Options) (left left' held held' : Option (List ℕ)) (heading front : List ℕ)
     (Reported : List ℕ → Type 0) where
   -- The state after a number of packets: the capture was opened and these packets were read, which
@@ -99,8 +100,10 @@ module _ (o : Options) (left left' held held' : Option (List ℕ)) (heading fron
     pub lines : List ℕ
     -- the diagnostics of the packets
     pub diagnostics : List ℕ
+    -- true if and only if each of these packets was listed completely
     pub is_whole : Bool
     pub table : IsTableOfCapture o front bytes lines diagnostics is_whole
+    -- the reader is in the state `state` after these packets
     pub reached : table.state ≡ state
     -- the number of packets is `packets`
     pub counted : length table.packets ≡ packets
@@ -111,8 +114,8 @@ module _ (o : Options) (left left' held held' : Option (List ℕ)) (heading fron
     pub reported : Reported diagnostics
 
   -- The state after a failed write: a prefix of the heading and the lines of the capture so far was
-  -- written (`sent`), and its diagnostics were reported. `more` are the bytes of a pcapng file
-  -- after its last packet, if the last flush failed.
+  -- written (`sent`; `rest` was not), and its diagnostics were reported. `more` are the bytes of a
+  -- pcapng file after its last packet, if the last flush failed.
   abbrev pub FailsAtWrite : Type 0
   FailsAtWrite =
       (bytes lines diagnostics : List ℕ) × (is_whole : Bool)
@@ -121,8 +124,9 @@ module _ (o : Options) (left left' held held' : Option (List ℕ)) (heading fron
       × Consumes left left' (bytes ++ more) × (sent : List ℕ) × (rest : List ℕ)
       × (heading ++ lines ≡ sent ++ rest) × Appends held held' sent × Reported diagnostics
 
-  -- The state of a run that failed with an error. `unread error` states that a read failed with
-  -- this error.
+  -- `Fails unread error`: the state of a run that failed with this error. `unread cause` states
+  -- that a read failed with the error `cause`. `part` are the bytes that were read of what could
+  -- not be opened or read.
   -- * Header: the capture could not be opened, nothing was written and nothing reported.
   -- * Packet: the packet of this number could not be read. The packets before it were listed. The
   --   number 2 ^ 64 - 1 is never read: the run fails there as if a read had failed, with Other.
@@ -156,9 +160,56 @@ module _ (o : Options) (left left' held held' : Option (List ℕ)) (heading fron
     -- the diagnostics of all packets
     pub diagnostics : List ℕ
     pub table : IsTableOfCapture o front bytes lines diagnostics is_whole
+    -- `more` contains no packet
     pub no_packet : IsCaptureEnd table.state more
     pub read : Consumes left left' (bytes ++ more)
+    -- the input is at its end
     pub ended : IsAtEnd left'
     -- the heading and the lines were written
     pub appended : Appends held held' (heading ++ lines)
     pub reported : Reported diagnostics
+
+-- ---- contracts
+
+-- What a run was given, and what it did with its streams.
+pub record ListingRun : Type 1 where
+  pub options : Options
+  -- the heading of the table
+  pub heading : List ℕ
+  -- the prefix of each diagnostic
+  pub front : List ℕ
+  -- the bytes of the input that were left to read before the run, if known, and after it
+  pub left_before : Option (List ℕ)
+  pub left_after : Option (List ℕ)
+  -- a read of the input failed with this error
+  pub ReadFailed : ReadError → Type 0
+  -- the bytes of the output that were written before the run, if known, and after it
+  pub held_before : Option (List ℕ)
+  pub held_after : Option (List ℕ)
+  -- this text was reported on standard error
+  pub Reported : List ℕ → Type 0
+
+-- `RunFinishes run is_whole`: the run succeeded (`Finishes`), and `is_whole` is true if and only if
+-- each packet was listed completely
+abbrev pub RunFinishes : ListingRun → Bool → Type 0
+RunFinishes run = Finishes run.options run.left_before run.left_after run.held_before run.held_after
+    run.heading run.front run.Reported
+
+-- `RunFails run error`: the run failed with this error (`Fails`)
+abbrev pub RunFails : ListingRun → ListError → Type 0
+RunFails run = Fails run.options run.left_before run.left_after run.held_before run.held_after
+    run.heading run.front run.Reported run.ReadFailed
+
+-- `ListingEnds run outcome`: the run ended with this outcome: it listed the capture to its end
+-- (Ok), or failed (Err)
+abbrev pub ListingEnds : ListingRun → Result Bool ListError → Type 0
+ListingEnds run outcome = MatchResult outcome (RunFinishes run) (RunFails run)
+
+-- `ListingEndsReported run outcome`: the run ended with this outcome, as in `ListingEnds`. If it
+-- failed, the line that names the failure was reported after the diagnostics.
+abbrev pub ListingEndsReported : ListingRun → Result Bool ListError → Type 0
+ListingEndsReported run outcome =
+    MatchResult outcome (RunFinishes run)
+    (λ error. RunFails (record run {
+      Reported = λ diagnostics. run.Reported (diagnostics ++ closing_line run.front error);
+    }) error)

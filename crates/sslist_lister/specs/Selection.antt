@@ -6,9 +6,9 @@ use Rattle.sslist_lister.specs.command_line.Filter.{meets_addresses, meets_ports
 use Rattle.sslist_lister.specs.command_line.Options.{lists_protocol, lists_state, lists_version}
 use Rattle.sslist_lister.specs.declared.command_line.options.Options.{Options}
 
--- `lists_inet o protocol h`: the IPv4 or IPv6 socket with the header `h` is listed: sockets of its
--- protocol, of its family and in its state are, and its ports and addresses meet the conditions on
--- them
+-- `lists_inet o protocol h`: the options select the IPv4 or IPv6 socket with the header `h`. They
+-- list sockets of its protocol, of its IP version and in its state, and its ports and addresses
+-- meet their conditions. `protocol` is the protocol of the request, None if that is not known.
 abbrev pub lists_inet : Options → Option ℕ → InetResponseHeader → Bool
 lists_inet o protocol h =
     lists_protocol o protocol && lists_version o (h.family == AF_INET6) && lists_state o h.state

@@ -1,5 +1,4 @@
--- Lines of the table for UNIX, IPv4 and IPv6 sockets. `s` is what a reply has
--- in its attributes.
+-- Lines of the table for UNIX, IPv4 and IPv6 sockets. `s` is what a reply has in its attributes.
 use Rattle.std.specs.Prelude.{ℕ, ◌==◌, nat_lt, if◌then◌else◌, ◌&&◌, Bool, List, [], ◌∷◌, ◌++◌}
 use Rattle.std.specs.Prelude.{length, codes, Option, None, Some, slice_index, option_map, drop}
 use Rattle.std.specs.Prelude.{◌||◌, option_and_then, Result, Ok, Err}
@@ -8,21 +7,26 @@ use Rattle.netlink_core.specs.Attribute.{Attribute}
 use Rattle.netlink_core.specs.AttributeSet.{AttributeValue, ValueOfKind, decode_attribute}
 use Rattle.netlink_core.specs.AttributeSet.{value_of_kind}
 use Rattle.netlink_core.specs.declared.error.DecodeError.{DecodeError}
-use Rattle.sslist_lister.specs.texts.Cells.{endpoint, named_line, number_or_star, table_line}
+use Rattle.sslist_lister.specs.texts.Cells.{FirstColumns, endpoint, named_line, number_or_star}
+use Rattle.sslist_lister.specs.texts.Cells.{table_line}
 use Rattle.sslist_lister.specs.texts.Parts.{no_timer, details_after_separator}
 use Rattle.sslist_lister.specs.texts.Escapes.{byte_digits, unescaped_bytes, shown_name}
-use Rattle.sslist_lister.specs.declared.texts.parts.TimerFields.{TimerFields}
 use Rattle.sslist_lister.specs.declared.command_line.options.Options.{Options}
 use Rattle.sslist_lister.specs.declared.command_line.options.TheConstants.{IPPROTO_MPTCP}
 use Rattle.sslist_lister.specs.declared.command_line.options.TheConstants.{IPPROTO_TCP, IPPROTO_UDP}
 use Rattle.sock_diag_records.specs.declared.inet.response.InetResponseHeader.{InetResponseHeader}
 use Rattle.sock_diag_records.specs.declared.unix.response.UnixResponseHeader.{UnixResponseHeader}
-use Rattle.sock_diag_records.specs.declared.constants.TheConstants.{AF_INET6, UNIX_DIAG_NAME}
+use Rattle.sock_diag_records.specs.declared.constants.TheConstants.{AF_INET6, IPPROTO_DCCP}
+use Rattle.sock_diag_records.specs.declared.constants.TheConstants.{IPPROTO_RAW, IPPROTO_SCTP}
+use Rattle.sock_diag_records.specs.declared.constants.TheConstants.{IPPROTO_UDPLITE, SOCK_DGRAM}
+use Rattle.sock_diag_records.specs.declared.constants.TheConstants.{SOCK_SEQPACKET, SOCK_STREAM}
+use Rattle.sock_diag_records.specs.declared.constants.TheConstants.{UNIX_DIAG_NAME}
 use Rattle.sock_diag_records.specs.declared.constants.TheConstants.{UNIX_DIAG_PEER, UNIX_DIAG_RQLEN}
 use Rattle.sock_diag_attributes.specs.declared.unix.name.SocketName.{SocketName}
 use Rattle.sock_diag_attributes.specs.declared.unix.name.SocketName.TheVariants.{Abstract, Pathname}
 use Rattle.sock_diag_attributes.specs.UnixAttributes.{unix_attribute_set}
 use Rattle.sslist_lister.specs.Details.{details}
+use Rattle.sslist_lister.specs.declared.line.InetSocket.{InetSocket}
 use Rattle.sslist_lister.specs.declared.line.TheConstants.{NO_INTERFACE}
 use Rattle.sslist_lister.specs.declared.attributes.Info.{Info}
 use Rattle.sslist_lister.specs.declared.attributes.Info.TheVariants.{Mptcp, Tcp, Unknown}
@@ -46,11 +50,11 @@ path_text utf8 path =
     then byte_digits (slice_index path 0) ++ shown_name utf8 (drop 1 path)
     else shown_name utf8 path
 
--- `unix_kind kind`: the column Netid of a UNIX socket, by its type: SOCK_STREAM (1), SOCK_DGRAM
--- (2), SOCK_SEQPACKET (5), or any other
+-- `unix_kind kind`: the column Netid of a UNIX socket, by its type `SOCK_..`
 abbrev pub unix_kind : ℕ → List ℕ
-unix_kind kind = if kind == 1 then codes "u_str" else (if kind == 2 then codes "u_dgr"
-    else (if kind == 5 then codes "u_seq" else codes "unix"))
+unix_kind kind =
+    if kind == SOCK_STREAM then codes "u_str" else if kind == SOCK_DGRAM then codes "u_dgr"
+    else if kind == SOCK_SEQPACKET then codes "u_seq" else codes "unix"
 
 -- `name_cell utf8 name`: the cell of a name: a path, or `@` (64) and an abstract name, or `*` if
 -- there is no name (None)
@@ -59,8 +63,9 @@ name_cell utf8 None = codes "*"
 name_cell utf8 (Some (Pathname path)) = path_text utf8 path
 name_cell utf8 (Some (Abstract address)) = 64 ∷ shown_name utf8 address
 
--- The name that a cell represents, if a space (32) follows it. It is the inverse of `name_cell`:
--- `*` (42) and a space are None, `@` (64) begins an abstract name, and anything else is a path.
+-- `name_of_cell cell`: the name that a cell of `name_cell` shows, if a space (32) follows it: `*`
+-- (42) and a space are no name (None), `@` (64) begins an abstract name, and anything else is a
+-- path
 abbrev pub name_of_cell : List ℕ → Option (SocketName (List ℕ))
 name_of_cell cell =
     if (slice_index cell 0 == 42) && (slice_index cell 1 == 32) then None
@@ -80,74 +85,95 @@ abbrev pub inet_kind : Option ℕ → ℕ → List ℕ
 inet_kind None family = family_name family
 inet_kind (Some protocol) family =
     if protocol == IPPROTO_TCP then codes "tcp" else if protocol == IPPROTO_UDP then codes "udp"
-    else if protocol == 33 then codes "dccp" else if protocol == 132 then codes "sctp"
-    else if protocol == 136 then codes "udplite" else if protocol == 255 then codes "raw"
+    else if protocol == IPPROTO_DCCP then codes "dccp"
+    else if protocol == IPPROTO_SCTP then codes "sctp"
+    else if protocol == IPPROTO_UDPLITE then codes "udplite"
+    else if protocol == IPPROTO_RAW then codes "raw"
     else if protocol == IPPROTO_MPTCP then codes "mptcp" else family_name family
 
 -- ---- lines
 
--- the user id in an attribute; None if its value does not have four bytes
+-- the user id in the value of an attribute UNIX_DIAG_UID; None if the value does not have four
+-- bytes
 abbrev pub user_id : Attribute → Option ℕ
 user_id a = if length a.value == 4 then Some (little_number 4 a.value) else None
 
--- the content of a decoded attribute of the kind `k`; None for a decode error
+-- `unix_content k decoded`: the content, if this decoded to a value of the kind `k`; None for
+-- another kind, an undecoded attribute or a decode error. The type of the content depends on `k`
+-- (`ValueOfKind`).
 abbrev pub unix_content : (k : ℕ) → Result (AttributeValue unix_attribute_set) DecodeError
     → Option (ValueOfKind unix_attribute_set k)
 unix_content k (Ok value) = value_of_kind unix_attribute_set k value
 unix_content k (Err e) = None
 
--- the content of the first valid attribute of the kind `k` of a UNIX socket, or None
+-- `unix_value k s`: the content of the first valid attribute of the kind `k` of a UNIX socket,
+-- whose type depends on `k` (`ValueOfKind`); None if there is no such attribute
 abbrev pub unix_value : (k : ℕ) → Summary → Option (ValueOfKind unix_attribute_set k)
 unix_value k s =
     option_and_then (λ a. unix_content k (decode_attribute unix_attribute_set a)) (first_in k s)
 
--- `unix_line o h s`: the columns of a UNIX socket, whose header is `h`. The name is in the
--- attribute UNIX_DIAG_NAME, the inode of the peer in UNIX_DIAG_PEER, and the lengths of the queues
--- in UNIX_DIAG_RQLEN: first the receive queue, then the send queue. The user id is in
--- UNIX_DIAG_UID.
-abbrev pub unix_line : Options → UnixResponseHeader → Summary → List ℕ
-unix_line o h s =
-    let queues = unix_value UNIX_DIAG_RQLEN s in
-    named_line o.utf8 (record {
-      kind = unix_kind h.kind;
-      state = h.state;
-      receive_queue = option_map (λ ns. ns.0) queues;
-      send_queue = option_map (λ ns. ns.1) queues;
-      inode = h.inode;
-      uid = option_and_then user_id (first_in UNIX_DIAG_UID s);
-    }) (name_cell o.utf8 (unix_value UNIX_DIAG_NAME s))
+-- `unix_first_columns h queues uid`: the first columns of the UNIX socket with the header `h`.
+-- `queues` are the lengths of the receive queue (`.0`) and the send queue (`.1`), and `uid` is the
+-- user id of the owner; each is None if the reply does not have it.
+abbrev pub unix_first_columns : UnixResponseHeader → Option (ℕ × ℕ) → Option ℕ → FirstColumns
+unix_first_columns h queues uid = record {
+  kind = unix_kind h.kind;
+  state = h.state;
+  receive_queue = option_map (λ lengths. lengths.0) queues;
+  send_queue = option_map (λ lengths. lengths.1) queues;
+  inode = h.inode;
+  uid = uid;
+}
+
+-- `unix_columns o h s`: the columns of a UNIX socket, whose header is `h`. The name is in the
+-- attribute UNIX_DIAG_NAME, the inode of the peer in UNIX_DIAG_PEER, the lengths of the queues in
+-- UNIX_DIAG_RQLEN, and the user id in UNIX_DIAG_UID.
+abbrev pub unix_columns : Options → UnixResponseHeader → Summary → List ℕ
+unix_columns o h s =
+    named_line o.utf8
+    (unix_first_columns h (unix_value UNIX_DIAG_RQLEN s)
+    (option_and_then user_id (first_in UNIX_DIAG_UID s)))
+    (name_cell o.utf8 (unix_value UNIX_DIAG_NAME s))
     (number_or_star (unix_value UNIX_DIAG_PEER s))
 
--- `inet_line protocol h`: the columns of an IPv4 or IPv6 socket, whose header is `h`. `protocol` is
--- the protocol of the request. The interface is shown after the local address only.
-abbrev pub inet_line : Option ℕ → InetResponseHeader → List ℕ
-inet_line protocol h =
+-- `inet_first_columns protocol h`: the first columns of an IPv4 or IPv6 socket, whose header is
+-- `h`. `protocol` is the protocol of the request.
+abbrev pub inet_first_columns : Option ℕ → InetResponseHeader → FirstColumns
+inet_first_columns protocol h = record {
+  kind = inet_kind protocol h.family;
+  state = h.state;
+  receive_queue = Some h.recv_queue;
+  send_queue = Some h.send_queue;
+  inode = h.inode;
+  uid = Some h.uid;
+}
+
+-- `inet_columns protocol h`: the columns of an IPv4 or IPv6 socket. The interface is shown after
+-- the local address only, so the endpoint of the peer has NO_INTERFACE.
+abbrev pub inet_columns : Option ℕ → InetResponseHeader → List ℕ
+inet_columns protocol h =
     let id = h.socket_id in
-    table_line (record {
-      kind = inet_kind protocol h.family;
-      state = h.state;
-      receive_queue = Some h.recv_queue;
-      send_queue = Some h.send_queue;
-      inode = h.inode;
-      uid = Some h.uid;
-    }) (endpoint id.source_address id.interface_id id.source_port)
+    table_line (inet_first_columns protocol h)
+    (endpoint id.source_address id.interface_id id.source_port)
     (endpoint id.destination_address NO_INTERFACE id.destination_port)
 
 -- `unix_lines o h s`: the lines of a UNIX socket: the columns, the details and a line feed (10)
 abbrev pub unix_lines : Options → UnixResponseHeader → Summary → List ℕ
 unix_lines o h s =
-    unix_line o h s ++ details_after_separator o (details o no_timer h.cookie s) ++ 10 ∷ []
+    unix_columns o h s ++ details_after_separator o (details o no_timer h.cookie s) ++ 10 ∷ []
 
--- the meaning of INET_DIAG_INFO, by the protocol of the request
+-- the meaning of INET_DIAG_INFO, by the protocol of the request; Unknown for any other protocol, or
+-- if it is not known (None)
 abbrev pub info_of_protocol : Option ℕ → Info
 info_of_protocol None = Unknown
 info_of_protocol (Some protocol) =
     if protocol == IPPROTO_TCP then Tcp
     else if protocol == IPPROTO_MPTCP then Mptcp else Unknown
 
--- `inet_lines o protocol timer h s`: the lines of an IPv4 or IPv6 socket: the columns, the details
--- and a line feed (10). `timer` are the timer fields of the reply's header (`timer_in`).
-abbrev pub inet_lines : Options → Option ℕ → TimerFields → InetResponseHeader → Summary → List ℕ
-inet_lines o protocol timer h s =
-    inet_line protocol h ++ details_after_separator o (details o timer h.socket_id.cookie s)
+-- `inet_lines o socket s`: the lines of an IPv4 or IPv6 socket: the columns, the details and a line
+-- feed (10)
+abbrev pub inet_lines : Options → InetSocket → Summary → List ℕ
+inet_lines o socket s =
+    inet_columns socket.protocol socket.header
+    ++ details_after_separator o (details o socket.timer socket.header.socket_id.cookie s)
     ++ 10 ∷ []

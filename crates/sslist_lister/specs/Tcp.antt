@@ -3,16 +3,25 @@
 -- kernel's names without the prefix `tcpi_` or `mptcpi_`.
 use Rattle.std.specs.Prelude.{ℕ, ◌+◌, ◌==◌, ◌/◌, ◌%◌, nat_le, if◌then◌else◌, Bool, false, not, List}
 use Rattle.std.specs.Prelude.{[], ◌∷◌, bit_and, codes, drop, length, Option, None, Some, option_map}
+use Rattle.std.specs.Borrow.{Bor}
 use Rattle.std.specs.Option.{option_map_or}
 use Rattle.byteorder.specs.Endian.{little_number}
 use Rattle.sock_diag_extras.specs.MptcpFields.{mptcp_span_of}
-use Rattle.sock_diag_extras.specs.TcpFields.{span_of}
-use Rattle.sock_diag_extras.specs.declared.constants.TheConstants as c
+use Rattle.sock_diag_extras.specs.TcpFields.{tcp_span_of}
+use Rattle.sock_diag_extras.specs.declared.constants.TheConstants.{MPTCP_INFO_FLAG_FALLBACK}
+use Rattle.sock_diag_extras.specs.declared.constants.TheConstants.{
+  MPTCP_INFO_FLAG_REMOTE_KEY_RECEIVED,
+}
 use Rattle.sock_diag_extras.specs.declared.mptcp_info.MptcpField.{MptcpField}
 use Rattle.sock_diag_extras.specs.declared.mptcp_info.MptcpField.TheVariants as mptcp
 use Rattle.sock_diag_extras.specs.declared.tcp_info.TcpField.{TcpField}
 use Rattle.sock_diag_extras.specs.declared.tcp_info.TcpField.TheVariants as field
-use Rattle.sslist_lister.specs.Facts.{Facts, both, facts_of_each, group, no_facts}
+use Rattle.sock_diag_records.specs.declared.constants.TheConstants.{TCPI_OPT_ECN, TCPI_OPT_ECN_SEEN}
+use Rattle.sock_diag_records.specs.declared.constants.TheConstants.{TCPI_OPT_SACK}
+use Rattle.sock_diag_records.specs.declared.constants.TheConstants.{TCPI_OPT_SYN_DATA}
+use Rattle.sock_diag_records.specs.declared.constants.TheConstants.{TCPI_OPT_TIMESTAMPS}
+use Rattle.sock_diag_records.specs.declared.constants.TheConstants.{TCPI_OPT_WSCALE}
+use Rattle.sslist_lister.specs.Facts.{Facts, both, facts_of_each, json_group, no_facts}
 use Rattle.sslist_lister.specs.Facts.{number_facts}
 use Rattle.sslist_lister.specs.declared.facts.Shown.{Shown}
 use Rattle.sslist_lister.specs.declared.facts.Shown.TheVariants.{Bits, Halves, Never, Nonzero}
@@ -27,39 +36,45 @@ use Rattle.sslist_lister.specs.declared.tcp.FieldPart.TheVariants.{Negotiated, N
 abbrev pub FieldRow : Type 0
 FieldRow = ℕ × FieldPart × Shown × List ℕ × Option (List ℕ)
 
+-- the model of a row in the program (`FieldRow` of `src/tcp.rt`), whose texts are borrowed
+abbrev pub field_row_of : ℕ × FieldPart × Shown × Bor (List ℕ) × Option (Bor (List ℕ)) → FieldRow
+field_row_of row = (row.0, row.1, row.2, row.3.now, option_map (λ member. member.now) row.4)
+
 -- the offset of a field in bytes
 abbrev pub offset_of : TcpField → ℕ
-offset_of f = (span_of f).0
+offset_of f = (tcp_span_of f).0
 
--- the number of a field, by its width in bytes
+-- the number that a whole field of this width in bytes contains (1, 2, 4 or 8)
 abbrev pub part_of_width : ℕ → FieldPart
 part_of_width width =
     if width == 1 then Byte else if width == 2 then Two else if width == 4 then Four else Eight
 
--- `row_of span format text member`: the row of a field with this offset (`.0`) and width (`.1`)
+-- `row_of span format text member`: the row of a field with the offset `span.0` and the width
+-- `span.1`
 abbrev pub row_of : ℕ × ℕ → Shown → List ℕ → Option (List ℕ) → FieldRow
 row_of span format text member = (span.0, part_of_width span.1, format, text, member)
 
--- a field that the table shows if it is neither 0 nor unlimited
+-- `shown f text member`: the row of the field `f`, which the table shows after `text` if it is
+-- neither 0 nor unlimited (Nonzero), and JSON has under `member`
 abbrev pub shown : TcpField → List ℕ → List ℕ → FieldRow
-shown f text member = row_of (span_of f) Nonzero text (Some member)
+shown f text member = row_of (tcp_span_of f) Nonzero text (Some member)
 
--- `hidden_part f part member`: bits of a field, which the table does not show
+-- `hidden_part f part member`: the row of some bits (`part`) of the field `f`, which only JSON has,
+-- under `member`
 abbrev pub hidden_part : TcpField → FieldPart → List ℕ → FieldRow
 hidden_part f part member = (offset_of f, part, Never, [], Some member)
 
--- a field that the table does not show
+-- `hidden f member`: the row of the field `f`, which only JSON has, under `member`
 abbrev pub hidden : TcpField → List ℕ → FieldRow
-hidden f member = row_of (span_of f) Never [] (Some member)
+hidden f member = row_of (tcp_span_of f) Never [] (Some member)
 
--- a bit of `tcpi_options`, which the table shows if it is set
+-- `option_row bit text`: the row of a bit of `tcpi_options`. The table shows `text` if it is set.
+-- JSON does not have it (None).
 abbrev pub option_row : ℕ → List ℕ → FieldRow
 option_row bit text = (offset_of field.Options, Byte, Bits bit, text, None)
 
--- The rows of the first eight bytes: the state, the options and the window scales. The bits of
--- `tcpi_options` are TCPI_OPT_TIMESTAMPS (1), TCPI_OPT_SACK (2), TCPI_OPT_ECN (8),
--- TCPI_OPT_ECN_SEEN (16) and TCPI_OPT_SYN_DATA (32). With TCPI_OPT_WSCALE (4) the table shows both
--- window scales.
+-- The rows of the first eight bytes: the state, the options and the window scales. The table shows
+-- the window scales if `tcpi_options` has TCPI_OPT_WSCALE.
 unfoldable pub tcp_state_rows : List FieldRow
 tcp_state_rows =
     hidden field.State (codes "state") ∷
@@ -68,11 +83,11 @@ tcp_state_rows =
     hidden field.Probes (codes "probes") ∷
     shown field.Backoff (codes " backoff:") (codes "backoff") ∷
     hidden field.Options (codes "options") ∷
-    option_row 1 (codes " ts") ∷
-    option_row 2 (codes " sack") ∷
-    option_row 8 (codes " ecn") ∷
-    option_row 16 (codes " ecnseen") ∷
-    option_row 32 (codes " fastopen") ∷
+    option_row TCPI_OPT_TIMESTAMPS (codes " ts") ∷
+    option_row TCPI_OPT_SACK (codes " sack") ∷
+    option_row TCPI_OPT_ECN (codes " ecn") ∷
+    option_row TCPI_OPT_ECN_SEEN (codes " ecnseen") ∷
+    option_row TCPI_OPT_SYN_DATA (codes " fastopen") ∷
     hidden_part field.Wscale LowFour (codes "snd_wscale") ∷
     hidden_part field.Wscale HighFour (codes "rcv_wscale") ∷
     (offset_of field.Wscale, Negotiated, Halves, codes " wscale:(", None) ∷ (
@@ -158,15 +173,18 @@ tcp_rate_rows =
     shown field.AccecnOptSeen (codes " accecn_opt_seen:") (codes "accecn_opt_seen") ∷
     []
 
--- a field of `struct mptcp_info` that the table shows if it is neither 0 nor unlimited
+-- `mptcp_shown f text member`: the row of the field `f` of `struct mptcp_info`, which the table
+-- shows after `text` if it is neither 0 nor unlimited (Nonzero), and JSON has under `member`
 abbrev pub mptcp_shown : MptcpField → List ℕ → List ℕ → FieldRow
 mptcp_shown f text member = row_of (mptcp_span_of f) Nonzero text (Some member)
 
--- one that the table shows in hexadecimal digits, if it is not 0
+-- `mptcp_hex f text member`: the row of the field `f` of `struct mptcp_info`, which the table shows
+-- after `text` in hexadecimal digits if it is not 0, and JSON has under `member`
 abbrev pub mptcp_hex : MptcpField → List ℕ → List ℕ → FieldRow
 mptcp_hex f text member = row_of (mptcp_span_of f) NonzeroHex text (Some member)
 
--- a bit of `mptcpi_flags`, which the table shows if it is set
+-- `mptcp_flag bit text`: the row of a bit of `mptcpi_flags`. The table shows `text` if it is set.
+-- JSON does not have it (None).
 abbrev pub mptcp_flag : ℕ → List ℕ → FieldRow
 mptcp_flag bit text = row_of (mptcp_span_of mptcp.Flags) (Bits bit) text None
 
@@ -182,8 +200,8 @@ mptcp_rows =
     mptcp_shown mptcp.AddAddrAcceptedMax (codes " add_addr_accepted_max:")
     (codes "add_addr_accepted_max") ∷
     row_of (mptcp_span_of mptcp.Flags) Never [] (Some (codes "flags")) ∷
-    mptcp_flag c.MPTCP_INFO_FLAG_FALLBACK (codes " fallback") ∷
-    mptcp_flag c.MPTCP_INFO_FLAG_REMOTE_KEY_RECEIVED (codes " remote_key") ∷
+    mptcp_flag MPTCP_INFO_FLAG_FALLBACK (codes " fallback") ∷
+    mptcp_flag MPTCP_INFO_FLAG_REMOTE_KEY_RECEIVED (codes " remote_key") ∷
     mptcp_hex mptcp.Token (codes " token:") (codes "token") ∷
     mptcp_hex mptcp.WriteSeq (codes " write_seq:") (codes "write_seq") ∷
     mptcp_hex mptcp.SndUna (codes " snd_una:") (codes "snd_una") ∷
@@ -202,31 +220,34 @@ mptcp_rows =
     mptcp_shown mptcp.LastDataRecv (codes " last_data_recv:") (codes "last_data_recv") ∷
     mptcp_shown mptcp.LastAckRecv (codes " last_ack_recv:") (codes "last_ack_recv") ∷ []
 
--- bits of a byte of bit fields: bits 0 to 3, bits 4 to 7, bit 0, or bits 1 and 2; or the whole byte
-abbrev pub bits_of : FieldPart → ℕ → ℕ
-bits_of LowFour n = n % 16
-bits_of HighFour n = n / 16
-bits_of FirstBit n = n % 2
-bits_of NextTwo n = n / 2 % 4
-bits_of _ n = n
+-- `part_bits part n`: the bits of the byte `n` that a row is about: bits 0 to 3, bits 4 to 7, bit
+-- 0, or bits 1 and 2; or else the whole byte
+abbrev pub part_bits : FieldPart → ℕ → ℕ
+part_bits LowFour n = n % 16
+part_bits HighFour n = n / 16
+part_bits FirstBit n = n % 2
+part_bits NextTwo n = n / 2 % 4
+part_bits _ n = n
 
--- `bytes_at width offset bytes`: the bytes from the offset on, or None if there are fewer than
+-- `bytes_from width offset bytes`: the bytes from the offset on, or None if there are fewer than
 -- `width`
-abbrev pub bytes_at : ℕ → ℕ → List ℕ → Option (List ℕ)
-bytes_at width offset bytes =
+abbrev pub bytes_from : ℕ → ℕ → List ℕ → Option (List ℕ)
+bytes_from width offset bytes =
     if nat_le (offset + width) (length bytes) then Some (drop offset bytes) else None
 
 -- `field_in width offset bytes`: the little-endian number of `width` bytes at the offset, or None
 -- if the bytes end before its end
 abbrev pub field_in : ℕ → ℕ → List ℕ → Option ℕ
-field_in width offset bytes = option_map (little_number width) (bytes_at width offset bytes)
+field_in width offset bytes = option_map (little_number width) (bytes_from width offset bytes)
 
--- window scaling is negotiated, by `tcpi_options`
+-- window scaling is negotiated, by the value of `tcpi_options`; false if the bytes do not contain
+-- this field (None)
 abbrev pub has_scales : Option ℕ → Bool
 has_scales None = false
-has_scales (Some options) = not (bit_and options 4 == 0)
+has_scales (Some options) = not (bit_and options TCPI_OPT_WSCALE == 0)
 
--- the number of a row, if the bytes contain all of its field and it applies to the connection
+-- `number_in part offset bytes`: the number of a row, by its part and its offset. None if the bytes
+-- end before the end of the field, or if the number does not apply to the connection (Negotiated).
 abbrev pub number_in : FieldPart → ℕ → List ℕ → Option ℕ
 number_in Two offset bytes = field_in 2 offset bytes
 number_in Four offset bytes = field_in 4 offset bytes
@@ -234,9 +255,9 @@ number_in Eight offset bytes = field_in 8 offset bytes
 number_in Negotiated offset bytes =
     if has_scales (field_in 1 (offset_of field.Options) bytes) then field_in 1 offset bytes
     else None
-number_in part offset bytes = option_map (bits_of part) (field_in 1 offset bytes)
+number_in part offset bytes = option_map (part_bits part) (field_in 1 offset bytes)
 
--- the facts of a row
+-- `row_facts bytes row`: the fact of a row; no fact if the bytes do not have its number
 unfoldable pub row_facts : List ℕ → FieldRow → Facts
 row_facts bytes row =
     option_map_or (number_facts row.2 row.3 row.4) (number_in row.1 row.0 bytes) no_facts
@@ -251,10 +272,11 @@ tcp_fields bytes =
     both (field_facts bytes tcp_state_rows)
     (both (field_facts bytes tcp_metric_rows) (field_facts bytes tcp_rate_rows))
 
--- the same, as the group `info`
+-- the facts of INET_DIAG_INFO of a TCP socket: those fields, as the group `info`
 unfoldable pub tcp_info : List ℕ → Facts
-tcp_info bytes = group [] [] (codes "info") (tcp_fields bytes)
+tcp_info bytes = json_group (codes "info") (tcp_fields bytes)
 
--- the fields of `struct mptcp_info` that the bytes contain, as the group `info`
+-- the facts of INET_DIAG_INFO of an MPTCP socket: the fields of `struct mptcp_info` that the bytes
+-- contain, as the group `info`
 unfoldable pub mptcp_info : List ℕ → Facts
-mptcp_info bytes = group [] [] (codes "info") (field_facts bytes mptcp_rows)
+mptcp_info bytes = json_group (codes "info") (field_facts bytes mptcp_rows)

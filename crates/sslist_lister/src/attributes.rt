@@ -1,10 +1,16 @@
 //! The facts of the attributes of a reply, except for the connection of a TCP socket, its MD5 keys
 //! and its upper layer protocol. A function of this module appends to a sink. If it fails, an
-//! allocation failed, and the content of the sink is not specified.
+//! allocation failed, and the content of the sink is not specified. In the contracts, `S.content
+//! sink.old` and `S.content sink.new` are what the sink shows before and after the call.
+//!
+//! A function that returns a [`Status`] appends the facts of an attribute `nla`, which is
+//! `buffered_attribute nla.now` in the contracts. If its type is unknown, or its value is invalid,
+//! it appends nothing. `IfOk result (AddsOutcome old new outcome)` states both: the facts of the
+//! outcome, if it has any, were appended, and the result is its status. JSON allocates temporary
+//! strings by `alloc`. `utf8` is the option `--utf8`.
 
-ghost use Rattle.std.specs.Prelude.{◌≡◌, ◌≤◌, Ok, Some, true};
+ghost use Rattle.std.specs.Prelude.{◌≡◌, ◌≤◌, IfOk, Ok, OnOk, Some, true};
 ghost use Rattle.std.specs.Result.{result_map_both};
-ghost use Rattle.netlink_core.specs.Errors.{map_ok};
 ghost use Rattle.netlink_core.specs.Walk.{buffered_attribute};
 ghost use Rattle.sock_diag_attributes.specs.InetModel.{inet_nla_view_model as inet_view_model};
 ghost use Rattle.sock_diag_attributes.specs.InetModel.{inet_variant};
@@ -12,27 +18,29 @@ ghost use Rattle.sock_diag_attributes.specs.UnixModel.{unix_nla_view_model as un
 ghost use Rattle.sock_diag_attributes.specs.UnixModel.{unix_variant};
 ghost use Rattle.sock_diag_extras.specs.Congestion.{bbr_info, dctcp_info, vegas_info};
 ghost use Rattle.sock_diag_extras.specs.SocketOptions.{socket_options};
-ghost use Rattle.sock_diag_families.specs.PacketAttributes.{packet_info};
-ghost use Rattle.sock_diag_families.specs.XdpAttributes.{xdp_info};
-ghost use Rattle.sslist_lister.specs.AttributeFacts.{attribute_facts, bbr_facts};
+ghost use Rattle.sock_diag_families.specs.PacketAttributes.{parse_packet_info};
+ghost use Rattle.sock_diag_families.specs.XdpAttributes.{parse_xdp_info};
+ghost use Rattle.sslist_lister.specs.AttributeFacts.{attribute_outcome, bbr_facts};
 ghost use Rattle.sslist_lister.specs.AttributeFacts.{dctcp_facts};
-ghost use Rattle.sslist_lister.specs.AttributeFacts.{family_facts};
-ghost use Rattle.sslist_lister.specs.AttributeFacts.{groups_outcome, inet_facts, inet_outcome};
+ghost use Rattle.sslist_lister.specs.AttributeFacts.{family_attribute_outcome};
+ghost use Rattle.sslist_lister.specs.AttributeFacts.{decoded_inet_outcome, decoded_unix_outcome};
+ghost use Rattle.sslist_lister.specs.AttributeFacts.{groups_outcome, inet_attribute_outcome};
 ghost use Rattle.sslist_lister.specs.AttributeFacts.{legacy_memory_facts, memory_facts};
 ghost use Rattle.sslist_lister.specs.AttributeFacts.{memory_group, memory_kind};
 ghost use Rattle.sslist_lister.specs.AttributeFacts.{memory_outcome, newer_inet_outcome};
 ghost use Rattle.sslist_lister.specs.AttributeFacts.{newer_unix_outcome, option_facts};
 ghost use Rattle.sslist_lister.specs.AttributeFacts.{option_bits, packet_facts};
-ghost use Rattle.sslist_lister.specs.AttributeFacts.{port_inet_facts, queue_facts};
-ghost use Rattle.sslist_lister.specs.AttributeFacts.{uid_outcome, unix_facts, unix_outcome};
+ghost use Rattle.sslist_lister.specs.AttributeFacts.{port_inet_outcome, queue_facts};
+ghost use Rattle.sslist_lister.specs.AttributeFacts.{uid_outcome, unix_attribute_outcome};
 ghost use Rattle.sslist_lister.specs.AttributeFacts.{vegas_facts, vfs_facts, xdp_facts};
-ghost use Rattle.sslist_lister.specs.Facts.{Decodes, Shows, length_error, number_facts};
-ghost use Rattle.sslist_lister.specs.Facts.{number_outcome, record_outcome, status_of};
+ghost use Rattle.sslist_lister.specs.Facts.{AddsFacts, AddsOutcome, length_outcome, number_facts};
+ghost use Rattle.sslist_lister.specs.Facts.{number_outcome, parsed_outcome, record_outcome};
+ghost use Rattle.sslist_lister.specs.Facts.{status_of};
 ghost use Rattle.sslist_lister.specs.Md5Keys.{md5_outcome};
 ghost use Rattle.sslist_lister.specs.declared.facts.Shown.TheVariants.{Hex};
 
 use crate::command_line::Family;
-use crate::facts::{FactSink, NumberRow, Shown, Status, show_group, show_numbers};
+use crate::facts::{FactSink, NumberRow, Shown, Status, show_group, show_json_group, show_numbers};
 use crate::md5_keys::{KEY_LENGTH, has_md5_keys};
 use crate::tcp::{show_mptcp_info, show_tcp_info};
 use crate::ulp_info::show_ulp;
@@ -43,7 +51,9 @@ use sock_diag_attributes::unix::nlas::NlaView as UnixView;
 use sock_diag_extras::constants::{
     INET_DIAG_CGROUP_ID, INET_DIAG_SOCKOPT, INET_DIAG_ULP_INFO, UNIX_DIAG_UID,
 };
-use sock_diag_extras::{BbrInfo, DctcpInfo, SocketOptions, VegasInfo, read_attribute_record};
+use sock_diag_extras::{
+    AttributeRecord, BbrInfo, DctcpInfo, SocketOptions, VegasInfo, read_attribute_record,
+};
 use sock_diag_families::netlink::{NETLINK_DIAG_GROUPS, NETLINK_DIAG_MEMINFO};
 use sock_diag_families::packet::{
     PACKET_DIAG_INFO, PACKET_DIAG_MEMINFO, PACKET_DIAG_UID, PacketInfo,
@@ -112,8 +122,10 @@ pub(crate) fn show_attribute<S: FactSink>(
     sockets: Sockets,
     nla: &NlaBuffer<'_>,
 ) -> Result<Status, AllocError>
-    ensures { Decodes S.kept S.content S.items result sink.old sink.new
-        (attribute_facts utf8 sockets (buffered_attribute nla.now)) }
+    // `attribute_outcome ..`: what the attribute says: its facts, nothing if its type is unknown,
+    // or the error of its value.
+    ensures { IfOk result (AddsOutcome (S.content sink.old) (S.content sink.new)
+        (attribute_outcome utf8 sockets (buffered_attribute nla.now))) }
 {
     match sockets {
         Sockets::Unix => show_unix(sink, alloc, nla),
@@ -128,8 +140,9 @@ fn show_unix<S: FactSink>(
     alloc: Global,
     nla: &NlaBuffer<'_>,
 ) -> Result<Status, AllocError>
-    ensures { Decodes S.kept S.content S.items result sink.old sink.new
-        (unix_facts (buffered_attribute nla.now)) }
+    // `unix_attribute_outcome attribute`: what its decoded value says, or the decode error.
+    ensures { IfOk result (AddsOutcome (S.content sink.old) (S.content sink.new)
+        (unix_attribute_outcome (buffered_attribute nla.now))) }
 {
     match UnixView::parse(nla) {
         Ok(view) => show_unix_view(sink, alloc, nla, &view),
@@ -137,36 +150,47 @@ fn show_unix<S: FactSink>(
     }
 }
 
-/// Shows the facts of a decoded attribute of a UNIX socket, if it has any. The name, the peer and
-/// the queues have columns. The memory is parsed again, since its view has only three of nine
-/// fields.
+/// Shows the facts of a decoded attribute of a UNIX socket, if it has any. Only JSON has the name,
+/// the peer and the queues here, since the table has columns for them. The memory is parsed again,
+/// since its view has only three of nine fields.
 fn show_unix_view<S: FactSink>(
     sink: &mut S,
     alloc: Global,
     nla: &NlaBuffer<'_>,
     view: &UnixView<'_>,
 ) -> Result<Status, AllocError>
-    ensures { Decodes S.kept S.content S.items result sink.old sink.new (unix_outcome
-        (buffered_attribute nla.now) (unix_variant (unix_view_model view.now))) }
+    // `unix_variant (unix_view_model view)`: the value that the port decodes, with lists for the
+    // bytes that it borrows. `decoded_unix_outcome`: what an attribute with this value says.
+    ensures { IfOk result (AddsOutcome (S.content sink.old) (S.content sink.new)
+        (decoded_unix_outcome (buffered_attribute nla.now)
+        (unix_variant (unix_view_model view.now)))) }
 {
     match view {
         UnixView::MemInfo(_) => show_memory_value(sink, "meminfo", nla),
         UnixView::Other(_) => show_newer_unix(sink, nla),
-        UnixView::Name(name) => known(sink.socket_name(alloc, *name)),
-        UnixView::Vfs(file) => known(show_vfs(sink, file.inode(), file.device())),
+        UnixView::Name(name) => shown_status(sink.socket_name(alloc, *name)),
+        UnixView::Vfs(file) => shown_status(show_vfs(sink, file.inode(), file.device())),
         UnixView::Peer(inode) => {
-            known(sink.number(Shown::Never, b"", Some("peer"), *inode as u64))
+            shown_status(sink.number(Shown::Never, b"", Some("peer"), *inode as u64))
         }
-        UnixView::PendingConnections(inodes) => known(sink.list(b" pending:", "icons", inodes)),
-        UnixView::ReceiveQueueLength(first, second) => known(show_queues(sink, *first, *second)),
+        UnixView::PendingConnections(inodes) => shown_status(sink.list(
+            b" pending:",
+            "icons",
+            inodes,
+        )),
+        UnixView::ReceiveQueueLength(first, second) => shown_status(show_queues(
+            sink, *first, *second,
+        )),
         UnixView::Shutdown(state) => {
-            known(sink.number(Shown::Directions, b"", Some("shutdown"), *state as u64))
+            shown_status(sink.number(Shown::Directions, b"", Some("shutdown"), *state as u64))
         }
     }
 }
 
-/// Returns the status of an attribute whose facts were shown.
-fn known(shown: Result<(), AllocError>) -> Result<Status, AllocError>
+/// Returns the status of an attribute with facts, `Ok(true)`, if they were shown; or the error of
+/// showing them.
+fn shown_status(shown: Result<(), AllocError>) -> Result<Status, AllocError>
+    // `Ok (Ok true)` if they were shown, or else the same error.
     ensures { result ≡ result_map_both (λ done. Ok true) (λ e. e) shown }
 {
     match shown {
@@ -177,28 +201,33 @@ fn known(shown: Result<(), AllocError>) -> Result<Status, AllocError>
 
 /// Shows the inode and the device of the file of a UNIX socket.
 fn show_vfs<S: FactSink>(sink: &mut S, inode: u32, device: u32) -> Result<(), AllocError>
-    ensures { Shows S.kept S.content S.items result sink.old sink.new (vfs_facts inode device) }
+    ensures { OnOk result (AddsFacts (S.content sink.old) (S.content sink.new)
+        (vfs_facts inode device)) }
 {
+    // The table has ` vfs:(INODE,DEVICE)`.
     let rows: [NumberRow<'_>; 2] = [
         shown!(b" vfs:(", "ino", inode),
         (Shown::Closed, b",", Some("dev"), Some(device as u64)),
     ];
-    show_group(sink, b"", b"", "vfs", &rows)
+    show_json_group(sink, "vfs", &rows)
 }
 
-/// Shows the lengths of the queues of a UNIX socket.
+/// Shows the lengths of the queues of a UNIX socket: `first` of the receive queue, `second` of the
+/// send queue.
 fn show_queues<S: FactSink>(sink: &mut S, first: u32, second: u32) -> Result<(), AllocError>
-    ensures { Shows S.kept S.content S.items result sink.old sink.new (queue_facts first second) }
+    ensures { OnOk result (AddsFacts (S.content sink.old) (S.content sink.new)
+        (queue_facts first second)) }
 {
     let rows: [NumberRow<'_>; 2] = [hidden!("rqueue", first), hidden!("wqueue", second)];
-    show_group(sink, b"", b"", "rqlen", &rows)
+    show_json_group(sink, "rqlen", &rows)
 }
 
 /// Shows the facts of an attribute of a UNIX socket that the port leaves undecoded, if it has any.
-/// The user id has a column.
+/// Only JSON has the user id here, since the table has a column for it.
 fn show_newer_unix<S: FactSink>(sink: &mut S, nla: &NlaBuffer<'_>) -> Result<Status, AllocError>
-    ensures { Decodes S.kept S.content S.items result sink.old sink.new
-        (newer_unix_outcome (buffered_attribute nla.now)) }
+    // `newer_unix_outcome attribute`: the user id, or an error; nothing for any other kind.
+    ensures { IfOk result (AddsOutcome (S.content sink.old) (S.content sink.new)
+        (newer_unix_outcome (buffered_attribute nla.now))) }
 {
     if nla.kind() != UNIX_DIAG_UID {
         return Ok(Ok(false));
@@ -206,7 +235,9 @@ fn show_newer_unix<S: FactSink>(sink: &mut S, nla: &NlaBuffer<'_>) -> Result<Sta
     show_number(sink, Shown::Never, b"", "uid", 4, nla)
 }
 
-/// Shows a little-endian number of `width` bytes, which is the whole value.
+/// Shows a little-endian number of `width` bytes, which is the whole value: in the table by
+/// `format` after `text`, in JSON under `member`. If the value has another length, shows nothing,
+/// and the status is the error `WrongLength`.
 fn show_number<S: FactSink>(
     sink: &mut S,
     format: Shown,
@@ -215,21 +246,26 @@ fn show_number<S: FactSink>(
     width: usize,
     nla: &NlaBuffer<'_>,
 ) -> Result<Status, AllocError>
+    // `read_uint` reads one to eight bytes.
     requires one { 1 ≤ width }
     requires eight { width ≤ 8 }
-    ensures { Decodes S.kept S.content S.items result sink.old sink.new (number_outcome width
-        (number_facts format text.now (Some member.now)) (buffered_attribute nla.now)) }
+    // `number_outcome width facts attribute`: the facts of the number, or the error `WrongLength`.
+    ensures { IfOk result (AddsOutcome (S.content sink.old) (S.content sink.new)
+        (number_outcome width (number_facts format text.now (Some member.now))
+        (buffered_attribute nla.now))) }
 {
     if nla.value().len() != width {
         return Ok(length_error(nla, width));
     }
     let number = LittleEndian::read_uint(nla.value(), width);
-    known(sink.number(format, text, Some(member), number))
+    shown_status(sink.number(format, text, Some(member), number))
 }
 
-/// Returns the error of an attribute whose value does not have `need` bytes.
+/// Returns the status of an attribute whose value does not have `need` bytes: the error
+/// `WrongLength`.
 pub(crate) fn length_error(nla: &NlaBuffer<'_>, need: usize) -> Status
-    ensures { result ≡ status_of (length_error (buffered_attribute nla.now) need) }
+    // `length_outcome`: the outcome `WrongLength`. `status_of`: the status of an outcome.
+    ensures { result ≡ status_of (length_outcome (buffered_attribute nla.now) need) }
 {
     Err(DecodeError::WrongLength {
         kind: Some(nla.kind()),
@@ -238,7 +274,8 @@ pub(crate) fn length_error(nla: &NlaBuffer<'_>, need: usize) -> Status
     })
 }
 
-/// Shows the facts of an attribute of an IPv4 or IPv6 socket, if it has any.
+/// Shows the facts of an attribute of an IPv4 or IPv6 socket, if it has any. `info` is the meaning
+/// of `INET_DIAG_INFO`.
 fn show_inet<S: FactSink>(
     sink: &mut S,
     alloc: Global,
@@ -246,27 +283,30 @@ fn show_inet<S: FactSink>(
     info: Info,
     nla: &NlaBuffer<'_>,
 ) -> Result<Status, AllocError>
-    ensures { Decodes S.kept S.content S.items result sink.old sink.new
-        (inet_facts utf8 info (buffered_attribute nla.now)) }
+    // `inet_attribute_outcome utf8 info attribute`: the facts of its value, or an error; nothing
+    // for an unknown kind.
+    ensures { IfOk result (AddsOutcome (S.content sink.old) (S.content sink.new)
+        (inet_attribute_outcome utf8 info (buffered_attribute nla.now))) }
 {
     let is_info = nla.kind() == INET_DIAG_INFO;
     match info {
-        Info::Tcp if is_info => known(show_tcp_info(sink, nla.value())),
-        Info::Mptcp if is_info => known(show_mptcp_info(sink, nla.value())),
+        Info::Tcp if is_info => shown_status(show_tcp_info(sink, nla.value())),
+        Info::Mptcp if is_info => shown_status(show_mptcp_info(sink, nla.value())),
         _ => show_port_inet(sink, alloc, utf8, nla),
     }
 }
 
-/// Shows the facts of an attribute of an IPv4 or IPv6 socket, by its value as the port decodes it,
-/// if it has any.
+/// Shows the facts of an attribute of an IPv4 or IPv6 socket, if it has any. Its value is decoded
+/// by the port.
 fn show_port_inet<S: FactSink>(
     sink: &mut S,
     alloc: Global,
     utf8: bool,
     nla: &NlaBuffer<'_>,
 ) -> Result<Status, AllocError>
-    ensures { Decodes S.kept S.content S.items result sink.old sink.new
-        (port_inet_facts utf8 (buffered_attribute nla.now)) }
+    // `port_inet_outcome utf8 attribute`: what its decoded value says, or the decode error.
+    ensures { IfOk result (AddsOutcome (S.content sink.old) (S.content sink.new)
+        (port_inet_outcome utf8 (buffered_attribute nla.now))) }
 {
     match InetView::parse(nla) {
         Ok(view) => show_inet_view(sink, alloc, utf8, nla, &view),
@@ -274,7 +314,8 @@ fn show_port_inet<S: FactSink>(
     }
 }
 
-/// Shows the facts of a decoded attribute of an IPv4 or IPv6 socket, if it has any.
+/// Shows the facts of a decoded attribute of an IPv4 or IPv6 socket, if it has any. A `struct
+/// tcp_info` is shown from its bytes, which may have fields that the view lacks.
 fn show_inet_view<S: FactSink>(
     sink: &mut S,
     alloc: Global,
@@ -282,43 +323,47 @@ fn show_inet_view<S: FactSink>(
     nla: &NlaBuffer<'_>,
     view: &InetView<'_>,
 ) -> Result<Status, AllocError>
-    ensures { Decodes S.kept S.content S.items result sink.old sink.new (inet_outcome utf8
-        (buffered_attribute nla.now) (inet_variant (inet_view_model view.now))) }
+    // `inet_variant (inet_view_model view)`: the value that the port decodes, with lists for the
+    // bytes that it borrows. `decoded_inet_outcome`: what an attribute with this value says.
+    ensures { IfOk result (AddsOutcome (S.content sink.old) (S.content sink.new)
+        (decoded_inet_outcome utf8 (buffered_attribute nla.now) (inet_variant
+        (inet_view_model view.now)))) }
 {
     match view {
         InetView::Other(_) => show_newer_inet(sink, alloc, nla),
-        InetView::LegacyMemInfo(memory) => known(show_legacy_memory(sink, memory)),
-        InetView::TcpInfo(_) => known(show_tcp_info(sink, nla.value())),
-        InetView::Congestion(name) => known(sink.name(utf8, b" cong:", "cong", name)),
-        InetView::Tos(tos) => known(show_hex(sink, b" tos:0x", "tos", *tos as u64)),
-        InetView::Tc(class) => known(show_hex(sink, b" tclass:0x", "tclass", *class as u64)),
-        InetView::MemInfo(memory) => known(show_memory(sink, "skmeminfo", memory)),
+        InetView::LegacyMemInfo(memory) => shown_status(show_legacy_memory(sink, memory)),
+        InetView::TcpInfo(_) => shown_status(show_tcp_info(sink, nla.value())),
+        InetView::Congestion(name) => shown_status(sink.name(utf8, b" cong:", "cong", name)),
+        InetView::Tos(tos) => shown_status(show_hex(sink, b" tos:0x", "tos", *tos as u64)),
+        InetView::Tc(class) => shown_status(show_hex(sink, b" tclass:0x", "tclass", *class as u64)),
+        InetView::MemInfo(memory) => shown_status(show_memory(sink, "skmeminfo", memory)),
         InetView::Shutdown(state) => {
-            known(sink.number(Shown::Directions, b"", Some("shutdown"), *state as u64))
+            shown_status(sink.number(Shown::Directions, b"", Some("shutdown"), *state as u64))
         }
         InetView::Protocol(protocol) => {
             let number = *protocol as u64;
-            known(sink.number(Shown::Always, b" protocol:", Some("protocol"), number))
+            shown_status(sink.number(Shown::Always, b" protocol:", Some("protocol"), number))
         }
         InetView::SkV6Only(only) => {
-            known(sink.flag(Shown::Always, b" v6only:", "skv6only", *only))
+            shown_status(sink.flag(Shown::Always, b" v6only:", "skv6only", *only))
         }
-        InetView::Mark(mark) => known(show_hex(sink, b" fwmark:0x", "mark", *mark as u64)),
+        InetView::Mark(mark) => shown_status(show_hex(sink, b" fwmark:0x", "mark", *mark as u64)),
         InetView::ClassId(class) => {
-            known(show_hex(sink, b" class_id:0x", "class_id", *class as u64))
+            shown_status(show_hex(sink, b" class_id:0x", "class_id", *class as u64))
         }
     }
 }
 
-/// Shows a number. The table shows it in hexadecimal digits, after this text.
+/// Shows a number. The table shows it in hexadecimal digits after `text`, and JSON has it in
+/// decimal under `member`.
 fn show_hex<S: FactSink>(
     sink: &mut S,
     text: &[u8],
     member: &str,
     number: u64,
 ) -> Result<(), AllocError>
-    ensures { Shows S.kept S.content S.items result sink.old sink.new
-        (number_facts Hex text.now (Some member.now) number) }
+    ensures { OnOk result (AddsFacts (S.content sink.old) (S.content sink.new)
+        (number_facts Hex text.now (Some member.now) number)) }
 {
     sink.number(Shown::Hex, text, Some(member), number)
 }
@@ -326,8 +371,8 @@ fn show_hex<S: FactSink>(
 /// Shows the memory of a socket, in bytes, in the format of old kernels (`INET_DIAG_MEMINFO`).
 #[tactic(auto, unfolding(crate::specs::AttributeFacts::legacy_memory_facts))]
 fn show_legacy_memory<S: FactSink>(sink: &mut S, memory: &LegacyMemInfo) -> Result<(), AllocError>
-    ensures { Shows S.kept S.content S.items result sink.old sink.new
-        (legacy_memory_facts memory.now) }
+    ensures { OnOk result (AddsFacts (S.content sink.old) (S.content sink.new)
+        (legacy_memory_facts memory.now)) }
 {
     let rows: [NumberRow<'_>; 4] = [
         shown!(b"r", "rmem", memory.receive_queue),
@@ -345,8 +390,10 @@ fn show_newer_inet<S: FactSink>(
     alloc: Global,
     nla: &NlaBuffer<'_>,
 ) -> Result<Status, AllocError>
-    ensures { Decodes S.kept S.content S.items result sink.old sink.new
-        (newer_inet_outcome (buffered_attribute nla.now)) }
+    // `newer_inet_outcome attribute`: the facts of its value, or an error; nothing for an unknown
+    // kind.
+    ensures { IfOk result (AddsOutcome (S.content sink.old) (S.content sink.new)
+        (newer_inet_outcome (buffered_attribute nla.now))) }
 {
     match nla.kind() {
         INET_DIAG_CGROUP_ID => {
@@ -362,29 +409,34 @@ fn show_newer_inet<S: FactSink>(
     }
 }
 
-/// Shows the MD5 keys of a TCP socket.
+/// Shows the MD5 keys of a TCP socket. If the value is not an array of at least one key, the status
+/// is the error `WrongLength`.
 fn show_md5_keys<S: FactSink>(
     sink: &mut S,
     alloc: Global,
     nla: &NlaBuffer<'_>,
 ) -> Result<Status, AllocError>
-    ensures { Decodes S.kept S.content S.items result sink.old sink.new
-        (md5_outcome (buffered_attribute nla.now)) }
+    // `md5_outcome attribute`: the facts of the keys, or the error `WrongLength`.
+    ensures { IfOk result (AddsOutcome (S.content sink.old) (S.content sink.new)
+        (md5_outcome (buffered_attribute nla.now))) }
 {
     if !has_md5_keys(nla.value()) {
         return Ok(length_error(nla, KEY_LENGTH));
     }
-    known(sink.md5_keys(alloc, nla.value()))
+    shown_status(sink.md5_keys(alloc, nla.value()))
 }
 
-/// Shows the options of a socket.
+/// Shows the options of a socket (`INET_DIAG_SOCKOPT`). If the value is too short, the status is
+/// the error `WrongLength`.
 fn show_options<S: FactSink>(sink: &mut S, nla: &NlaBuffer<'_>) -> Result<Status, AllocError>
-    ensures { Decodes S.kept S.content S.items result sink.old sink.new
-        (record_outcome socket_options option_facts (buffered_attribute nla.now)) }
+    // `record_outcome layout facts attribute`: `facts` of the record in the value, or the error
+    // `WrongLength` if the value is too short.
+    ensures { IfOk result (AddsOutcome (S.content sink.old) (S.content sink.new)
+        (record_outcome socket_options option_facts (buffered_attribute nla.now))) }
 {
     match read_attribute_record::<SocketOptions>(nla.value()) {
-        Some(options) => known(show_option_bits(sink, options.bits)),
-        None => Ok(length_error(nla, 2)),
+        Some(options) => shown_status(show_option_bits(sink, options.bits)),
+        None => Ok(length_error(nla, SocketOptions::size())),
     }
 }
 
@@ -392,8 +444,9 @@ fn show_options<S: FactSink>(sink: &mut S, nla: &NlaBuffer<'_>) -> Result<Status
 /// table.
 #[tactic(auto, unfolding(crate::specs::AttributeFacts::option_bits))]
 fn show_option_bits<S: FactSink>(sink: &mut S, bits: u16) -> Result<(), AllocError>
-    ensures { Shows S.kept S.content S.items result sink.old sink.new (option_bits bits) }
+    ensures { OnOk result (AddsFacts (S.content sink.old) (S.content sink.new) (option_bits bits)) }
 {
+    // The bits are in the order of the fields of `struct inet_diag_sockopt`.
     let rows: [NumberRow<'_>; 12] = [
         hidden!("sockopt", bits),
         flag!(1, b" recverr", bits),
@@ -411,21 +464,25 @@ fn show_option_bits<S: FactSink>(sink: &mut S, bits: u16) -> Result<(), AllocErr
     show_numbers(sink, &rows)
 }
 
-/// Shows the measurements of TCP Vegas.
+/// Shows the measurements of TCP Vegas (`INET_DIAG_VEGASINFO`). If the value is too short, the
+/// status is the error `WrongLength`.
 fn show_vegas<S: FactSink>(sink: &mut S, nla: &NlaBuffer<'_>) -> Result<Status, AllocError>
-    ensures { Decodes S.kept S.content S.items result sink.old sink.new
-        (record_outcome vegas_info vegas_facts (buffered_attribute nla.now)) }
+    // `record_outcome layout facts attribute`: `facts` of the record in the value, or the error
+    // `WrongLength` if the value is too short.
+    ensures { IfOk result (AddsOutcome (S.content sink.old) (S.content sink.new)
+        (record_outcome vegas_info vegas_facts (buffered_attribute nla.now))) }
 {
     match read_attribute_record::<VegasInfo>(nla.value()) {
-        Some(info) => known(show_vegas_info(sink, &info)),
-        None => Ok(length_error(nla, 16)),
+        Some(info) => shown_status(show_vegas_info(sink, &info)),
+        None => Ok(length_error(nla, VegasInfo::size())),
     }
 }
 
-/// Shows these measurements.
+/// Shows these measurements of TCP Vegas, as a group.
 #[tactic(auto, unfolding(crate::specs::AttributeFacts::vegas_facts))]
 fn show_vegas_info<S: FactSink>(sink: &mut S, info: &VegasInfo) -> Result<(), AllocError>
-    ensures { Shows S.kept S.content S.items result sink.old sink.new (vegas_facts info.now) }
+    ensures { OnOk result (AddsFacts (S.content sink.old) (S.content sink.new)
+        (vegas_facts info.now)) }
 {
     let rows: [NumberRow<'_>; 4] = [
         shown!(b"enabled:", "enabled", info.enabled),
@@ -436,21 +493,25 @@ fn show_vegas_info<S: FactSink>(sink: &mut S, info: &VegasInfo) -> Result<(), Al
     show_group(sink, b" vegas:(", b")", "vegasinfo", &rows)
 }
 
-/// Shows the measurements of DCTCP.
+/// Shows the measurements of DCTCP (`INET_DIAG_DCTCPINFO`). If the value is too short, the status
+/// is the error `WrongLength`.
 fn show_dctcp<S: FactSink>(sink: &mut S, nla: &NlaBuffer<'_>) -> Result<Status, AllocError>
-    ensures { Decodes S.kept S.content S.items result sink.old sink.new
-        (record_outcome dctcp_info dctcp_facts (buffered_attribute nla.now)) }
+    // `record_outcome layout facts attribute`: `facts` of the record in the value, or the error
+    // `WrongLength` if the value is too short.
+    ensures { IfOk result (AddsOutcome (S.content sink.old) (S.content sink.new)
+        (record_outcome dctcp_info dctcp_facts (buffered_attribute nla.now))) }
 {
     match read_attribute_record::<DctcpInfo>(nla.value()) {
-        Some(info) => known(show_dctcp_info(sink, &info)),
-        None => Ok(length_error(nla, 16)),
+        Some(info) => shown_status(show_dctcp_info(sink, &info)),
+        None => Ok(length_error(nla, DctcpInfo::size())),
     }
 }
 
-/// Shows these measurements.
+/// Shows these measurements of DCTCP, as a group.
 #[tactic(auto, unfolding(crate::specs::AttributeFacts::dctcp_facts))]
 fn show_dctcp_info<S: FactSink>(sink: &mut S, info: &DctcpInfo) -> Result<(), AllocError>
-    ensures { Shows S.kept S.content S.items result sink.old sink.new (dctcp_facts info.now) }
+    ensures { OnOk result (AddsFacts (S.content sink.old) (S.content sink.new)
+        (dctcp_facts info.now)) }
 {
     let rows: [NumberRow<'_>; 5] = [
         shown!(b"enabled:", "enabled", info.enabled),
@@ -462,21 +523,25 @@ fn show_dctcp_info<S: FactSink>(sink: &mut S, info: &DctcpInfo) -> Result<(), Al
     show_group(sink, b" dctcp:(", b")", "dctcpinfo", &rows)
 }
 
-/// Shows the measurements of BBR.
+/// Shows the measurements of BBR (`INET_DIAG_BBRINFO`). If the value is too short, the status is
+/// the error `WrongLength`.
 fn show_bbr<S: FactSink>(sink: &mut S, nla: &NlaBuffer<'_>) -> Result<Status, AllocError>
-    ensures { Decodes S.kept S.content S.items result sink.old sink.new
-        (record_outcome bbr_info bbr_facts (buffered_attribute nla.now)) }
+    // `record_outcome layout facts attribute`: `facts` of the record in the value, or the error
+    // `WrongLength` if the value is too short.
+    ensures { IfOk result (AddsOutcome (S.content sink.old) (S.content sink.new)
+        (record_outcome bbr_info bbr_facts (buffered_attribute nla.now))) }
 {
     match read_attribute_record::<BbrInfo>(nla.value()) {
-        Some(info) => known(show_bbr_info(sink, &info)),
-        None => Ok(length_error(nla, 20)),
+        Some(info) => shown_status(show_bbr_info(sink, &info)),
+        None => Ok(length_error(nla, BbrInfo::size())),
     }
 }
 
-/// Shows these measurements.
+/// Shows these measurements of BBR, as a group.
 #[tactic(auto, unfolding(crate::specs::AttributeFacts::bbr_facts))]
 fn show_bbr_info<S: FactSink>(sink: &mut S, info: &BbrInfo) -> Result<(), AllocError>
-    ensures { Shows S.kept S.content S.items result sink.old sink.new (bbr_facts info.now) }
+    ensures { OnOk result (AddsFacts (S.content sink.old) (S.content sink.new)
+        (bbr_facts info.now)) }
 {
     let rows: [NumberRow<'_>; 4] = [
         shown!(b"bw:", "bw", info.bandwidth),
@@ -506,8 +571,10 @@ fn show_family<S: FactSink>(
     family: Family,
     nla: &NlaBuffer<'_>,
 ) -> Result<Status, AllocError>
-    ensures { Decodes S.kept S.content S.items result sink.old sink.new
-        (family_facts family (buffered_attribute nla.now)) }
+    // `family_attribute_outcome family attribute`: the facts of its value, or an error; nothing for
+    // an unknown kind.
+    ensures { IfOk result (AddsOutcome (S.content sink.old) (S.content sink.new)
+        (family_attribute_outcome family (buffered_attribute nla.now))) }
 {
     let kind = nla.kind();
     if memory_kind(family) == Some(kind) {
@@ -523,17 +590,19 @@ fn show_family<S: FactSink>(
     }
 }
 
-/// Shows the memory in the value of an attribute, as the object `member` in JSON.
+/// Shows the memory in the value of an attribute, as the object `member` in JSON. If the value is
+/// invalid, the status is the decode error.
 fn show_memory_value<S: FactSink>(
     sink: &mut S,
     member: &str,
     nla: &NlaBuffer<'_>,
 ) -> Result<Status, AllocError>
-    ensures { Decodes S.kept S.content S.items result sink.old sink.new
-        (memory_outcome member.now (buffered_attribute nla.now)) }
+    // `memory_outcome member attribute`: the facts of the memory, or the decode error.
+    ensures { IfOk result (AddsOutcome (S.content sink.old) (S.content sink.new)
+        (memory_outcome member.now (buffered_attribute nla.now))) }
 {
     match MemInfo::parse(nla.value()) {
-        Ok(memory) => known(show_memory(sink, member, &memory)),
+        Ok(memory) => shown_status(show_memory(sink, member, &memory)),
         Err(error) => Ok(Err(error)),
     }
 }
@@ -541,14 +610,15 @@ fn show_memory_value<S: FactSink>(
 /// Shows the memory of a socket, in bytes, as ss(8) does. The backlog and the drops are shown only
 /// if the value has them.
 fn show_memory<S: FactSink>(sink: &mut S, member: &str, memory: &MemInfo) -> Result<(), AllocError>
-    ensures { Shows S.kept S.content S.items result sink.old sink.new
-        (memory_facts member.now memory.now) }
+    ensures { OnOk result (AddsFacts (S.content sink.old) (S.content sink.new)
+        (memory_facts member.now memory.now)) }
 {
     let (backlog, drops) = (memory.backlog_queue_length, memory.drops);
     show_memory_group(sink, member, memory, widened(backlog), widened(drops))
 }
 
-/// Shows the memory of a socket, with this backlog and these drops.
+/// Shows the memory of a socket, with its backlog and its drops as `u64`, as the object `member` in
+/// JSON. A `None` is not shown. The rows are in the order of the constants `SK_MEMINFO_..`.
 #[tactic(auto, unfolding(crate::specs::AttributeFacts::memory_group))]
 fn show_memory_group<S: FactSink>(
     sink: &mut S,
@@ -557,8 +627,8 @@ fn show_memory_group<S: FactSink>(
     backlog: Option<u64>,
     drops: Option<u64>,
 ) -> Result<(), AllocError>
-    ensures { Shows S.kept S.content S.items result sink.old sink.new
-        (memory_group member.now memory.now backlog drops) }
+    ensures { OnOk result (AddsFacts (S.content sink.old) (S.content sink.new)
+        (memory_group member.now memory.now backlog drops)) }
 {
     let rows: [NumberRow<'_>; 9] = [
         shown!(b"r", "rmem_alloc", memory.receive_queue),
@@ -574,8 +644,9 @@ fn show_memory_group<S: FactSink>(
     show_group(sink, b" skmem:(", b")", member, &rows)
 }
 
-/// Returns the same number as a `u64`.
+/// Returns the same number as a `u64`, or `None` for `None`.
 fn widened(number: Option<u32>) -> Option<u64>
+    // In a contract numbers have no width.
     ensures { result ≡ number }
 {
     match number {
@@ -584,23 +655,27 @@ fn widened(number: Option<u32>) -> Option<u64>
     }
 }
 
-/// Shows the settings of a packet socket.
+/// Shows the settings of a packet socket (`PACKET_DIAG_INFO`), which are the value of an attribute.
+/// If the value is invalid, the status is the decode error.
 fn show_packet<S: FactSink>(sink: &mut S, value: &[u8]) -> Result<Status, AllocError>
-    ensures { Decodes S.kept S.content S.items result sink.old sink.new
-        (map_ok (λ p. Some (packet_facts p)) (packet_info value.now)) }
+    // `parsed_outcome facts parsed`: `facts` of the parsed value, or the decode error.
+    ensures { IfOk result (AddsOutcome (S.content sink.old) (S.content sink.new)
+        (parsed_outcome packet_facts (parse_packet_info value.now))) }
 {
     match PacketInfo::parse(value) {
-        Ok(info) => known(show_packet_info(sink, &info)),
+        Ok(info) => shown_status(show_packet_info(sink, &info)),
         Err(error) => Ok(Err(error)),
     }
 }
 
-/// Shows these settings.
+/// Shows these settings of a packet socket.
 #[tactic(auto, unfolding(crate::specs::AttributeFacts::packet_facts))]
 fn show_packet_info<S: FactSink>(sink: &mut S, info: &PacketInfo) -> Result<(), AllocError>
-    ensures { Shows S.kept S.content S.items result sink.old sink.new
-        (packet_facts info.now) }
+    ensures { OnOk result (AddsFacts (S.content sink.old) (S.content sink.new)
+        (packet_facts info.now)) }
 {
+    // The bits are `PDI_RUNNING`, `PDI_AUXDATA`, `PDI_ORIGDEV`, `PDI_VNETHDR` and `PDI_LOSS` of
+    // linux/packet_diag.h.
     let rows: [NumberRow<'_>; 11] = [
         hidden!("index", info.interface),
         shown!(b" ver:", "version", info.version),
@@ -614,16 +689,19 @@ fn show_packet_info<S: FactSink>(sink: &mut S, info: &PacketInfo) -> Result<(), 
         flag!(8, b" vnethdr", info.flags),
         flag!(16, b" loss", info.flags),
     ];
-    show_group(sink, b"", b"", "info", &rows)
+    show_json_group(sink, "info", &rows)
 }
 
-/// Shows the interface and the queue of an XDP socket, for which the table has a column.
+/// Shows the interface and the queue of an XDP socket (`XDP_DIAG_INFO`), which are the value of an
+/// attribute. Only JSON has them here, since the table has a column for them. If the value is
+/// invalid, the status is the decode error.
 fn show_xdp<S: FactSink>(sink: &mut S, value: &[u8]) -> Result<Status, AllocError>
-    ensures { Decodes S.kept S.content S.items result sink.old sink.new
-        (map_ok (λ x. Some (xdp_facts x)) (xdp_info value.now)) }
+    // `parsed_outcome facts parsed`: `facts` of the parsed value, or the decode error.
+    ensures { IfOk result (AddsOutcome (S.content sink.old) (S.content sink.new)
+        (parsed_outcome xdp_facts (parse_xdp_info value.now))) }
 {
     match XdpInfo::parse(value) {
-        Ok(info) => known(show_xdp_info(sink, &info)),
+        Ok(info) => shown_status(show_xdp_info(sink, &info)),
         Err(error) => Ok(Err(error)),
     }
 }
@@ -631,32 +709,36 @@ fn show_xdp<S: FactSink>(sink: &mut S, value: &[u8]) -> Result<Status, AllocErro
 /// Shows this interface and this queue.
 #[tactic(auto, unfolding(crate::specs::AttributeFacts::xdp_facts))]
 fn show_xdp_info<S: FactSink>(sink: &mut S, info: &XdpInfo) -> Result<(), AllocError>
-    ensures { Shows S.kept S.content S.items result sink.old sink.new
-        (xdp_facts info.now) }
+    ensures { OnOk result (AddsFacts (S.content sink.old) (S.content sink.new)
+        (xdp_facts info.now)) }
 {
     let rows: [NumberRow<'_>; 2] = [
         hidden!("ifindex", info.interface),
         hidden!("queue_id", info.queue),
     ];
-    show_group(sink, b"", b"", "info", &rows)
+    show_json_group(sink, "info", &rows)
 }
 
-/// Shows the user id of a socket's owner.
+/// Shows the user id of a socket's owner. If the value does not have four bytes, the status is the
+/// error `WrongLength`.
 fn show_uid<S: FactSink>(sink: &mut S, nla: &NlaBuffer<'_>) -> Result<Status, AllocError>
-    ensures { Decodes S.kept S.content S.items result sink.old sink.new
-        (uid_outcome (buffered_attribute nla.now)) }
+    // `uid_outcome attribute`: the user id, or the error `WrongLength`.
+    ensures { IfOk result (AddsOutcome (S.content sink.old) (S.content sink.new)
+        (uid_outcome (buffered_attribute nla.now))) }
 {
     show_number(sink, Shown::Always, b" uid:", "uid", 4, nla)
 }
 
-/// Shows the groups of a netlink socket.
+/// Shows the first 32 groups of a netlink socket, which are the first four bytes of the value. If
+/// the value is too short, the status is the error `WrongLength`.
 fn show_groups<S: FactSink>(sink: &mut S, nla: &NlaBuffer<'_>) -> Result<Status, AllocError>
-    ensures { Decodes S.kept S.content S.items result sink.old sink.new
-        (groups_outcome (buffered_attribute nla.now)) }
+    // `groups_outcome attribute`: the groups, or the error `WrongLength`.
+    ensures { IfOk result (AddsOutcome (S.content sink.old) (S.content sink.new)
+        (groups_outcome (buffered_attribute nla.now))) }
 {
     if nla.value().len() < 4 {
         return Ok(length_error(nla, 4));
     }
     let groups = LittleEndian::read_u32(nla.value());
-    known(show_hex(sink, b" groups:0x", "groups", groups as u64))
+    shown_status(show_hex(sink, b" groups:0x", "groups", groups as u64))
 }

@@ -1,5 +1,6 @@
 //! The attributes of a reply, sorted in one walk: the first valid attribute of a kind counts, and
-//! each one that is invalid or unknown is listed.
+//! each one that is invalid or unknown is listed. If a function of this module fails, an allocation
+//! failed, and the collected attributes are not specified.
 
 ghost use Rattle.std.specs.Prelude.{◌≡◌, ◌<◌, ◌++◌, ◌∷◌, ℕ, List, IfOk, None, OnOk, Ok, length};
 ghost use Rattle.std.specs.Prelude.{map, slice_index_or};
@@ -10,7 +11,7 @@ ghost use Rattle.sslist_lister.specs.Collected.{first_in};
 ghost use Rattle.sslist_lister.specs.Collected.{first_valid, is_valid, other_in_piece};
 ghost use Rattle.sslist_lister.specs.Collected.{other_model, slot_attribute, summary_of};
 ghost use Rattle.sslist_lister.specs.Collected.{with_element};
-ghost use Rattle.sslist_lister.specs.Pieces.{AttributeOrError, attributes_or_error};
+ghost use Rattle.sslist_lister.specs.Pieces.{AttributeOrError, pieces_in};
 ghost use Rattle.sslist_lister.specs.Pieces.{framing_error_of};
 
 use crate::attributes::{Sockets, show_attribute};
@@ -26,7 +27,7 @@ const KINDS: usize = INET_DIAG_SOCKOPT as usize + 1;
 /// The first valid attribute of each kind.
 #[derive(Drop)]
 pub(crate) struct FirstValid<'a> {
-    /// Its element for each kind, from 0 on.
+    /// `slots[kind]` is the first valid attribute of this kind.
     pub(crate) slots: [Option<NlaBuffer<'a>>; KINDS],
 }
 
@@ -44,10 +45,11 @@ pub(crate) struct Attributes<'a> {
 }
 
 impl<'a> Attributes<'a> {
-    /// Returns no attributes of a reply about these sockets.
+    /// Returns an empty collection of attributes, for a reply about these sockets.
     #[inline(always)]
     pub(crate) fn new(alloc: Global, sockets: Sockets) -> Attributes<'a>
         ensures sockets { result.sockets ≡ sockets }
+        // All slots are empty, and there is neither another attribute nor an error.
         ensures none { HasNone result }
     {
         Attributes {
@@ -60,35 +62,44 @@ impl<'a> Attributes<'a> {
         }
     }
 
-    /// Adds the attributes in the bytes after the header of a reply. It fills the array in place:
-    /// a function that returned it would copy it.
+    /// Adds the attributes in the bytes after the header of a reply. Nothing may be collected
+    /// before. The array of `self` is filled in place, since a function that returned it would copy
+    /// it.
     pub(crate) fn collect(&mut self, bytes: &'a [u8]) -> Result<(), AllocError>
         requires { HasNone self.now }
+        // `pieces_in`: each attribute in the bytes, and then the framing error, if there is one.
+        // `summary_of`: the first valid attribute of each kind, the unknown and the invalid ones,
+        // and this error.
         ensures summary { OnOk result (collected self.new
-            ≡ summary_of self.old.sockets (attributes_or_error 0 bytes.entry.now)) }
+            ≡ summary_of self.old.sockets (pieces_in bytes.entry.now)) }
+        // `end` is also a member of the summary. This clause names it, since callers return it.
         ensures end { OnOk result (self.new.end
-            ≡ framing_error_of (attributes_or_error 0 bytes.entry.now)) }
+            ≡ framing_error_of (pieces_in bytes.entry.now)) }
     {
         let sockets = self.sockets;
         let mut walk = NlasIterator::new(bytes);
         while let Some(piece) = next_piece(&mut walk) {
             match piece {
                 Ok(nla) => add(sockets, &mut self.first.slots, &mut self.others, nla)?,
+                // The first error counts, as in the invariant. No piece follows it.
                 Err(error) => self.end = self.end.or(Some(error)),
             }
         }
         Ok(())
     }
 
-    /// Returns the first valid attribute of a kind.
+    /// Returns the first valid attribute of a kind. Returns `None` if there is none.
     pub(crate) fn first_of(&self, kind: u16) -> Option<NlaBuffer<'a>>
+        // `slot_attribute result`: the type and the value of the attribute, if there is one.
+        // `first_in`: the first valid attribute of this kind.
         ensures { slot_attribute result ≡ first_in kind (collected self.now) }
     {
         element(&self.first.slots, kind as usize)
     }
 }
 
-/// Adds an attribute to the first valid ones, or to the others.
+/// Adds an attribute to the first valid ones, or to the others if it is unknown or invalid. It is
+/// not added if it is valid, but not the first one of its kind.
 fn add<'a>(
     sockets: Sockets,
     slots: &mut [Option<NlaBuffer<'a>>],
@@ -96,10 +107,15 @@ fn add<'a>(
     nla: NlaBuffer<'a>,
 ) -> Result<(), AllocError>
     ensures length { OnOk result (length slots.new ≡ length slots.old) }
+    // The first valid attribute of a kind `k` is the one in its slot, or else the first one in
+    // `later`, the attributes that are still to come. This attribute moves from `later` to a slot
+    // or to the others: searching the new slot and then `later` finds the same as searching the old
+    // slot, then this attribute and `later`. `k < length slots.old`: there is a slot for `k`.
     ensures first { OnOk result ((later : List AttributeOrError) (k : ℕ) → k < length slots.old
         → option_or (slot_attribute (slice_index_or slots.new k None)) (first_valid sockets later k)
         ≡ option_or (slot_attribute (slice_index_or slots.old k None))
         (first_valid sockets (Ok (buffered_attribute nla.entry) ∷ later) k)) }
+    // This attribute was appended to the others if it is unknown or invalid.
     ensures others { OnOk result (map other_model others.new.items ≡ map other_model
         others.old.items ++ other_in_piece sockets (Ok (buffered_attribute nla.entry))) }
 {
@@ -112,7 +128,8 @@ fn add<'a>(
     }
 }
 
-/// Returns the status of an attribute.
+/// Returns the status of an attribute. It shows nothing, since the sink is `()`. The status does
+/// not depend on the argument `utf8`, here `false`.
 #[tactic(auto, unfolding(crate::specs::Collected::attribute_status))]
 fn status_in(alloc: Global, sockets: Sockets, nla: &NlaBuffer<'_>) -> Result<Status, AllocError>
     ensures { IfOk result (λ status.
@@ -128,7 +145,8 @@ fn is_valid(status: &Status) -> bool
     matches!(status, Ok(true))
 }
 
-/// Returns the element at an index. Returns `None` if there is none.
+/// Returns the element at an index, which may be `None`. Also returns `None` if the index is past
+/// the end.
 fn element<T: Copy>(slots: &[Option<T>], index: usize) -> Option<T>
     ensures { result ≡ slice_index_or slots.now index None }
 {
@@ -139,7 +157,8 @@ fn element<T: Copy>(slots: &[Option<T>], index: usize) -> Option<T>
     }
 }
 
-/// Sets the element at an index, unless it is set or there is none.
+/// Sets the element at an index if it is `None`. Does nothing if the element is set, or if the
+/// index is past the end.
 fn set_if_none<T: Copy>(slots: &mut [Option<T>], index: usize, value: T)
     ensures { slots.new ≡ with_element slots.old index value }
 {

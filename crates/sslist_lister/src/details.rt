@@ -1,5 +1,7 @@
 //! Details of a socket: what a reply contains besides the columns, and the attributes that are
-//! unknown or invalid.
+//! unknown or invalid. If a function of this module fails, an allocation failed, and the content of
+//! the text is not specified. In the contracts, `buffered_attribute nla.now` is the attribute
+//! `nla`, and `collected found.now` is what the attributes in `found` say.
 
 ghost use Rattle.std.specs.Prelude.{◌≡◌, ◌≤◌, ◌++◌, Some, flat_map, length, OnOk};
 ghost use Rattle.sslist_lister.specs.texts.Parts.{separator, details_after_separator};
@@ -8,6 +10,9 @@ ghost use Rattle.sslist_lister.specs.Collected.{collected, other_model, slot_att
 ghost use Rattle.sslist_lister.specs.Details.{detail_group, details, invalid_attribute_text};
 ghost use Rattle.sslist_lister.specs.Details.{other_detail, status_text, timer_in};
 ghost use Rattle.sslist_lister.specs.Details.{unknown_attribute_text, valid_detail};
+ghost use Rattle.sock_diag_records.specs.declared.inet.response.TheConstants.{
+  INET_RESPONSE_HEADER_LEN,
+};
 
 use crate::attributes::{Sockets, memory_kind, show_attribute};
 use crate::collected::Attributes;
@@ -25,20 +30,23 @@ use sock_diag_records::constants::{
 };
 use std::alloc::AllocError;
 
-/// Returns the timer fields of a reply about an IPv4 or IPv6 socket.
+/// Returns the timer fields of a reply about an IPv4 or IPv6 socket. The payload must have at least
+/// the bytes of the header, which contains them.
 pub(crate) fn timer_of(payload: &[u8]) -> TimerFields
-    requires { 72 ≤ length payload.now }
+    requires { INET_RESPONSE_HEADER_LEN ≤ length payload.now }
     ensures { result ≡ timer_in payload.now }
 {
     TimerFields {
+        // The offsets of `idiag_timer`, `idiag_retrans` and `idiag_expires`.
         class: payload[2],
         retransmits: payload[3],
         expires: LittleEndian::read_u32(&payload[52..]),
     }
 }
 
-/// Appends the details of a socket. They follow the separator, which is a line feed and a tab, or
-/// nothing with `-O`. Appends nothing if there are no details.
+/// Appends the details of a socket with this timer, this cookie and the attributes `found`. They
+/// follow the separator, which is a line feed and a tab, or nothing with `-O`. Appends nothing if
+/// there are no details.
 pub(crate) fn push_details(
     text: &mut Vec<u8>,
     options: Options,
@@ -46,6 +54,7 @@ pub(crate) fn push_details(
     cookie: &[u8; 8],
     found: &Attributes<'_>,
 ) -> Result<(), AllocError>
+    // `details_after_separator options text`: the separator and this text; nothing if it is empty.
     ensures { OnOk result (text.new.items ≡ text.old.items
         ++ details_after_separator options
         (details options timer.now cookie.now (collected found.now))) }
@@ -62,7 +71,7 @@ pub(crate) fn push_details(
 
 /// Appends the timer of a socket, its cookie, and the details of its attributes, as far as the
 /// options select them.
-#[tactic(auto, using(crate::proofs::Adding::appended_texts_concatenate, crate::proofs::Slots::mapped_texts))]
+#[tactic(auto, using(crate::proofs::Slots::detail_rules))]
 fn push_selected(
     text: &mut Vec<u8>,
     options: Options,
@@ -79,13 +88,16 @@ fn push_selected(
     push_others(text, options, found.sockets, found.others.as_slice())
 }
 
-/// Appends the facts of each valid attribute, as far as the options select them.
+/// Appends the facts of the valid attribute in each slot, if there is one and the options select
+/// its group of details.
 fn push_valid(
     text: &mut Vec<u8>,
     options: Options,
     sockets: Sockets,
     slots: &[Option<NlaBuffer<'_>>],
 ) -> Result<(), AllocError>
+    // `slot_attribute slot`: the attribute in a slot, or None. `valid_detail`: the text of its
+    // facts, if the options select it; nothing for None.
     ensures { OnOk result (text.new.items ≡ text.old.items
         ++ flat_map (λ slot. valid_detail options sockets (slot_attribute slot)) slots.now) }
 {
@@ -97,7 +109,7 @@ fn push_valid(
     Ok(())
 }
 
-/// Appends the facts of a valid attribute, if the options select its group.
+/// Appends the facts of a valid attribute, if the options select its group of details.
 fn push_facts(
     text: &mut Vec<u8>,
     options: Options,
@@ -111,17 +123,20 @@ fn push_facts(
         return Ok(());
     }
     let alloc = *text.allocator();
+    // The status of a valid attribute is always `Ok(true)`.
     let _ = show_attribute(text, alloc, options.utf8, sockets, nla)?;
     Ok(())
 }
 
-/// Appends each unknown or invalid attribute, as far as the options select them.
+/// Appends each unknown or invalid attribute, if the options select its group of details.
 fn push_others(
     text: &mut Vec<u8>,
     options: Options,
     sockets: Sockets,
     others: &[(NlaBuffer<'_>, Status)],
 ) -> Result<(), AllocError>
+    // `other_model other`: an attribute and its status. `other_detail`: its text, if the options
+    // select it.
     ensures { OnOk result (text.new.items ≡ text.old.items
         ++ flat_map (λ other. other_detail options sockets (other_model other)) others.now) }
 {
@@ -155,7 +170,8 @@ fn detail_group(sockets: Sockets, kind: u16) -> Detail
     }
 }
 
-/// Appends an attribute without facts: one of an unknown kind, or with an invalid value.
+/// Appends an unknown or invalid attribute, by its status. Appends nothing for the status of a
+/// valid one.
 fn push_status(text: &mut Vec<u8>, nla: &NlaBuffer<'_>, status: &Status) -> Result<(), AllocError>
     ensures { OnOk result (text.new.items
         ≡ text.old.items ++ status_text (buffered_attribute nla.now) status.now) }
@@ -168,6 +184,7 @@ fn push_status(text: &mut Vec<u8>, nla: &NlaBuffer<'_>, status: &Status) -> Resu
 }
 
 /// Appends the kind of an invalid attribute, the length of its value in bytes, and the reason.
+/// Example: ` unread:(4,3,not-utf8)`.
 fn push_invalid(
     text: &mut Vec<u8>,
     nla: &NlaBuffer<'_>,
@@ -185,7 +202,8 @@ fn push_invalid(
     Ok(text.push(b')')?)
 }
 
-/// Appends the kind of an unknown attribute, and the length of its value in bytes.
+/// Appends the kind of an unknown attribute, and the length of its value in bytes. Example:
+/// ` unknown:(42,8)`.
 fn push_unknown(text: &mut Vec<u8>, nla: &NlaBuffer<'_>) -> Result<(), AllocError>
     ensures { OnOk result (text.new.items
         ≡ text.old.items ++ unknown_attribute_text (buffered_attribute nla.now)) }

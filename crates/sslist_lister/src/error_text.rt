@@ -79,7 +79,7 @@ fn push_sentence(text: &mut Vec<u8>, sentence: Sentence) -> Result<(), AllocErro
     ensures { OnOk result (text.new.items ≡ text.old.items ++ sentence_text sentence) }
 {
     match sentence {
-        Sentence::Plain(words) => text.extend_from_slice(words),
+        Sentence::Plain(plain) => text.extend_from_slice(plain),
         Sentence::One(before, number, after) => push_one(text, before, number, after),
         Sentence::Two(before, first, between, second, after) => {
             push_one(text, before, first, between)?;
@@ -99,7 +99,8 @@ fn push_one(text: &mut Vec<u8>, before: &[u8], number: u64, after: &[u8]) -> Res
     text.extend_from_slice(after)
 }
 
-/// Returns the text of a decode error, without the name of the record that it is about.
+/// Returns the text of a decode error, without the name of the record that it is about, which
+/// precedes this text.
 fn sentence_of(error: &DecodeError) -> Sentence
     ensures { subject_text error.now ++ sentence_text result ≡ decode_error_text error.now }
 {

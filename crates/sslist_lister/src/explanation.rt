@@ -1,13 +1,15 @@
 //! What the kernel explains about an error: the request that it answers, and an extended
 //! acknowledgement (netlink(7)). A function of this module that appends allocates only to grow the
-//! text. If it fails, an allocation failed, and the content of the text is not specified.
+//! text. If it fails, an allocation failed, and the content of the text is not specified. Each
+//! `flags` is the field `nlmsg_flags` of the message. Of the request only the header is present if
+//! it has `NLM_F_CAPPED`, and attributes are present only if it has `NLM_F_ACK_TLVS`.
 
 ghost use Rattle.std.specs.Prelude.{◌≡◌, ◌++◌, OnOk, flat_map, option_map};
 ghost use Rattle.sslist_lister.specs.Explanation.{answered_request, attributes_by_type};
 ghost use Rattle.sslist_lister.specs.Explanation.{done_attributes, error_attributes};
-ghost use Rattle.sslist_lister.specs.Explanation.{error_request, explained_byte};
-ghost use Rattle.sslist_lister.specs.Explanation.{explanation, explanation_in};
-ghost use Rattle.sslist_lister.specs.Explanation.{explanation_text, offset_text};
+ghost use Rattle.sslist_lister.specs.Explanation.{error_request, kernel_text_byte};
+ghost use Rattle.sslist_lister.specs.Explanation.{explanation, text_and_offset_in};
+ghost use Rattle.sslist_lister.specs.Explanation.{kernel_text, offset_text};
 ghost use Rattle.sslist_lister.specs.Explanation.{unknown_request};
 ghost use Rattle.sslist_lister.specs.Messages.{message_parts};
 
@@ -21,7 +23,8 @@ use sock_diag_extras::constants::{NLMSGERR_ATTR_MSG, NLMSGERR_ATTR_OFFS};
 use std::alloc::AllocError;
 
 /// Appends what a message explains: the request that it answers, the kernel's text, and the offset
-/// of the invalid attribute. Appends nothing if it is not an answer.
+/// of the invalid attribute. Appends nothing if the message is neither an `NLMSG_ERROR` nor an
+/// `NLMSG_DONE`.
 pub(crate) fn push_explanation(text: &mut Vec<u8>, message: &Message<'_>) -> Result<(), AllocError>
     ensures { OnOk result (text.new.items ≡ text.old.items
         ++ explanation (message_parts message.now)) }
@@ -32,11 +35,12 @@ pub(crate) fn push_explanation(text: &mut Vec<u8>, message: &Message<'_>) -> Res
         unknown_request(message_type),
         request_of(message_type, flags, message.payload),
     )?;
-    push_explanation_in(text, attributes_of(message_type, flags, message.payload))
+    push_text_and_offset(text, attributes_of(message_type, flags, message.payload))
 }
 
-/// Returns the text about the request that a message of this type answers, for messages that do not
-/// contain it, or one for sockets of an unknown family.
+/// Returns the text about the request that a message of this type answers, if the message does not
+/// contain the request, or one for sockets of an unknown family. It is empty if messages of this
+/// type answer no request.
 fn unknown_request(message_type: u16) -> &'static [u8]
     ensures { result.now ≡ unknown_request message_type }
 {
@@ -57,7 +61,8 @@ fn request_of(message_type: u16, flags: u16, payload: &[u8]) -> &[u8]
     }
 }
 
-/// Returns the bytes of the request in the payload of an `NLMSG_ERROR`.
+/// Returns the bytes of the request in the payload of an `NLMSG_ERROR`. There are none if the
+/// payload does not contain it.
 fn request_of_error(flags: u16, payload: &[u8]) -> &[u8]
     ensures { result.now ≡ error_request flags payload.entry.now }
 {
@@ -67,7 +72,8 @@ fn request_of_error(flags: u16, payload: &[u8]) -> &[u8]
     }
 }
 
-/// Returns the attributes of an extended acknowledgement, by the type and the flags of the header.
+/// Returns the bytes of the attributes of an extended acknowledgement, by the type and the flags of
+/// the header. There are none if it is neither an `NLMSG_ERROR` nor an `NLMSG_DONE`.
 fn attributes_of(message_type: u16, flags: u16, payload: &[u8]) -> &[u8]
     ensures { result.now ≡ attributes_by_type message_type flags payload.entry.now }
 {
@@ -78,7 +84,9 @@ fn attributes_of(message_type: u16, flags: u16, payload: &[u8]) -> &[u8]
     }
 }
 
-/// Returns the attributes in the payload of an `NLMSG_ERROR`.
+/// Returns the bytes of the attributes in the payload of an `NLMSG_ERROR`. There are none if the
+/// payload does not contain the request, which precedes them, or if the flags lack
+/// `NLM_F_ACK_TLVS`.
 fn attributes_of_error(flags: u16, payload: &[u8]) -> &[u8]
     ensures { result.now ≡ error_attributes flags payload.entry.now }
 {
@@ -88,7 +96,8 @@ fn attributes_of_error(flags: u16, payload: &[u8]) -> &[u8]
     }
 }
 
-/// Returns the attributes in the payload of an `NLMSG_DONE`.
+/// Returns the bytes of the attributes in the payload of an `NLMSG_DONE`. There are none if the
+/// payload has no error number, which precedes them, or if the flags lack `NLM_F_ACK_TLVS`.
 fn attributes_of_done(flags: u16, payload: &[u8]) -> &[u8]
     ensures { result.now ≡ done_attributes flags payload.entry.now }
 {
@@ -98,39 +107,42 @@ fn attributes_of_done(flags: u16, payload: &[u8]) -> &[u8]
     }
 }
 
-/// Appends what these attributes explain.
-fn push_explanation_in(text: &mut Vec<u8>, bytes: &[u8]) -> Result<(), AllocError>
-    ensures { OnOk result (text.new.items ≡ text.old.items ++ explanation_in bytes.now) }
+/// Appends the kernel's text and the offset that the attributes in these bytes contain.
+fn push_text_and_offset(text: &mut Vec<u8>, bytes: &[u8]) -> Result<(), AllocError>
+    ensures { OnOk result (text.new.items ≡ text.old.items ++ text_and_offset_in bytes.now) }
 {
-    push_explanation_text(text, find_value(bytes, NLMSGERR_ATTR_MSG))?;
+    push_kernel_text(text, find_value(bytes, NLMSGERR_ATTR_MSG))?;
+    // The offset is a `u32`, which has 4 bytes.
     push_offset(text, find_number(bytes, NLMSGERR_ATTR_OFFS, 4))
 }
 
-/// Appends a colon, a space and the kernel's text. Appends nothing for `None`.
-fn push_explanation_text(text: &mut Vec<u8>, value: Option<&[u8]>) -> Result<(), AllocError>
+/// Appends a colon, a space and the kernel's text, which is `value` without a terminating NUL.
+/// Appends nothing for `None`.
+fn push_kernel_text(text: &mut Vec<u8>, value: Option<&[u8]>) -> Result<(), AllocError>
+    // `option_map (λ bytes. bytes.now) value.entry`: the bytes of the value, if there is one.
     ensures { OnOk result (text.new.items ≡ text.old.items
-        ++ explanation_text (option_map (λ bytes. bytes.now) value.entry)) }
+        ++ kernel_text (option_map (λ bytes. bytes.now) value.entry)) }
 {
     let Some(value) = value else {
         return Ok(());
     };
     text.extend_from_slice(b": ")?;
-    push_explained(text, text_bytes(value))
+    push_kernel_text_bytes(text, text_bytes(value))
 }
 
 /// Appends the bytes of the kernel's text.
-fn push_explained(text: &mut Vec<u8>, bytes: &[u8]) -> Result<(), AllocError>
-    ensures { OnOk result (text.new.items ≡ text.old.items ++ flat_map explained_byte bytes.now) }
+fn push_kernel_text_bytes(text: &mut Vec<u8>, bytes: &[u8]) -> Result<(), AllocError>
+    ensures { OnOk result (text.new.items ≡ text.old.items ++ flat_map kernel_text_byte bytes.now) }
 {
     for byte in bytes {
-        push_explained_byte(text, *byte)?;
+        push_kernel_text_byte(text, *byte)?;
     }
     Ok(())
 }
 
 /// Appends a byte as [`push_escaped_byte`] does, except for a space, which is appended unchanged.
-fn push_explained_byte(text: &mut Vec<u8>, byte: u8) -> Result<(), AllocError>
-    ensures { OnOk result (text.new.items ≡ text.old.items ++ explained_byte byte) }
+fn push_kernel_text_byte(text: &mut Vec<u8>, byte: u8) -> Result<(), AllocError>
+    ensures { OnOk result (text.new.items ≡ text.old.items ++ kernel_text_byte byte) }
 {
     if byte == b' ' {
         Ok(text.push(byte)?)
@@ -139,7 +151,8 @@ fn push_explained_byte(text: &mut Vec<u8>, byte: u8) -> Result<(), AllocError>
     }
 }
 
-/// Appends an offset in bytes. Appends nothing for `None`.
+/// Appends the offset of the invalid attribute in the request, in bytes. Appends nothing for
+/// `None`.
 fn push_offset(text: &mut Vec<u8>, offset: Option<u64>) -> Result<(), AllocError>
     ensures { OnOk result (text.new.items ≡ text.old.items ++ offset_text offset) }
 {

@@ -1,21 +1,22 @@
 //! The facts of a reply. A fact has a row: how the table shows it, and its name in JSON. Both show
 //! the same facts, in the same order. A function of this module appends to a sink. If it fails, an
-//! allocation failed, and the content of the sink is not specified.
+//! allocation failed, and the content of the sink is not specified. In the contracts, `S.content
+//! sink.old` and `S.content sink.new` are what the sink shows before and after the call.
 
 ghost use Rattle.std.specs.Prelude.{◌≡◌, ◌++◌, ◌∷◌, [], ℕ, List, OnOk, decimal, flat_map, map};
 ghost use Rattle.std.specs.Prelude.{option_map, refl};
 ghost use Rattle.json.specs.Token.{Token, begin_object, end_object, key};
 ghost use Rattle.sock_diag_attributes.specs.NameModel.{name_view_model};
 ghost use Rattle.sock_diag_attributes.specs.NumbersModel.{numbers_view_model};
-ghost use Rattle.sslist_lister.specs.Facts.{Facts, Shows, both, flag_facts, group, list_facts};
-ghost use Rattle.sslist_lister.specs.Facts.{name_facts, named_member, no_facts, number_facts};
-ghost use Rattle.sslist_lister.specs.Facts.{number_row, number_text, numbers, text_facts};
+ghost use Rattle.sslist_lister.specs.Facts.{AddsFacts, AddsItems, Facts, SinkContent, both};
+ghost use Rattle.sslist_lister.specs.Facts.{flag_facts, group, json_group, list_facts, name_facts};
+ghost use Rattle.sslist_lister.specs.Facts.{named_member, no_facts, number_facts, number_row_facts};
+ghost use Rattle.sslist_lister.specs.Facts.{number_row_of, number_text, numbers, text_facts};
 ghost use Rattle.sslist_lister.specs.laws.FactTokens.{group_tokens, no_tokens};
 ghost use Rattle.sslist_lister.specs.Md5Keys.{md5_facts};
 ghost use Rattle.sslist_lister.specs.UlpNames.{name_or_number};
 ghost use Rattle.sslist_lister.specs.laws.MemberTokens.{tokens_append};
-ghost use Rattle.sslist_lister.specs.texts.JsonWriting.{AddsMembers, KeepsTextBefore};
-ghost use Rattle.sslist_lister.specs.texts.JsonWriting.{members_tokens};
+ghost use Rattle.sslist_lister.specs.texts.JsonWriting.{KeepsPrefix, members_tokens};
 
 use crate::json_names::{write_list, write_name};
 use crate::md5_keys::{push_md5_keys, write_md5_keys};
@@ -53,7 +54,7 @@ pub(crate) enum Shown {
     Bits(u64),
     /// A text, bits 0 to 3 in decimal, a comma, the bits above, and a closing parenthesis.
     Halves,
-    /// The directions that are not shut down, as ss(8) does.
+    /// A text, and `<->` with a `-` in place of each direction that is shut down, as ss(8) has it.
     Directions,
     /// A text, and a version of TLS.
     Version,
@@ -65,26 +66,25 @@ pub(crate) enum Shown {
     Letters,
 }
 
-/// What facts are shown in: the text of the table, or a line of JSON.
+/// What facts are shown in: the text of the table, a line of JSON, or `()`, which shows nothing.
 pub(crate) trait FactSink {
-    // What it shows is a list of items. `content`: the items that it shows so far. `kept`: the
-    // text before them. `items`: the items of facts. `beginning`: those at the beginning of a
-    // group, by its text in the table and its name in JSON. `ending`: those at its end, by its
-    // text in the table.
+    // The type of the items that the sink shows: ASCII codes in the table, tokens in JSON.
     ghost Item: { Type 0 };
 
-    ghost content: { Self → List Item };
-
-    ghost kept: { Self → List ℕ };
-
+    // The items by which the sink shows facts.
     ghost items: { Facts → List Item };
 
+    // The items that the sink shows so far, and the text in it before them.
+    ghost content: { Self → SinkContent items };
+
+    // The items at the beginning of a group, by the text `opening` and the name `member` in JSON.
     ghost beginning: { List ℕ → List ℕ → List Item };
 
+    // The items at the end of a group, by the text `closing`.
     ghost ending: { List ℕ → List Item };
 
-    /// Shows a number. The table shows it by this format and this text. JSON has it under
-    /// `member`, or not at all.
+    /// Shows a number. The table shows it by `format`, after `text`. JSON has it under `member`, or
+    /// not at all for `None`.
     fn number(
         &mut self,
         format: Shown,
@@ -92,10 +92,13 @@ pub(crate) trait FactSink {
         member: Option<&str>,
         number: u64,
     ) -> Result<(), AllocError>
-        ensures { Shows kept content items result self.old self.new
-            (number_facts format text.now (option_map (λ m. m.now) member.entry) number) };
+        // AddsFacts old new facts: the sink shows these facts after what it showed before.
+        // option_map (λ m. m.now) member.entry: the bytes of `member`, if there is one.
+        ensures { OnOk result (AddsFacts (content self.old) (content self.new)
+            (number_facts format text.now (option_map (λ m. m.now) member.entry) number)) };
 
-    /// Shows a flag. The table shows it as the number 0 or 1, by this format and this text.
+    /// Shows a flag. The table shows it as the number 0 or 1, by `format`, after `text`. JSON has
+    /// it under `member`, as `true` or `false`.
     fn flag(
         &mut self,
         format: Shown,
@@ -103,44 +106,51 @@ pub(crate) trait FactSink {
         member: &str,
         flag: bool,
     ) -> Result<(), AllocError>
-        ensures { Shows kept content items result self.old self.new
-            (flag_facts format text.now member.now flag) };
+        ensures { OnOk result (AddsFacts (content self.old) (content self.new)
+            (flag_facts format text.now member.now flag)) };
 
-    /// Shows a name. The table shows it after this text, escaped as names of sockets are.
+    /// Shows a name. The table shows it after `text`, escaped as names of sockets are; `utf8` is
+    /// the option `--utf8`. JSON has it under `member`.
     fn name(&mut self, utf8: bool, text: &[u8], member: &str, name: &str) -> Result<(), AllocError>
-        ensures { Shows kept content items result self.old self.new
-            (text_facts utf8 text.now member.now name.now) };
+        ensures { OnOk result (AddsFacts (content self.old) (content self.new)
+            (text_facts utf8 text.now member.now name.now)) };
 
-    /// Shows numbers. The table shows each after this text. JSON has an array.
+    /// Shows numbers. The table shows each after `text`. JSON has the array `member`.
     fn list(
         &mut self,
         text: &[u8],
         member: &str,
         numbers: &NumbersView<'_>,
     ) -> Result<(), AllocError>
-        ensures { Shows kept content items result self.old self.new
-            (list_facts text.now member.now (numbers_view_model numbers.now)) };
+        // `numbers_view_model numbers`: the list of the numbers.
+        ensures { OnOk result (AddsFacts (content self.old) (content self.new)
+            (list_facts text.now member.now (numbers_view_model numbers.now))) };
 
-    /// Shows the name of a UNIX socket, for which the table has a column.
+    /// Shows the name of a UNIX socket. Only JSON has it here, since the table has a column for it.
+    /// JSON allocates temporary strings by `alloc`.
     fn socket_name(&mut self, alloc: Global, name: NameView<'_>) -> Result<(), AllocError>
-        ensures { Shows kept content items result self.old self.new
-            (name_facts (name_view_model name.entry)) };
+        // `name_view_model name`: the name, with the bytes that it borrows as a list.
+        ensures { OnOk result (AddsFacts (content self.old) (content self.new)
+            (name_facts (name_view_model name.entry))) };
 
-    /// Shows the MD5 keys in a value.
+    /// Shows the MD5 keys in the value of an attribute. JSON allocates temporary strings by
+    /// `alloc`.
     fn md5_keys(&mut self, alloc: Global, value: &[u8]) -> Result<(), AllocError>
-        ensures { Shows kept content items result self.old self.new (md5_facts value.now) };
+        ensures { OnOk result (AddsFacts (content self.old) (content self.new)
+            (md5_facts value.now)) };
 
-    /// Begins a group: `opening` in the table, and the object `member` in JSON.
+    /// Begins a group: the text `opening` in the table, and the object `member` in JSON.
     fn begin(&mut self, opening: &[u8], member: &str) -> Result<(), AllocError>
-        ensures { OnOk result ((kept self.new ≡ kept self.old)
-            × (content self.new ≡ content self.old ++ beginning opening.now member.now)) };
+        // `AddsItems old new items`: the sink shows these items after what it showed before.
+        ensures { OnOk result (AddsItems (content self.old) (content self.new)
+            (beginning opening.now member.now)) };
 
-    /// Ends a group: `closing` in the table, and the end of the object in JSON.
+    /// Ends a group: the text `closing` in the table, and the end of the object in JSON.
     fn end(&mut self, closing: &[u8]) -> Result<(), AllocError>
-        ensures { OnOk result ((kept self.new ≡ kept self.old)
-            × (content self.new ≡ content self.old ++ ending closing.now)) };
+        ensures { OnOk result (AddsItems (content self.old) (content self.new)
+            (ending closing.now)) };
 
-    // The items of facts are those of their parts.
+    // Each impl proves these three: the items of facts are those of their parts, in order.
     ghost items_of_none: { items no_facts ≡ [] };
 
     ghost items_of_both: { (a b : Facts) → items (both a b) ≡ items a ++ items b };
@@ -154,11 +164,10 @@ pub(crate) trait FactSink {
 impl FactSink for Vec<u8> {
     ghost Item = { ℕ };
 
-    ghost content = { λ text. text.items };
-
-    ghost kept = { λ text. [] };
-
     ghost items = { λ facts. facts.text };
+
+    // All of the text counts as shown, so no text is before it.
+    ghost content = { λ text. record { shown = text.items; text_before = [] } };
 
     ghost beginning = { λ opening member. opening };
 
@@ -173,7 +182,8 @@ impl FactSink for Vec<u8> {
         _member: Option<&str>,
         number: u64,
     ) -> Result<(), AllocError> {
-        // Most numbers have these formats. They are faster without the match of all formats.
+        // The most frequent formats come first, which is faster than the match of all formats. A
+        // `Nonzero` number that is `u64::MAX` is not shown, by the last arm.
         match format {
             Shown::Never => Ok(()),
             Shown::Nonzero if number == 0 => Ok(()),
@@ -233,6 +243,7 @@ impl FactSink for Vec<u8> {
         self.extend_from_slice(closing)
     }
 
+    // Proofs of the trait's equations about items, by computation.
     ghost items_of_none = { refl };
 
     ghost items_of_both = { λ a b. refl };
@@ -240,15 +251,14 @@ impl FactSink for Vec<u8> {
     ghost items_of_group = { λ opening closing member facts. refl };
 }
 
-/// Nothing is shown.
+/// A sink that shows nothing, for calls of which only the status is used.
 impl FactSink for () {
+    // There are no items, so the type does not matter.
     ghost Item = { ℕ };
 
-    ghost content = { λ none. [] };
-
-    ghost kept = { λ none. [] };
-
     ghost items = { λ facts. [] };
+
+    ghost content = { λ none. record { shown = []; text_before = [] } };
 
     ghost beginning = { λ opening member. [] };
 
@@ -309,6 +319,7 @@ impl FactSink for () {
         Ok(())
     }
 
+    // Proofs of the trait's equations about items, by computation.
     ghost items_of_none = { refl };
 
     ghost items_of_both = { λ a b. refl };
@@ -320,11 +331,9 @@ impl FactSink for () {
 impl FactSink for Writer {
     ghost Item = { Token };
 
-    ghost content = { λ writer. writer.tokens };
-
-    ghost kept = { λ writer. writer.before };
-
     ghost items = { λ facts. members_tokens facts.members };
+
+    ghost content = { λ writer. record { shown = writer.tokens; text_before = writer.before } };
 
     ghost beginning = { λ opening member. key member ∷ begin_object ∷ [] };
 
@@ -391,6 +400,7 @@ impl FactSink for Writer {
         self.end_object()
     }
 
+    // Proofs of the trait's equations about items, by lemmas.
     ghost items_of_none = { no_tokens };
 
     ghost items_of_both = { λ a b. tokens_append a.members b.members };
@@ -415,33 +425,54 @@ pub(crate) fn show_group<S: FactSink>(
     member: &str,
     rows: &[NumberRow<'_>],
 ) -> Result<(), AllocError>
-    ensures { Shows S.kept S.content S.items result sink.old sink.new
-        (group opening.now closing.now member.now (numbers (map (λ row.
-        (row.0, row.1.now, option_map (λ m. m.now) row.2, row.3)) rows.now))) }
+    // `number_row_of`: the row, with its texts as lists of bytes. `numbers`: the facts of these
+    // rows, in order; a row without a number has none.
+    ensures { OnOk result (AddsFacts (S.content sink.old) (S.content sink.new)
+        (group opening.now closing.now member.now (numbers (map number_row_of rows.now)))) }
 {
     sink.begin(opening, member)?;
     show_numbers(sink, rows)?;
     sink.end(closing)
 }
 
-/// Shows numbers.
+/// Shows a group of numbers, which is the object `member` in JSON, and has no text around it in the
+/// table.
+#[inline(always)]
+pub(crate) fn show_json_group<S: FactSink>(
+    sink: &mut S,
+    member: &str,
+    rows: &[NumberRow<'_>],
+) -> Result<(), AllocError>
+    // `number_row_of`: the row, with its texts as lists of bytes. `numbers`: the facts of these
+    // rows, in order; a row without a number has none.
+    ensures { OnOk result (AddsFacts (S.content sink.old) (S.content sink.new)
+        (json_group member.now (numbers (map number_row_of rows.now)))) }
+{
+    show_group(sink, b"", b"", member, rows)
+}
+
+/// Shows the number of each row that has one.
 #[inline(always)]
 pub(crate) fn show_numbers<S: FactSink>(
     sink: &mut S,
     rows: &[NumberRow<'_>],
 ) -> Result<(), AllocError>
-    ensures { Shows S.kept S.content S.items result sink.old sink.new (numbers (map (λ row.
-        (row.0, row.1.now, option_map (λ m. m.now) row.2, row.3)) rows.now)) }
+    // `number_row_of`: the row, with its texts as lists of bytes. `numbers`: the facts of these
+    // rows, in order; a row without a number has none.
+    ensures { OnOk result (AddsFacts (S.content sink.old) (S.content sink.new)
+        (numbers (map number_row_of rows.now))) }
 {
     show_each(sink, rows)
 }
 
-/// Shows the number of each row.
+/// Shows the number of each row that has one. The contract states this of items, as the loop
+/// appends them.
 #[inline(always)]
 fn show_each<S: FactSink>(sink: &mut S, rows: &[NumberRow<'_>]) -> Result<(), AllocError>
-    ensures { OnOk result ((S.kept sink.new ≡ S.kept sink.old)
-        × (S.content sink.new ≡ S.content sink.old ++ flat_map (λ row. S.items (number_row
-        (row.0, row.1.now, option_map (λ m. m.now) row.2, row.3))) rows.now)) }
+    // For each row the items of its fact; none if it has no number. `number_row_of`: the row, with
+    // its texts as lists of bytes.
+    ensures { OnOk result (AddsItems (S.content sink.old) (S.content sink.new)
+        (flat_map (λ row. S.items (number_row_facts (number_row_of row))) rows.now)) }
 {
     for &(format, text, member, number) in rows {
         if let Some(number) = number {
@@ -451,7 +482,8 @@ fn show_each<S: FactSink>(sink: &mut S, rows: &[NumberRow<'_>]) -> Result<(), Al
     Ok(())
 }
 
-/// Appends a number by this format and this text.
+/// Appends a number by this format, after the text `before`. Some formats append nothing for some
+/// numbers ([`Shown`]).
 fn push_number_as(
     text: &mut Vec<u8>,
     format: Shown,
@@ -462,12 +494,14 @@ fn push_number_as(
         ≡ text.old.items ++ number_text format before.now number) }
 {
     match format {
+        // First the numbers that are not shown.
         Shown::Nonzero if number == 0 || number == u64::MAX => Ok(()),
         Shown::Threshold if number == 0 || number == INFINITE_THRESHOLD => Ok(()),
         Shown::Bits(bits) if number & bits == 0 => Ok(()),
         Shown::NonzeroHex | Shown::Letters if number == 0 => Ok(()),
         Shown::Never => Ok(()),
         Shown::Always | Shown::Nonzero | Shown::Threshold => push_after(text, before, number),
+        // The number has one of the bits, by the test above.
         Shown::Bits(_) => text.extend_from_slice(before),
         Shown::Closed => {
             push_after(text, before, number)?;
@@ -496,13 +530,15 @@ fn push_number_as(
     }
 }
 
-/// Appends a text, and a name or else a number in decimal.
+/// Appends the text `before`, and the name of a number, or the number in decimal if it has no name
+/// (`None`).
 fn push_named(
     text: &mut Vec<u8>,
     before: &[u8],
     name: Option<&[u8]>,
     number: u64,
 ) -> Result<(), AllocError>
+    // `option_map (λ n. n.now) name.entry`: the bytes of the name, if there is one.
     ensures { OnOk result (text.new.items ≡ text.old.items
         ++ before.now ++ name_or_number (option_map (λ n. n.now) name.entry) number) }
 {
@@ -515,7 +551,7 @@ fn push_named(
     }
 }
 
-/// Appends a text, and a number in decimal.
+/// Appends the text `before`, and a number in decimal.
 fn push_after(text: &mut Vec<u8>, before: &[u8], number: u64) -> Result<(), AllocError>
     ensures { OnOk result (text.new.items ≡ text.old.items ++ before.now ++ decimal number) }
 {
@@ -523,8 +559,9 @@ fn push_after(text: &mut Vec<u8>, before: &[u8], number: u64) -> Result<(), Allo
     push_number(text, number)
 }
 
-/// Appends each number after this text.
+/// Appends each number in decimal, after the text `before`.
 fn push_each(text: &mut Vec<u8>, before: &[u8], numbers: &NumbersView<'_>) -> Result<(), AllocError>
+    // `numbers_view_model numbers`: the list of the numbers.
     ensures { OnOk result (text.new.items ≡ text.old.items
         ++ flat_map (λ n. before.now ++ decimal n) (numbers_view_model numbers.now)) }
 {
@@ -534,13 +571,15 @@ fn push_each(text: &mut Vec<u8>, before: &[u8], numbers: &NumbersView<'_>) -> Re
     Ok(())
 }
 
-/// Writes a member whose value is a number, if it has a name.
+/// Writes a member whose value is a number. Writes nothing if it has no name (`None`).
 #[inline(always)]
 #[tactic(auto, unfolding(crate::specs::texts::JsonWriting::members_tokens))]
 fn write_named(writer: &mut Writer, member: Option<&str>, number: u64) -> Result<(), AllocError>
-    ensures before { KeepsTextBefore result writer.old writer.new }
-    ensures members { AddsMembers result writer.old writer.new
-        (named_member (option_map (λ m. m.now) member.entry) number) }
+    // `option_map (λ m. m.now) member.entry`: the bytes of the name, if there is one.
+    // `members_tokens (named_member name number)`: the tokens of the member; none without a name.
+    ensures prefix { KeepsPrefix result writer.old writer.new }
+    ensures members { OnOk result (writer.new.tokens ≡ writer.old.tokens
+        ++ members_tokens (named_member (option_map (λ m. m.now) member.entry) number)) }
 {
     match member {
         Some(name) => write_optional(writer, name, Some(number)),

@@ -1,5 +1,6 @@
 //! The text before a table: the caption with the name of a file, and the heading; and the text
-//! between two lists of sockets in a table.
+//! between two lists of sockets in a table. If a function of this module fails, an allocation
+//! failed, and the content of the text is not specified.
 
 ghost use Rattle.std.specs.Prelude.{◌≡◌, ◌++◌, IfOk, OnOk, option_map};
 ghost use Rattle.sslist_lister.specs.Headings.{caption, list_heading, text_before_table};
@@ -14,6 +15,7 @@ use std::alloc::{AllocError, Global};
 /// Returns the text before a table: a caption with the name of its file if `name` is given, and
 /// the heading. It is empty with `-H` and with `--json`. Names are shown as names of sockets are.
 pub fn heading(alloc: Global, options: Options, name: Option<&str>) -> Result<Vec<u8>, AllocError>
+    // `option_map (λ file. file.now) name.entry`: the bytes of the name, if there is one.
     ensures { IfOk result (λ text. text.items
         ≡ text_before_table options (option_map (λ file. file.now) name.entry) HEADING.now) }
 {
@@ -26,8 +28,9 @@ pub fn heading(alloc: Global, options: Options, name: Option<&str>) -> Result<Ve
     Ok(text)
 }
 
-/// Appends a caption with the name of a file, if there is one.
+/// Appends a caption with the name of a file. Appends nothing for `None`.
 fn push_caption(text: &mut Vec<u8>, utf8: bool, name: Option<&str>) -> Result<(), AllocError>
+    // `option_map (λ file. file.now) name.entry`: the bytes of the name, if there is one.
     ensures { OnOk result (text.new.items ≡ text.old.items
         ++ caption utf8 (option_map (λ file. file.now) name.entry)) }
 {
@@ -39,9 +42,9 @@ fn push_caption(text: &mut Vec<u8>, utf8: bool, name: Option<&str>) -> Result<()
     text.extend_from_slice(b" <==\n")
 }
 
-/// Appends the text before another list of sockets: an empty line, a line with the time of the
-/// request that begins it, and the heading. Appends nothing if the request is not a repetition of
-/// the first one, and with `-H` and `--json`.
+/// Appends the text before another list of sockets, which a repetition of the first request begins:
+/// an empty line, a line with the time of the request, which is in `header`, and the heading.
+/// Appends nothing if the request is not a repetition, and with `-H` and `--json`.
 pub(crate) fn push_list_heading(
     text: &mut Vec<u8>,
     options: Options,

@@ -1,6 +1,8 @@
 //! JSON of a socket: the members of its header, those of its attributes, and the number of its
-//! list. If a function of this module fails, an allocation failed, and the content of the text or
-//! the writer is not specified.
+//! list. A repeated request begins another list of sockets; lists are numbered from 1. If a
+//! function of this module fails, an allocation failed, and the content of the text or the writer
+//! is not specified. The clauses `prefix` state that the bytes before the first token of the writer
+//! are unchanged. In the contracts, `collected found.now` is what the attributes in `found` say.
 
 ghost use Rattle.std.specs.Prelude.{◌≡◌, ◌++◌, List, OnOk, codes, flat_map, map};
 ghost use Rattle.json.specs.Lex.{tokens};
@@ -13,8 +15,7 @@ ghost use Rattle.sslist_lister.specs.JsonAttributes.{socket_json, socket_members
 ghost use Rattle.sslist_lister.specs.JsonAttributes.{valid_members};
 ghost use Rattle.sslist_lister.specs.texts.JsonData.{JsonMember, array_member, json_text};
 ghost use Rattle.sslist_lister.specs.texts.JsonData.{object_of, optional_member};
-ghost use Rattle.sslist_lister.specs.texts.JsonWriting.{AddsMembers, AddsTokens, KeepsTextBefore};
-ghost use Rattle.sslist_lister.specs.texts.JsonWriting.{members_tokens};
+ghost use Rattle.sslist_lister.specs.texts.JsonWriting.{KeepsPrefix, members_tokens};
 
 use crate::attributes::{Sockets, show_attribute};
 use crate::collected::Attributes;
@@ -33,8 +34,9 @@ pub(crate) trait JsonHeader {
 
     /// Writes the members of the header.
     fn write_json(&self, alloc: Global, writer: &mut Writer) -> Result<(), AllocError>
-        ensures before { KeepsTextBefore result writer.old writer.new }
-        ensures members { AddsMembers result writer.old writer.new (json_members self.now) };
+        ensures prefix { KeepsPrefix result writer.old writer.new }
+        ensures members { OnOk result (writer.new.tokens ≡ writer.old.tokens
+            ++ members_tokens (json_members self.now)) };
 }
 
 /// Appends the line of a socket with this header and these attributes, in the list of this number:
@@ -47,13 +49,14 @@ pub(crate) fn push_json<H: JsonHeader>(
 ) -> Result<(), AllocError>
     ensures line { OnOk result (text.new.items ≡ text.old.items
         ++ socket_json list (H.json_members header.now) (collected found.now)) }
-    // The text can be parsed: its tokens are those of the object.
-    ensures reads_back { OnOk result (tokens (json_text (object_of
-        (socket_members list (H.json_members header.now) (collected found.now))))
-        ≡ json_tokens (object_of
-        (socket_members list (H.json_members header.now) (collected found.now)))) }
+    // The text can be parsed: its tokens are those of the object. This is stated of each line that
+    // was written.
+    ensures reads_back { let object = object_of
+        (socket_members list (H.json_members header.now) (collected found.now)) in
+        OnOk result (tokens (json_text object) ≡ json_tokens object) }
 {
     let alloc = *text.allocator();
+    // The writer owns the text while it appends to it.
     let mut writer = Writer::new(mem::replace(text, Vec::new(alloc)));
     write_object(alloc, &mut writer, list, header, found)?;
     *text = writer.into_inner();
@@ -61,7 +64,7 @@ pub(crate) fn push_json<H: JsonHeader>(
 }
 
 /// Writes the object of a socket with this header and these attributes, in the list of this number.
-#[tactic(auto, using(crate::proofs::JsonWriting::json_rules, crate::proofs::JsonWriting::object_tokens))]
+#[tactic(auto, using(crate::proofs::JsonWriting::json_object_rules))]
 fn write_object<H: JsonHeader>(
     alloc: Global,
     writer: &mut Writer,
@@ -69,8 +72,11 @@ fn write_object<H: JsonHeader>(
     header: &H,
     found: &Attributes<'_>,
 ) -> Result<(), AllocError>
-    ensures before { KeepsTextBefore result writer.old writer.new }
-    ensures tokens { AddsTokens result writer.old writer.new (json_tokens (object_of
+    ensures prefix { KeepsPrefix result writer.old writer.new }
+    // socket_members list header summary: the members of the header, those of the attributes, and
+    // the number of the list if it is not the first one. json_tokens: the tokens of this object.
+    ensures tokens { OnOk result (writer.new.tokens ≡ writer.old.tokens
+        ++ json_tokens (object_of
         (socket_members list (H.json_members header.now) (collected found.now)))) }
 {
     writer.begin_object()?;
@@ -80,23 +86,24 @@ fn write_object<H: JsonHeader>(
     writer.end_object()
 }
 
-/// Returns the number of a list, unless it is the first one.
+/// Returns the number of a list. Returns `None` if it is the first one.
 fn later_list(list: u64) -> Option<u64>
     ensures { result ≡ later_list list }
 {
     if list > 1 { Some(list) } else { None }
 }
 
-/// Writes the members of the attributes of a reply, and then those that are unknown or invalid.
-#[tactic(auto, using(crate::proofs::JsonWriting::json_rules), unfolding(crate::specs::JsonAttributes::attributes_members))]
+/// Writes the members of the valid attributes of a reply, and then the member with those that are
+/// unknown or invalid.
+#[tactic(auto, using(crate::proofs::Slots::attributes_rules))]
 fn write_attributes(
     alloc: Global,
     writer: &mut Writer,
     found: &Attributes<'_>,
 ) -> Result<(), AllocError>
-    ensures before { KeepsTextBefore result writer.old writer.new }
-    ensures members { AddsMembers result writer.old writer.new
-        (attributes_members (collected found.now)) }
+    ensures prefix { KeepsPrefix result writer.old writer.new }
+    ensures members { OnOk result (writer.new.tokens ≡ writer.old.tokens
+        ++ members_tokens (attributes_members (collected found.now))) }
 {
     write_members(alloc, writer, found)?;
     write_others(writer, found)
@@ -109,14 +116,17 @@ fn write_members(
     writer: &mut Writer,
     found: &Attributes<'_>,
 ) -> Result<(), AllocError>
-    ensures before { KeepsTextBefore result writer.old writer.new }
-    ensures members { AddsMembers result writer.old writer.new
-        (flat_map (valid_members found.now.sockets) (map slot_attribute found.now.first.slots)) }
+    ensures prefix { KeepsPrefix result writer.old writer.new }
+    // `slot_attribute slot`: the attribute in a slot, or None. `valid_members sockets attribute`:
+    // the members of its facts; none for None.
+    ensures members { OnOk result (writer.new.tokens ≡ writer.old.tokens
+        ++ members_tokens
+        (flat_map (valid_members found.now.sockets) (map slot_attribute found.now.first.slots))) }
 {
     write_valid(alloc, writer, found.sockets, &found.first.slots)
 }
 
-/// Writes the members of each valid attribute.
+/// Writes the members of the valid attribute in each slot, if there is one.
 #[tactic(auto, unfolding(crate::specs::texts::JsonWriting::members_tokens))]
 fn write_valid(
     alloc: Global,
@@ -124,12 +134,16 @@ fn write_valid(
     sockets: Sockets,
     slots: &[Option<NlaBuffer<'_>>],
 ) -> Result<(), AllocError>
-    ensures before { KeepsTextBefore result writer.old writer.new }
-    ensures tokens { AddsTokens result writer.old writer.new (flat_map (λ slot.
-        members_tokens (valid_members sockets (slot_attribute slot))) slots.now) }
+    ensures prefix { KeepsPrefix result writer.old writer.new }
+    // For each slot the tokens of its members. `slot_attribute slot`: the attribute in a slot, or
+    // None. `valid_members sockets attribute`: the members of its facts; none for None.
+    ensures tokens { OnOk result (writer.new.tokens ≡ writer.old.tokens
+        ++ flat_map (λ slot. members_tokens (valid_members sockets (slot_attribute slot)))
+        slots.now) }
 {
     for slot in slots {
         if let Some(nla) = slot {
+            // `false`: JSON does not depend on `--utf8`. The status is always `Ok(true)`.
             let _ = show_attribute(writer, alloc, false, sockets, nla)?;
         }
     }
@@ -137,11 +151,13 @@ fn write_valid(
 }
 
 /// Writes the member `other_attributes`: the attributes that are unknown or invalid.
-#[tactic(auto, using(crate::proofs::JsonWriting::json_rules, crate::proofs::Slots::tokens_of_others))]
+#[tactic(auto, using(crate::proofs::Slots::other_rules))]
 fn write_others(writer: &mut Writer, found: &Attributes<'_>) -> Result<(), AllocError>
-    ensures before { KeepsTextBefore result writer.old writer.new }
-    ensures members { AddsMembers result writer.old writer.new (array_member
-        (codes "other_attributes") (map other_item (map other_model found.now.others.items))) }
+    ensures prefix { KeepsPrefix result writer.old writer.new }
+    // `other_model other`: an attribute and its status. `other_item`: the object for it.
+    ensures members { OnOk result (writer.new.tokens ≡ writer.old.tokens
+        ++ members_tokens (array_member (codes "other_attributes")
+        (map other_item (map other_model found.now.others.items)))) }
 {
     writer.key("other_attributes")?;
     writer.begin_array()?;
@@ -151,9 +167,11 @@ fn write_others(writer: &mut Writer, found: &Attributes<'_>) -> Result<(), Alloc
 
 /// Writes an item for each of these attributes.
 fn write_items(writer: &mut Writer, others: &[(NlaBuffer<'_>, Status)]) -> Result<(), AllocError>
-    ensures before { KeepsTextBefore result writer.old writer.new }
-    ensures tokens { AddsTokens result writer.old writer.new
-        (flat_map (λ other. json_tokens (other_item (other_model other))) others.now) }
+    ensures prefix { KeepsPrefix result writer.old writer.new }
+    // For each attribute the tokens of its item. `other_model other`: the attribute and its status.
+    // `other_item`: the object for it.
+    ensures tokens { OnOk result (writer.new.tokens ≡ writer.old.tokens
+        ++ flat_map (λ other. json_tokens (other_item (other_model other))) others.now) }
 {
     for (nla, status) in others {
         write_item(writer, nla, status)?;
@@ -161,28 +179,30 @@ fn write_items(writer: &mut Writer, others: &[(NlaBuffer<'_>, Status)]) -> Resul
     Ok(())
 }
 
-/// Writes an item for an attribute with this status.
+/// Writes an item for an attribute with this status: an object.
 fn write_item(writer: &mut Writer, nla: &NlaBuffer<'_>, status: &Status) -> Result<(), AllocError>
-    ensures before { KeepsTextBefore result writer.old writer.new }
-    ensures tokens { AddsTokens result writer.old writer.new
-        (json_tokens (other_item (buffered_attribute nla.now, status.now))) }
+    ensures prefix { KeepsPrefix result writer.old writer.new }
+    // `buffered_attribute nla`: the type and the value of the attribute. `other_item`: the object
+    // for it.
+    ensures tokens { OnOk result (writer.new.tokens ≡ writer.old.tokens
+        ++ json_tokens (other_item (buffered_attribute nla.now, status.now))) }
 {
     writer.begin_object()?;
     write_item_members(writer, nla, status)?;
     writer.end_object()
 }
 
-/// Writes the type of an attribute and the length of its value, and the reason why the value is
-/// invalid.
-#[tactic(auto, using(crate::proofs::JsonWriting::json_rules), unfolding(crate::specs::JsonAttributes::item_members))]
+/// Writes the type of an attribute and the length of its value, and if the value is invalid, the
+/// reason.
+#[tactic(auto, using(crate::proofs::Slots::item_rules))]
 fn write_item_members(
     writer: &mut Writer,
     nla: &NlaBuffer<'_>,
     status: &Status,
 ) -> Result<(), AllocError>
-    ensures before { KeepsTextBefore result writer.old writer.new }
-    ensures members { AddsMembers result writer.old writer.new
-        (item_members (buffered_attribute nla.now) status.now) }
+    ensures prefix { KeepsPrefix result writer.old writer.new }
+    ensures members { OnOk result (writer.new.tokens ≡ writer.old.tokens
+        ++ members_tokens (item_members (buffered_attribute nla.now) status.now)) }
 {
     write_attribute_members(writer, nla)?;
     match status {
@@ -194,9 +214,9 @@ fn write_item_members(
 /// Writes the type of an attribute and the length of its value.
 #[tactic(auto, unfolding(crate::specs::JsonAttributes::attribute_members))]
 fn write_attribute_members(writer: &mut Writer, nla: &NlaBuffer<'_>) -> Result<(), AllocError>
-    ensures before { KeepsTextBefore result writer.old writer.new }
-    ensures members { AddsMembers result writer.old writer.new
-        (attribute_members (buffered_attribute nla.now)) }
+    ensures prefix { KeepsPrefix result writer.old writer.new }
+    ensures members { OnOk result (writer.new.tokens ≡ writer.old.tokens
+        ++ members_tokens (attribute_members (buffered_attribute nla.now))) }
 {
     let (kind, length) = (nla.kind() as u64, nla.value().len() as u64);
     write_numbers(writer, &[("kind", kind), ("length", length)])

@@ -5,12 +5,15 @@ ghost use Rattle.hex.specs.Hex.{IsBytes};
 ghost use Rattle.sock_diag_attributes.specs.NameModel.{name_view_model};
 ghost use Rattle.sslist_lister.specs.texts.JsonData.{json_text, object_of};
 ghost use Rattle.sslist_lister.specs.JsonNames.{name_members};
-ghost use Rattle.sslist_lister.specs.private.JsonNames.{name_bytes};
+ghost use Rattle.sslist_lister.specs.private.JsonNames.{bytes_of_name};
 
 use sock_diag_attributes::unix::nlas::NameView;
 
-/// Proof only: the contract states that two different names never have the same JSON text.
+/// Proof only: the contract states that two different names never have the same JSON text. If the
+/// texts are equal, then the names are.
 pub fn different_names_have_different_texts(v: NameView<'_>, w: NameView<'_>)
+    // `name_view_model v`: the name `v`, with the bytes that it borrows as a list.
+    // `json_text (object_of (name_members ..))`: the JSON text of a name.
     ensures { json_text (object_of (name_members (name_view_model v.entry)))
         ≡ json_text (object_of (name_members (name_view_model w.entry)))
         → name_view_model v.entry ≡ name_view_model w.entry }
@@ -19,9 +22,12 @@ pub fn different_names_have_different_texts(v: NameView<'_>, w: NameView<'_>)
     prove_in_range(w);
 }
 
-/// Proof only: puts the range of each byte of a name in scope. No run-time effect.
+/// Proof only: puts the range of each byte of a name in scope. The texts determine the names only
+/// if each byte is below 256, since names that are not UTF-8 are in hexadecimal digits. No run-time
+/// effect.
 fn prove_in_range(name: NameView<'_>)
-    ensures { IsBytes (name_bytes (name_view_model name.entry)) }
+    // `bytes_of_name ..`: the bytes of the name, each of which is below 256 (`IsBytes`).
+    ensures { IsBytes (bytes_of_name (name_view_model name.entry)) }
 {
     match name {
         NameView::Pathname(path) => prove_bytes_in_range(path),
@@ -29,9 +35,11 @@ fn prove_in_range(name: NameView<'_>)
     }
 }
 
-/// Proof only: puts the range of each byte in scope. No run-time effect.
+/// Proof only: states that each byte is below 256, which [`prove_in_range`] needs. No run-time
+/// effect.
 fn prove_bytes_in_range(bytes: &[u8])
     ensures { IsBytes bytes.now }
 {
+    // The call shows the prover that these are the bytes of a slice.
     let _length = bytes.len();
 }

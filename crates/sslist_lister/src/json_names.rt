@@ -1,5 +1,6 @@
 //! Members of JSON objects with the name of a UNIX socket, and with lists of numbers. If a function
-//! of this module fails, an allocation failed, and the content of the writer is not specified.
+//! of this module fails, an allocation failed, and the content of the writer is not specified. The
+//! clauses `prefix` state that the bytes before the first token of the writer are unchanged.
 
 ghost use Rattle.std.specs.Prelude.{◌≡◌, ◌++◌, ◌∷◌, [], OnOk, codes, decimal, flat_map};
 ghost use Rattle.json.specs.Token.{number};
@@ -7,37 +8,43 @@ ghost use Rattle.sock_diag_attributes.specs.NameModel.{name_view_model};
 ghost use Rattle.sock_diag_attributes.specs.NumbersModel.{numbers_view_model};
 ghost use Rattle.sslist_lister.specs.JsonNames.{name_members};
 ghost use Rattle.sslist_lister.specs.texts.JsonData.{numbers_member, object_member};
-ghost use Rattle.sslist_lister.specs.texts.JsonWriting.{AddsMembers, AddsTokens, KeepsTextBefore};
+ghost use Rattle.sslist_lister.specs.texts.JsonWriting.{KeepsPrefix, members_tokens};
 
 use crate::texts::json_writing::{begin_member, write_bytes};
 use json::Writer;
 use sock_diag_attributes::unix::nlas::{NameView, NumbersView};
 use std::alloc::{AllocError, Global};
 
-/// Writes the member `name` of a UNIX socket.
+/// Writes the name of a UNIX socket, as the member `name`.
 pub(crate) fn write_name(
     alloc: Global,
     writer: &mut Writer,
     name: NameView<'_>,
 ) -> Result<(), AllocError>
-    ensures before { KeepsTextBefore result writer.old writer.new }
-    ensures members { AddsMembers result writer.old writer.new (object_member (codes "name")
-        (name_members (name_view_model name.entry))) }
+    ensures prefix { KeepsPrefix result writer.old writer.new }
+    // `name_view_model`: the name, with the bytes that it borrows as a list. `name_members`: the
+    // members of a name, such as `path`. `object_member`: a member that is an object with these.
+    ensures members { OnOk result (writer.new.tokens ≡ writer.old.tokens
+        ++ members_tokens
+        (object_member (codes "name") (name_members (name_view_model name.entry)))) }
 {
     begin_member(writer, "name")?;
     write_name_members(alloc, writer, name)?;
     writer.end_object()
 }
 
-/// Writes the members of the name of a UNIX socket.
+/// Writes the members of the name of a UNIX socket: `path` or `abstract`, or, if the bytes are not
+/// valid UTF-8, `path_hex` or `abstract_hex`.
 fn write_name_members(
     alloc: Global,
     writer: &mut Writer,
     name: NameView<'_>,
 ) -> Result<(), AllocError>
-    ensures before { KeepsTextBefore result writer.old writer.new }
-    ensures members { AddsMembers result writer.old writer.new
-        (name_members (name_view_model name.entry)) }
+    ensures prefix { KeepsPrefix result writer.old writer.new }
+    // `name_view_model`: the name, with the bytes that it borrows as a list. `name_members`: the
+    // members of a name. `members_tokens`: their tokens.
+    ensures members { OnOk result (writer.new.tokens ≡ writer.old.tokens
+        ++ members_tokens (name_members (name_view_model name.entry))) }
 {
     match name {
         NameView::Pathname(path) => write_bytes(alloc, writer, "path", "path_hex", path),
@@ -53,9 +60,10 @@ pub(crate) fn write_list(
     name: &str,
     numbers: &NumbersView<'_>,
 ) -> Result<(), AllocError>
-    ensures before { KeepsTextBefore result writer.old writer.new }
-    ensures members { AddsMembers result writer.old writer.new
-        (numbers_member name.now (numbers_view_model numbers.now)) }
+    ensures prefix { KeepsPrefix result writer.old writer.new }
+    // `numbers_view_model numbers`: the list of the numbers.
+    ensures members { OnOk result (writer.new.tokens ≡ writer.old.tokens
+        ++ members_tokens (numbers_member name.now (numbers_view_model numbers.now))) }
 {
     writer.key(name)?;
     writer.begin_array()?;
@@ -63,11 +71,12 @@ pub(crate) fn write_list(
     writer.end_array()
 }
 
-/// Writes each number of a list.
+/// Writes each number of a list, as an item of an array.
 fn write_items(writer: &mut Writer, numbers: &NumbersView<'_>) -> Result<(), AllocError>
-    ensures before { KeepsTextBefore result writer.old writer.new }
-    ensures tokens { AddsTokens result writer.old writer.new
-        (flat_map (λ n. number (decimal n) ∷ []) (numbers_view_model numbers.now)) }
+    ensures prefix { KeepsPrefix result writer.old writer.new }
+    // For each number of the list its token.
+    ensures tokens { OnOk result (writer.new.tokens ≡ writer.old.tokens
+        ++ flat_map (λ n. number (decimal n) ∷ []) (numbers_view_model numbers.now)) }
 {
     for value in numbers.iter() {
         writer.u64(value.into())?;

@@ -1,11 +1,12 @@
 //! Headers of replies about netlink, packet, vsock and XDP sockets in lines of JSON. If a function
-//! of this module fails, an allocation failed, and the content of the writer is not specified.
+//! of this module fails, an allocation failed, and the content of the writer is not specified. The
+//! clauses `prefix` state that the bytes before the first token of the writer are unchanged.
 
-ghost use Rattle.std.specs.Prelude.{map};
+ghost use Rattle.std.specs.Prelude.{◌≡◌, ◌++◌, OnOk, map};
 ghost use Rattle.sslist_lister.specs.JsonOthers.{netlink_header_members, other_header_members};
 ghost use Rattle.sslist_lister.specs.JsonOthers.{packet_header_members, vsock_header_members};
 ghost use Rattle.sslist_lister.specs.JsonOthers.{xdp_header_members};
-ghost use Rattle.sslist_lister.specs.texts.JsonWriting.{AddsMembers, KeepsTextBefore};
+ghost use Rattle.sslist_lister.specs.texts.JsonWriting.{KeepsPrefix, members_tokens};
 
 use crate::command_line::Family;
 use crate::json_attributes::JsonHeader;
@@ -20,8 +21,8 @@ use sock_diag_families::xdp::{AF_XDP, XdpResponseHeader};
 use sock_diag_records::constants::{AF_NETLINK, AF_PACKET, TCP_CLOSE};
 use std::alloc::{AllocError, Global};
 
-/// Writes the members of a header: the columns Netid and State of the table, the fields in `rows`,
-/// and the cookie.
+/// Writes the members of a header: the columns Netid and State of the table, where State is the
+/// name of `state`; the fields in `rows`; and the cookie.
 fn write_header(
     alloc: Global,
     writer: &mut Writer,
@@ -30,9 +31,11 @@ fn write_header(
     rows: &[(&str, u64)],
     cookie: u64,
 ) -> Result<(), AllocError>
-    ensures before { KeepsTextBefore result writer.old writer.new }
-    ensures members { AddsMembers result writer.old writer.new
-        (other_header_members netid.now state (map (λ row. (row.0.now, row.1)) rows.now) cookie) }
+    ensures prefix { KeepsPrefix result writer.old writer.new }
+    // `row.0`: the name of a row. `row.1`: its number.
+    ensures members { OnOk result (writer.new.tokens ≡ writer.old.tokens
+        ++ members_tokens (other_header_members netid.now state
+        (map (λ row. (row.0.now, row.1)) rows.now) cookie)) }
 {
     write_text(writer, "netid", netid)?;
     write_text(writer, "state_name", name_of_state(state))?;
@@ -55,6 +58,7 @@ impl JsonHeader for NetlinkResponseHeader {
             ("ino", self.inode as u64),
         ];
         let netid = name_of_other_kind(Family::Netlink, self.kind);
+        // As in the table, the name of the state is UNCONN.
         write_header(alloc, writer, netid, TCP_CLOSE, &rows, self.cookie)
     }
 }
@@ -70,6 +74,7 @@ impl JsonHeader for PacketResponseHeader {
             ("ino", self.inode as u64),
         ];
         let netid = name_of_other_kind(Family::Packet, self.kind);
+        // As in the table, the name of the state is UNCONN.
         write_header(alloc, writer, netid, TCP_CLOSE, &rows, self.cookie)
     }
 }
@@ -104,6 +109,7 @@ impl JsonHeader for XdpResponseHeader {
             ("ino", self.inode as u64),
         ];
         let netid = name_of_other_kind(Family::Xdp, self.kind);
+        // As in the table, the name of the state is UNCONN.
         write_header(alloc, writer, netid, TCP_CLOSE, &rows, self.cookie)
     }
 }

@@ -1,9 +1,11 @@
 //! Headers of replies about UNIX, IPv4 and IPv6 sockets in lines of JSON. If a function of this
-//! module fails, an allocation failed, and the content of the writer is not specified.
+//! module fails, an allocation failed, and the content of the writer is not specified. The clauses
+//! `prefix` state that the bytes before the first token of the writer are unchanged.
 
+ghost use Rattle.std.specs.Prelude.{◌≡◌, ◌++◌, OnOk};
 ghost use Rattle.sslist_lister.specs.JsonSockets.{inet_back_members, inet_front_members};
 ghost use Rattle.sslist_lister.specs.JsonSockets.{inet_header_members, unix_header_members};
-ghost use Rattle.sslist_lister.specs.texts.JsonWriting.{AddsMembers, KeepsTextBefore};
+ghost use Rattle.sslist_lister.specs.texts.JsonWriting.{KeepsPrefix, members_tokens};
 
 use crate::json_attributes::JsonHeader;
 use crate::kinds::{name_of_inet_kind, name_of_unix_kind};
@@ -26,7 +28,7 @@ impl JsonHeader for UnixResponseHeader {
 }
 
 impl JsonHeader for InetSocket {
-    ghost json_members = { λ it. inet_header_members it.protocol it.timer it.header };
+    ghost json_members = { λ inet. inet_header_members inet.protocol inet.timer inet.header };
 
     fn write_json(&self, alloc: Global, writer: &mut Writer) -> Result<(), AllocError> {
         write_inet_header(alloc, writer, self.protocol, &self.timer, &self.header)
@@ -39,8 +41,9 @@ fn write_unix_header(
     writer: &mut Writer,
     header: &UnixResponseHeader,
 ) -> Result<(), AllocError>
-    ensures before { KeepsTextBefore result writer.old writer.new }
-    ensures members { AddsMembers result writer.old writer.new (unix_header_members header.now) }
+    ensures prefix { KeepsPrefix result writer.old writer.new }
+    ensures members { OnOk result (writer.new.tokens ≡ writer.old.tokens
+        ++ members_tokens (unix_header_members header.now)) }
 {
     write_text(writer, "netid", name_of_unix_kind(header.kind))?;
     write_text(writer, "state_name", name_of_state(header.state))?;
@@ -54,7 +57,8 @@ fn write_unix_header(
     write_cookie(alloc, writer, &header.cookie)
 }
 
-/// Writes the members of the header of an IPv4 or IPv6 socket.
+/// Writes the members of the header of an IPv4 or IPv6 socket. `protocol` is that of the request,
+/// if it is known.
 fn write_inet_header(
     alloc: Global,
     writer: &mut Writer,
@@ -62,9 +66,9 @@ fn write_inet_header(
     timer: &TimerFields,
     header: &InetResponseHeader,
 ) -> Result<(), AllocError>
-    ensures before { KeepsTextBefore result writer.old writer.new }
-    ensures members { AddsMembers result writer.old writer.new
-        (inet_header_members protocol timer.now header.now) }
+    ensures prefix { KeepsPrefix result writer.old writer.new }
+    ensures members { OnOk result (writer.new.tokens ≡ writer.old.tokens
+        ++ members_tokens (inet_header_members protocol timer.now header.now)) }
 {
     let id = &header.socket_id;
     write_text(writer, "netid", name_of_inet_kind(protocol, header.family))?;
@@ -83,9 +87,9 @@ fn write_inet_front(
     timer: &TimerFields,
     header: &InetResponseHeader,
 ) -> Result<(), AllocError>
-    ensures before { KeepsTextBefore result writer.old writer.new }
-    ensures members { AddsMembers result writer.old writer.new
-        (inet_front_members timer.now header.now) }
+    ensures prefix { KeepsPrefix result writer.old writer.new }
+    ensures members { OnOk result (writer.new.tokens ≡ writer.old.tokens
+        ++ members_tokens (inet_front_members timer.now header.now)) }
 {
     let rows = [
         ("family", header.family as u64),
@@ -104,9 +108,9 @@ fn write_inet_back(
     timer: &TimerFields,
     header: &InetResponseHeader,
 ) -> Result<(), AllocError>
-    ensures before { KeepsTextBefore result writer.old writer.new }
-    ensures members { AddsMembers result writer.old writer.new
-        (inet_back_members timer.now header.now) }
+    ensures prefix { KeepsPrefix result writer.old writer.new }
+    ensures members { OnOk result (writer.new.tokens ≡ writer.old.tokens
+        ++ members_tokens (inet_back_members timer.now header.now)) }
 {
     let rows = [
         ("expires", timer.expires as u64),

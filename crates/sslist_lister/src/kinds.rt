@@ -1,5 +1,5 @@
-//! Names of kinds of sockets, and of reasons why a value is invalid: one list of each,
-//! for the table and for the lines of JSON.
+//! Names of kinds of sockets, and of reasons why a value is invalid. The table and the lines of
+//! JSON have the same names.
 
 ghost use Rattle.std.specs.Prelude.{◌≡◌};
 ghost use Rattle.sslist_lister.specs.Details.{error_reason};
@@ -9,6 +9,18 @@ ghost use Rattle.sslist_lister.specs.Table.{family_name, inet_kind, unix_kind};
 use crate::command_line::{Family, IPPROTO_MPTCP, IPPROTO_TCP, IPPROTO_UDP};
 use netlink_core::DecodeError;
 use sock_diag_records::constants::{AF_INET6, SOCK_DGRAM, SOCK_RAW, SOCK_SEQPACKET, SOCK_STREAM};
+
+/// The number of DCCP in a request, `IPPROTO_DCCP` of linux/in.h.
+const IPPROTO_DCCP: u32 = 33;
+
+/// The number of SCTP in a request, `IPPROTO_SCTP` of linux/in.h.
+const IPPROTO_SCTP: u32 = 132;
+
+/// The number of UDP-Lite in a request, `IPPROTO_UDPLITE` of linux/in.h.
+const IPPROTO_UDPLITE: u32 = 136;
+
+/// The number of raw sockets in a request, `IPPROTO_RAW` of linux/in.h.
+const IPPROTO_RAW: u32 = 255;
 
 /// Returns the kind of a UNIX socket, by its type `SOCK_..`, as ss(8) prints it.
 pub(crate) fn name_of_unix_kind(kind: u8) -> &'static str
@@ -23,17 +35,17 @@ pub(crate) fn name_of_unix_kind(kind: u8) -> &'static str
 }
 
 /// Returns the name of the protocol of the request, as ss(8) prints it. Returns the name of the
-/// family if the protocol is not known or has no name here.
+/// family if the protocol is not known (`None`) or has no name here.
 pub(crate) fn name_of_inet_kind(protocol: Option<u32>, family: u8) -> &'static str
     ensures { result.now ≡ inet_kind protocol family }
 {
     match protocol {
         Some(IPPROTO_TCP) => "tcp",
         Some(IPPROTO_UDP) => "udp",
-        Some(33) => "dccp",
-        Some(132) => "sctp",
-        Some(136) => "udplite",
-        Some(255) => "raw",
+        Some(IPPROTO_DCCP) => "dccp",
+        Some(IPPROTO_SCTP) => "sctp",
+        Some(IPPROTO_UDPLITE) => "udplite",
+        Some(IPPROTO_RAW) => "raw",
         Some(IPPROTO_MPTCP) => "mptcp",
         _ => name_of_inet_family(family),
     }
@@ -46,7 +58,8 @@ pub(crate) fn name_of_inet_family(family: u8) -> &'static str
     if family == AF_INET6 { "inet6" } else { "inet" }
 }
 
-/// Returns the kind of a netlink, packet, vsock or XDP socket, as ss(8) prints it.
+/// Returns the kind of a netlink, packet, vsock or XDP socket, by its family and its type
+/// `SOCK_..`, as ss(8) prints it.
 pub(crate) fn name_of_other_kind(family: Family, kind: u8) -> &'static str
     ensures { result.now ≡ other_kind family kind }
 {
@@ -59,7 +72,7 @@ pub(crate) fn name_of_other_kind(family: Family, kind: u8) -> &'static str
     }
 }
 
-/// Returns the kind of a vsock socket, by its type.
+/// Returns the kind of a vsock socket, by its type `SOCK_..`, as ss(8) prints it.
 fn name_of_vsock_kind(kind: u8) -> &'static str
     ensures { result.now ≡ vsock_kind kind }
 {

@@ -1,13 +1,12 @@
 //! Lists the sockets in a capture of netlink traffic, as ss(8) lists those of a running system.
 #![tactic(auto)]
 
-ghost use Rattle.std.specs.Prelude.{◌≡◌, ◌↔◌, ◌++◌, Bool, MatchResult, Result, true};
+ghost use Rattle.std.specs.Prelude.{◌≡◌, ◌↔◌, Bool, Result, true};
 ghost use Rattle.std.specs.Process.{exit_status};
-ghost use Rattle.sslist_lister.specs.texts.Reports.{ReportsText, ReportsMore};
-ghost use Rattle.sslist_lister.specs.texts.Reports.{closing_line};
+ghost use Rattle.sslist_lister.specs.texts.Reports.{Reports, ReportsText, error_output};
 ghost use Rattle.program_streams.specs.declared.streams.WriteError.{WriteError};
 ghost use Rattle.sslist_lister.specs.declared.texts.list_error.ListError.{ListError};
-ghost use Rattle.sslist_lister.specs.Run.{Fails, Finishes};
+ghost use Rattle.sslist_lister.specs.Run.{ListingEndsReported};
 ghost use Rattle.sslist_lister.specs.private.Run.{closing_text};
 
 mod attributes;
@@ -145,25 +144,27 @@ pub fn run_to_status<R: Source, W: Sink, E: Sink>(
     output: &mut W,
     errors: &mut E,
 ) -> ExitCode
-    // The status is 0 if and only if the whole capture was listed completely: `Finishes .. true`.
-    // Then the input is at its end, and the table was written. Otherwise the status is 1. On
-    // `errors` are the diagnostics and the line that names the failure, or a prefix of this text
-    // if a write failed there (`is_open` is false). R.left: the bytes that are left to read, if
-    // known. W.held, E.held: the bytes written, if known. R.failed, E.failed: a read or a write
-    // failed with this error.
+    // The status is 0 if and only if the whole capture was listed completely: then the input is at
+    // its end, and the table was written. Otherwise the status is 1. On `errors` are the
+    // diagnostics and the line that names the failure, or a prefix of this text if a write failed
+    // there (`is_open` is false).
+    // R.left: the bytes that are left to read, if known. R.failed: a read failed with this error.
+    // W.held and E.held: the bytes written, if known. E.failed: a write failed with this error.
     ensures { (outcome : Result Bool ListError) × (is_open : Bool)
         × ((exit_status result ≡ 0) ↔ (outcome ≡ Ok true))
         × ((exit_status result ≡ 1) ↔ ¬ (outcome ≡ Ok true))
-        × MatchResult outcome
-        (Finishes options (R.left input.old) (R.left input.new) (W.held output.old)
-        (W.held output.new) heading.now front.now
-        (λ diagnostics. ReportsText (E.held errors.old) (E.held errors.new)
-        ((e : WriteError) × E.failed errors.new e) diagnostics is_open))
-        (λ e. Fails options (R.left input.old) (R.left input.new) (W.held output.old)
-        (W.held output.new) heading.now front.now
-        (λ diagnostics. ReportsText (E.held errors.old) (E.held errors.new)
-        ((e : WriteError) × E.failed errors.new e)
-        (diagnostics ++ closing_line front.now e) is_open) (R.failed input.new) e) }
+        × ListingEndsReported (record {
+          options = options;
+          heading = heading.now;
+          front = front.now;
+          left_before = R.left input.old;
+          left_after = R.left input.new;
+          ReadFailed = R.failed input.new;
+          held_before = W.held output.old;
+          held_after = W.held output.new;
+          Reported = λ text. ReportsText (E.held errors.old) (E.held errors.new)
+              ((e : WriteError) × E.failed errors.new e) text is_open;
+        }) outcome }
 {
     let mut is_open = true;
     let outcome = run(
@@ -189,8 +190,10 @@ fn report_outcome<E: Sink>(
     front: &str,
     outcome: &Result<bool, ListError>,
 )
-    ensures { ReportsMore (E.held errors.old) ((e : WriteError) × E.failed errors.old e) is_open.old
-        (E.held errors.new) ((e : WriteError) × E.failed errors.new e) is_open.new
+    // `Reports before after text`: this text was reported. `closing_text`: the line, or nothing.
+    // E.held: the bytes written, if known. E.failed: a write failed with this error.
+    ensures { Reports (error_output (E.held errors.old) (E.failed errors.old) is_open.old)
+        (error_output (E.held errors.new) (E.failed errors.new) is_open.new)
         (closing_text front.now outcome.now) }
 {
     match outcome {

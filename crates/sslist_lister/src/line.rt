@@ -1,4 +1,7 @@
-//! Lines of the replies about UNIX, IPv4 and IPv6 sockets.
+//! Lines of the replies about UNIX, IPv4 and IPv6 sockets. If a function of this module fails, an
+//! allocation failed, and the content of the text is not specified. In the contracts, `collected
+//! found.now` is what the attributes in `found` say. `list` is the number of the list of sockets
+//! that a reply belongs to, since a repeated request begins another list; only JSON has it.
 
 ghost use Rattle.std.specs.Prelude.{◌≡◌, ◌++◌, if◌then◌else◌, Some, drop, IfOk, OnOk, option_map};
 ghost use Rattle.std.specs.Prelude.{option_and_then};
@@ -9,17 +12,16 @@ ghost use Rattle.sock_diag_records.specs.UnixResponseHeader.{unix_response_heade
 ghost use Rattle.sock_diag_attributes.specs.NameModel.{name_view_model};
 ghost use Rattle.sock_diag_records.specs.ResponseKind.{response_kind};
 ghost use Rattle.sslist_lister.specs.Collected.{collected, first_in, summary_of};
-ghost use Rattle.sslist_lister.specs.Details.{timer_in};
 ghost use Rattle.sslist_lister.specs.JsonAttributes.{socket_json};
 ghost use Rattle.sslist_lister.specs.JsonListing.{inet_output, unix_output};
 ghost use Rattle.sslist_lister.specs.JsonSockets.{inet_header_members, unix_header_members};
-ghost use Rattle.sslist_lister.specs.Listing.{error_after_reply_header, payload_error};
-ghost use Rattle.sslist_lister.specs.Listing.{payload_lines, lines_after_header};
-ghost use Rattle.sslist_lister.specs.Pieces.{attributes_or_error, framing_error_of};
+ghost use Rattle.sslist_lister.specs.Listing.{reply_error, inet_socket};
+ghost use Rattle.sslist_lister.specs.Listing.{reply_lines, payload_error, payload_lines};
+ghost use Rattle.sslist_lister.specs.Pieces.{framing_error_of, pieces_in};
 ghost use Rattle.sslist_lister.specs.Selection.{lists_inet};
-ghost use Rattle.sslist_lister.specs.Table.{inet_kind, inet_line, inet_lines};
-ghost use Rattle.sslist_lister.specs.Table.{info_of_protocol, unix_value, user_id};
-ghost use Rattle.sslist_lister.specs.Table.{unix_kind, unix_line, unix_lines};
+ghost use Rattle.sslist_lister.specs.Table.{inet_columns, inet_first_columns, inet_lines};
+ghost use Rattle.sslist_lister.specs.Table.{info_of_protocol, unix_columns, unix_first_columns};
+ghost use Rattle.sslist_lister.specs.Table.{unix_lines, unix_value, user_id};
 ghost use Rattle.sslist_lister.specs.declared.attributes.Sockets.TheVariants.{Inet, Unix};
 
 use crate::attributes::{Info, Sockets};
@@ -52,17 +54,17 @@ pub const HEADING: &[u8] =
     b"Netid State      Recv-Q Send-Q Inode      Uid   Local                          Peer\n";
 
 /// Width of the column of the local address, in bytes.
-pub(crate) const LOCAL: usize = 30;
+pub(crate) const LOCAL_WIDTH: usize = 30;
 
-/// No interface: an interface is shown after the local address only.
+/// No interface, for the peer: the interface is shown after the local address only.
 const NO_INTERFACE: u32 = 0;
 
-/// Appends the lines of a message of this type. Returns its decode error, if it has one: it is not
-/// a reply, or its header is invalid, or bytes after the header are not an attribute. `list` is the
-/// number of the list of the socket.
+/// Appends the lines of a message of this type with this payload. `list` is the number of the list
+/// of the socket, and `protocol` is the protocol of the request, if it is known.
 ///
-/// An attribute with an invalid value is not such an error. A reply about a socket of an unknown
-/// family has no lines and no error.
+/// Returns the decode error of the message, if it has one: it is not a reply, its header is
+/// invalid, or bytes after the header are not an attribute. An attribute with an invalid value is
+/// not such an error. A reply about a socket of an unknown family has no lines and no error.
 pub(crate) fn push_reply(
     text: &mut Vec<u8>,
     options: Options,
@@ -71,6 +73,8 @@ pub(crate) fn push_reply(
     message_type: u16,
     payload: &[u8],
 ) -> Result<Option<DecodeError>, AllocError>
+    // `response_kind payload message_type`: the kind of the reply (UNIX or internet), or the reason
+    // why the message is neither, such as another family.
     ensures lines { OnOk result (text.new.items ≡ text.old.items ++ payload_lines options list
         protocol (response_kind payload.now message_type) payload.now) }
     ensures error { IfOk result (λ error.
@@ -97,13 +101,15 @@ fn push_unix(
     list: u64,
     payload: &[u8],
 ) -> Result<Option<DecodeError>, AllocError>
+    // `parse_record ..`: the header, or its decode error. `pieces_in ..`: the attributes after it,
+    // and then the error of bytes that are none. An invalid header has no lines.
     ensures lines { OnOk result (text.new.items ≡ text.old.items
-        ++ lines_after_header (unix_output options list) Unix
+        ++ reply_lines (unix_output options list) Unix
         (parse_record unix_response_header tt payload.now)
-        (attributes_or_error 0 (drop 16 payload.now))) }
+        (pieces_in (drop UNIX_RESPONSE_HEADER_LEN payload.now))) }
     ensures error { IfOk result (λ error. error
-        ≡ error_after_reply_header (parse_record unix_response_header tt payload.now)
-        (attributes_or_error 0 (drop 16 payload.now))) }
+        ≡ reply_error (parse_record unix_response_header tt payload.now)
+        (pieces_in (drop UNIX_RESPONSE_HEADER_LEN payload.now))) }
 {
     match UnixResponseHeader::from_prefix(payload) {
         Ok(header) => {
@@ -114,8 +120,8 @@ fn push_unix(
     }
 }
 
-/// Appends what is written for a UNIX socket with this header and the attributes in these bytes, if
-/// the options select it. Returns the error of the bytes after the last attribute.
+/// Appends what is written for a UNIX socket with this header, if the options select it. `bytes`
+/// are its attributes. Returns the error of the bytes after the last attribute, if there are any.
 fn push_unix_socket(
     text: &mut Vec<u8>,
     options: Options,
@@ -123,10 +129,13 @@ fn push_unix_socket(
     header: &UnixResponseHeader,
     bytes: &[u8],
 ) -> Result<Option<DecodeError>, AllocError>
+    // `pieces_in`: each attribute in the bytes, and then the framing error, if there is one.
+    // `summary_of`: the first valid attribute of each kind, the unknown and the invalid ones, and
+    // this error.
     ensures lines { OnOk result (text.new.items ≡ text.old.items ++ unix_output options list
-        header.now (summary_of Unix (attributes_or_error 0 bytes.now))) }
+        header.now (summary_of Unix (pieces_in bytes.now))) }
     ensures error { IfOk result
-        (λ error. error ≡ framing_error_of (attributes_or_error 0 bytes.now)) }
+        (λ error. error ≡ framing_error_of (pieces_in bytes.now)) }
 {
     if !options.lists_unix(header.state) {
         return Ok(find_framing_error(bytes));
@@ -154,38 +163,33 @@ fn push_unix_lines(
     if options.json {
         return push_json(text, list, header, found);
     }
-    push_unix_line(text, options, header, found)?;
+    push_unix_columns(text, options, header, found)?;
     push_details(text, options, &NO_TIMER, &header.cookie, found)?;
     Ok(text.push(b'\n')?)
 }
 
 /// Appends the columns of a UNIX socket.
-fn push_unix_line(
+fn push_unix_columns(
     text: &mut Vec<u8>,
     options: Options,
     header: &UnixResponseHeader,
     found: &Attributes<'_>,
 ) -> Result<(), AllocError>
     ensures { OnOk result (text.new.items ≡ text.old.items
-        ++ unix_line options header.now (collected found.now)) }
+        ++ unix_columns options header.now (collected found.now)) }
 {
     let cells = unix_cells(header, queues_in(found), user_in(found));
     push_first_columns(text, &cells)?;
-    push_name_column(text, LOCAL, options.utf8, name_in(found))?;
+    push_name_column(text, LOCAL_WIDTH, options.utf8, name_in(found))?;
     push_number_or_star(text, peer_in(found))
 }
 
-/// Returns the first columns of a UNIX socket, whose queues have these lengths. For a listening
-/// socket the lengths are numbers of connections. `uid` is the user id of its owner.
+/// Returns the first columns of a UNIX socket. `queues` are the lengths of its receive queue and
+/// its send queue; for a listening socket these are numbers of connections. `uid` is the user id of
+/// its owner.
 fn unix_cells(header: &UnixResponseHeader, queues: Option<(u32, u32)>, uid: Option<u32>) -> Cells
-    ensures { cells_model result ≡ record {
-      kind = unix_kind header.now.kind;
-      state = header.now.state;
-      receive_queue = option_map (λ ns. ns.0) queues;
-      send_queue = option_map (λ ns. ns.1) queues;
-      inode = header.now.inode;
-      uid = uid;
-    } }
+    // `cells_model`: the cells, with the text of `kind` as a list of bytes.
+    ensures { cells_model result ≡ unix_first_columns header.now queues uid }
 {
     let (receive_queue, send_queue) = match queues {
         Some((receive, send)) => (Some(receive), Some(send)),
@@ -201,41 +205,50 @@ fn unix_cells(header: &UnixResponseHeader, queues: Option<(u32, u32)>, uid: Opti
     }
 }
 
-/// Returns the name of a UNIX socket, if there is one.
+/// Returns the name of a UNIX socket, if the reply has it.
 fn name_in<'a>(found: &Attributes<'a>) -> Option<NameView<'a>>
+    // `unix_value kind ..`: the value of the first valid attribute of this kind, if there is one.
+    // `name_view_model`: the name, with the bytes that it borrows as a list.
     ensures { option_map name_view_model result
         ≡ unix_value UNIX_DIAG_NAME (collected found.now) }
 {
     match NlaView::parse(&found.first_of(UNIX_DIAG_NAME)?) {
         Ok(NlaView::Name(name)) => Some(name),
+        // Not reached, since `first_of` returns a valid attribute of this kind.
         _ => None,
     }
 }
 
-/// Returns the inode of the peer, if there is one.
+/// Returns the inode of the peer of a UNIX socket, if the reply has it.
 fn peer_in(found: &Attributes<'_>) -> Option<u32>
+    // `unix_value kind ..`: the value of the first valid attribute of this kind, if there is one.
     ensures { result
         ≡ unix_value UNIX_DIAG_PEER (collected found.now) }
 {
     match NlaView::parse(&found.first_of(UNIX_DIAG_PEER)?) {
         Ok(NlaView::Peer(inode)) => Some(inode),
+        // Not reached, since `first_of` returns a valid attribute of this kind.
         _ => None,
     }
 }
 
-/// Returns the lengths of the two queues, if the reply has them.
+/// Returns the lengths of the receive queue and the send queue of a UNIX socket, if the reply has
+/// them.
 fn queues_in(found: &Attributes<'_>) -> Option<(u32, u32)>
+    // `unix_value kind ..`: the value of the first valid attribute of this kind, if there is one.
     ensures { result
         ≡ unix_value UNIX_DIAG_RQLEN (collected found.now) }
 {
     match NlaView::parse(&found.first_of(UNIX_DIAG_RQLEN)?) {
         Ok(NlaView::ReceiveQueueLength(first, second)) => Some((first, second)),
+        // Not reached, since `first_of` returns a valid attribute of this kind.
         _ => None,
     }
 }
 
-/// Returns the user id of the owner, if the reply has it.
+/// Returns the user id of the owner of a UNIX socket, if the reply has it.
 fn user_in(found: &Attributes<'_>) -> Option<u32>
+    // `first_in`: the first valid attribute of this kind. `user_id`: the number in its value.
     ensures { result ≡ option_and_then user_id (first_in UNIX_DIAG_UID (collected found.now)) }
 {
     parse_uid(found.first_of(UNIX_DIAG_UID)?.value())
@@ -252,8 +265,8 @@ pub(crate) struct InetSocket {
     pub(crate) header: InetResponseHeader,
 }
 
-/// Appends the lines of an IPv4 or IPv6 socket. Returns the decode error of the reply, if it has
-/// one.
+/// Appends the lines of an IPv4 or IPv6 socket. `protocol` is that of the request, if it is known.
+/// Returns the decode error of the reply, if it has one.
 fn push_inet(
     text: &mut Vec<u8>,
     options: Options,
@@ -261,13 +274,16 @@ fn push_inet(
     protocol: Option<u32>,
     payload: &[u8],
 ) -> Result<Option<DecodeError>, AllocError>
+    // `parse_record ..`: the header, or its decode error. `pieces_in ..`: the attributes after it,
+    // and then the error of bytes that are none. An invalid header has no lines.
     ensures lines { OnOk result (text.new.items ≡ text.old.items
-        ++ lines_after_header (inet_output options list protocol (timer_in payload.now))
+        ++ reply_lines
+        (λ header. inet_output options list (inet_socket protocol payload.now header))
         (Inet (info_of_protocol protocol)) (parse_record inet_response_header tt payload.now)
-        (attributes_or_error 0 (drop 72 payload.now))) }
+        (pieces_in (drop INET_RESPONSE_HEADER_LEN payload.now))) }
     ensures error { IfOk result (λ error. error
-        ≡ error_after_reply_header (parse_record inet_response_header tt payload.now)
-        (attributes_or_error 0 (drop 72 payload.now))) }
+        ≡ reply_error (parse_record inet_response_header tt payload.now)
+        (pieces_in (drop INET_RESPONSE_HEADER_LEN payload.now))) }
 {
     match InetResponseHeader::from_prefix(payload) {
         Ok(header) => {
@@ -284,8 +300,8 @@ fn push_inet(
     }
 }
 
-/// Appends what is written for an IPv4 or IPv6 socket with the attributes in these bytes, if the
-/// options select it. Returns the error of the bytes after the last attribute.
+/// Appends what is written for an IPv4 or IPv6 socket, if the options select it. `bytes` are its
+/// attributes. Returns the error of the bytes after the last attribute, if there are any.
 fn push_inet_socket(
     text: &mut Vec<u8>,
     options: Options,
@@ -293,12 +309,14 @@ fn push_inet_socket(
     socket: &InetSocket,
     bytes: &[u8],
 ) -> Result<Option<DecodeError>, AllocError>
-    ensures lines { OnOk result (text.new.items ≡ text.old.items ++ inet_output options list
-        socket.now.protocol socket.now.timer socket.now.header
-        (summary_of (Inet (info_of_protocol socket.now.protocol))
-        (attributes_or_error 0 bytes.now))) }
+    // `pieces_in`: each attribute in the bytes, and then the framing error, if there is one.
+    // `summary_of`: the first valid attribute of each kind, the unknown and the invalid ones, and
+    // this error.
+    ensures lines { OnOk result (text.new.items ≡ text.old.items
+        ++ inet_output options list socket.now
+        (summary_of (Inet (info_of_protocol socket.now.protocol)) (pieces_in bytes.now))) }
     ensures error { IfOk result
-        (λ error. error ≡ framing_error_of (attributes_or_error 0 bytes.now)) }
+        (λ error. error ≡ framing_error_of (pieces_in bytes.now)) }
 {
     if !lists_inet(options, socket.protocol, &socket.header) {
         return Ok(find_framing_error(bytes));
@@ -310,8 +328,8 @@ fn push_inet_socket(
     Ok(found.end)
 }
 
-/// Appends the lines of the table for an IPv4 or IPv6 socket with these attributes, or its line of
-/// JSON.
+/// Appends the lines of the table for an IPv4 or IPv6 socket with the attributes `found`, or its
+/// line of JSON, which also has the number of its list, `list`.
 fn push_inet_lines(
     text: &mut Vec<u8>,
     options: Options,
@@ -322,20 +340,19 @@ fn push_inet_lines(
     ensures { OnOk result (text.new.items ≡ text.old.items ++ (if options.json
         then socket_json list (inet_header_members socket.now.protocol socket.now.timer
         socket.now.header) (collected found.now)
-        else inet_lines options socket.now.protocol socket.now.timer socket.now.header
-        (collected found.now))) }
+        else inet_lines options socket.now (collected found.now))) }
 {
     if options.json {
         return push_json(text, list, socket, found);
     }
-    push_inet_line(text, socket.protocol, &socket.header)?;
+    push_inet_columns(text, socket.protocol, &socket.header)?;
     let cookie = &socket.header.socket_id.cookie;
     push_details(text, options, &socket.timer, cookie, found)?;
     Ok(text.push(b'\n')?)
 }
 
-/// Returns whether the IPv4 or IPv6 socket with this header is listed: if sockets of its protocol,
-/// of its family and in its state are, and its ports and addresses meet the conditions on them.
+/// Returns whether the options select the IPv4 or IPv6 socket with this header: they list its
+/// protocol, its IP version and its state, and its ports and addresses meet their conditions.
 /// `protocol` is that of the request, if it is known.
 fn lists_inet(options: Options, protocol: Option<u32>, header: &InetResponseHeader) -> bool
     ensures { result ≡ lists_inet options protocol header.now }
@@ -363,19 +380,20 @@ fn info_of(protocol: Option<u32>) -> Info
     }
 }
 
-/// Appends the columns of an IPv4 or IPv6 socket.
-fn push_inet_line(
+/// Appends the columns of an IPv4 or IPv6 socket. `protocol` is that of the request, if it is
+/// known.
+fn push_inet_columns(
     text: &mut Vec<u8>,
     protocol: Option<u32>,
     header: &InetResponseHeader,
 ) -> Result<(), AllocError>
-    ensures { OnOk result (text.new.items ≡ text.old.items ++ inet_line protocol header.now) }
+    ensures { OnOk result (text.new.items ≡ text.old.items ++ inet_columns protocol header.now) }
 {
     push_first_columns(text, &inet_cells(protocol, header))?;
     let id = &header.socket_id;
     push_endpoint_column(
         text,
-        LOCAL,
+        LOCAL_WIDTH,
         id.source_address,
         id.interface_id,
         id.source_port,
@@ -388,16 +406,11 @@ fn push_inet_line(
     )
 }
 
-/// Returns the first columns of an IPv4 or IPv6 socket.
+/// Returns the first columns of an IPv4 or IPv6 socket. `protocol` is that of the request, if it is
+/// known.
 fn inet_cells(protocol: Option<u32>, header: &InetResponseHeader) -> Cells
-    ensures { cells_model result ≡ record {
-      kind = inet_kind protocol header.now.family;
-      state = header.now.state;
-      receive_queue = Some header.now.recv_queue;
-      send_queue = Some header.now.send_queue;
-      inode = header.now.inode;
-      uid = Some header.now.uid;
-    } }
+    // `cells_model`: the cells, with the text of `kind` as a list of bytes.
+    ensures { cells_model result ≡ inet_first_columns protocol header.now }
 {
     Cells {
         kind: name_of_inet_kind(protocol, header.family).as_bytes(),

@@ -1,11 +1,14 @@
-//! Lines and diagnostics of the packets of a capture.
+//! Lines and diagnostics of the packets of a capture. If a function of this module fails, an
+//! allocation failed, and the lines, diagnostics and requests are not specified. Only the prefix of
+//! the diagnostics is still unchanged, as the clauses `front` state.
 
 ghost use Rattle.std.specs.Prelude.{◌≡◌, ◌<◌, ◌+◌, ◌++◌, IfOk, OnOk, option_map, Some};
 ghost use Rattle.netlink_captures.specs.Capture.{captured_packet};
 ghost use Rattle.sslist_lister.specs.Diagnostics.{DiagnosesContent, DiagnosesDatagram};
 ghost use Rattle.sslist_lister.specs.Diagnostics.{DiagnosesMessages, DiagnosesPacket};
 ghost use Rattle.sslist_lister.specs.Diagnostics.{interrupted_diagnostic, diagnostic_line};
-ghost use Rattle.sslist_lister.specs.Diagnostics.{diagnostic_text, explained_line, end_line};
+ghost use Rattle.sslist_lister.specs.Diagnostics.{diagnostic_text, explained_line};
+ghost use Rattle.sslist_lister.specs.Diagnostics.{framing_error_line};
 ghost use Rattle.sslist_lister.specs.Diagnostics.{is_cut, lines_about_message};
 ghost use Rattle.sslist_lister.specs.Diagnostics.{line_start, short_line_if_whole};
 ghost use Rattle.sslist_lister.specs.Explanation.{explanation};
@@ -74,22 +77,25 @@ struct Position {
 }
 
 /// Appends the lines of a packet to `written.lines`, and its diagnostics to `written.diagnostics`.
-/// `number` is the number of the packet in the capture.
+/// `number` is the number of the packet in the capture. If it fails, an allocation failed, and the
+/// lines, diagnostics and requests are not specified.
 ///
-/// Returns whether the packet was listed completely. It was not if it was truncated (it has
-/// fewer bytes than `header.whole_length`), or if it has fewer than the 16 bytes of the cooked
-/// header. Nor was it if its datagram is one of sock_diag(7), but not a request, and one of its
-/// messages is invalid, has an error of the kernel other than `ENOENT` and `EINVAL`, is too short
-/// for the number of an error, or reports lost data or a changed dump, or bytes after the last
-/// message are not a message. An invalid value of an attribute, and a reply about a socket of an
-/// unknown family, are not errors. Packets of other protocols and the content of requests are not
-/// checked.
+/// Returns whether the packet was listed completely. It was not in these cases:
 ///
-/// Stores a request for IPv4 or IPv6 sockets in `requests`, so that the protocol of its replies is
-/// known, and the first request. A request that repeats the first one begins another list of
+/// - The packet was truncated: it has fewer bytes than `header.whole_length`.
+/// - It has fewer than the 16 bytes of the cooked header.
+/// - One of its messages is invalid, has an error of the kernel other than `ENOENT` and `EINVAL`,
+///   is too short for the number of an error, reports lost data, or has the flag `NLM_F_DUMP_INTR`.
+/// - Bytes after the last message are not a message.
+///
+/// The last two are about datagrams of sock_diag(7) that do not begin with a request. An invalid
+/// value of an attribute, and a reply about a socket of an unknown family, are not errors. Packets
+/// of other protocols and the content of requests are not checked.
+///
+/// Stores in `requests` the first request, and each request for IPv4 or IPv6 sockets, so that the
+/// protocol of its replies is known. A request that repeats the first one begins another list of
 /// sockets: appends a line with its time and the heading, unless `-H` or `--json` is set. Appends a
-/// line for a request if `--requests` is set. If it fails, an allocation failed, and the lines,
-/// diagnostics and requests are not specified.
+/// line for a request if `--requests` is set and `--json` is not.
 pub fn list_packet(
     written: &mut PacketOutput<'_>,
     requests: &mut Requests,
@@ -98,7 +104,8 @@ pub fn list_packet(
     packet: &[u8],
     header: &PacketHeader,
 ) -> Result<bool, AllocError>
-    // The lines and the result. `captured_packet` is the packet with its header.
+    // The lines and the result, by the requests before the packet. `captured_packet` is the packet
+    // with its header.
     ensures lists { IfOk result (ListsCapturedPacket options (past_requests requests.old)
         (captured_packet packet.now header.now) written.old.lines.items written.new.lines.items) }
     // The request in the packet, if there is one, was added.
@@ -115,8 +122,9 @@ pub fn list_packet(
     Ok(is_listed & is_whole)
 }
 
-/// Appends the lines and the diagnostics of the captured bytes of a packet. `is_whole` is false if
-/// the packet was truncated, which is reported already.
+/// Appends the lines and the diagnostics of the captured bytes of the packet with this number and
+/// this header. Returns whether these have no error. `is_whole` is false if the packet was
+/// truncated, which is reported already.
 #[tactic(auto, using(crate::proofs::RequestsAfterPacket::requests_rules))]
 fn list_content(
     written: &mut PacketOutput<'_>,
@@ -127,8 +135,11 @@ fn list_content(
     packet: &[u8],
     header: &PacketHeader,
 ) -> Result<bool, AllocError>
+    // The lines and the result, by the requests before the packet. `captured_packet` is the packet
+    // with its header.
     ensures lists { IfOk result (ListsPacket options (past_requests requests.old)
         (captured_packet packet.now header.now) written.old.lines.items written.new.lines.items) }
+    // The request in the packet, if there is one, was added.
     ensures asked { OnOk result (past_requests requests.new
         ≡ requests_after_packet (past_requests requests.old) packet.now) }
     ensures diagnosed { OnOk result (DiagnosesContent written.old.front.now number is_whole
@@ -147,8 +158,8 @@ fn list_content(
     }
 }
 
-/// Appends the diagnostic of a packet that is shorter than the cooked header, unless the packet was
-/// truncated.
+/// Appends the diagnostic of a packet that is shorter than the cooked header. Appends nothing if
+/// the packet was truncated (`is_whole` is false).
 fn push_short_if_whole(
     written: &mut PacketOutput<'_>,
     number: u64,
@@ -166,7 +177,9 @@ fn push_short_if_whole(
     }
 }
 
-/// Appends the lines and the diagnostics of a datagram of sock_diag(7).
+/// Appends the lines and the diagnostics of a datagram of sock_diag(7), and stores the request that
+/// it begins with, if there is one. Returns whether it was listed completely. `number` and `header`
+/// are those of its packet. `is_whole` is false if the packet was truncated.
 fn list_sock_diag(
     written: &mut PacketOutput<'_>,
     requests: &mut Requests,
@@ -176,8 +189,10 @@ fn list_sock_diag(
     datagram: &[u8],
     header: &PacketHeader,
 ) -> Result<bool, AllocError>
+    // The lines and the result, by the requests before the datagram.
     ensures lists { IfOk result (ListsDatagram options (past_requests requests.old) header.now
         datagram.now written.old.lines.items written.new.lines.items) }
+    // The request, if the datagram begins with one, was added.
     ensures asked { OnOk result (past_requests requests.new
         ≡ requests_after_datagram (past_requests requests.old) datagram.now) }
     ensures diagnosed { OnOk result (DiagnosesDatagram written.old.front.now number is_whole
@@ -197,8 +212,8 @@ fn list_sock_diag(
 }
 
 /// Appends the lines and the diagnostics of the messages of a datagram. Stops at bytes that are not
-/// a message. Returns whether the datagram was listed completely. `is_whole` is false if its
-/// packet was truncated.
+/// a message. Returns whether the datagram was listed completely. `number` is the number of its
+/// packet. `is_whole` is false if the packet was truncated.
 fn list_datagram(
     written: &mut PacketOutput<'_>,
     requests: &Requests,
@@ -207,6 +222,7 @@ fn list_datagram(
     is_whole: bool,
     datagram: &[u8],
 ) -> Result<bool, AllocError>
+    // The lines and the result, by the requests that the messages may answer.
     ensures lists { IfOk result (ListsMessages options (past_requests requests.now) datagram.now
         written.old.lines.items written.new.lines.items) }
     ensures diagnosed { OnOk result (DiagnosesMessages written.old.front.now number is_whole
@@ -227,7 +243,7 @@ fn list_datagram(
                 is_clean &= list_message(written, requests, options, position, &message)?;
             }
             Err(error) => {
-                push_end(written, position, is_whole, error)?;
+                push_framing_error(written, position, is_whole, error)?;
                 return Ok(false);
             }
         }
@@ -236,16 +252,20 @@ fn list_datagram(
 }
 
 /// Appends the diagnostic of the bytes after the last message of a datagram, which have this decode
-/// error. In a truncated packet a message whose last bytes are missing has none.
-fn push_end(
+/// error. Appends nothing for a message whose last bytes are missing in a truncated packet
+/// (`is_whole` is false).
+fn push_framing_error(
     written: &mut PacketOutput<'_>,
     position: Position,
     is_whole: bool,
     error: DecodeError,
 ) -> Result<(), AllocError>
     ensures lines { OnOk result (written.new.lines.items ≡ written.old.lines.items) }
+    // `line_start ..`: the start of the line, with the numbers of the packet and the message.
     ensures diagnostics { OnOk result (written.new.diagnostics.items ≡ written.old.diagnostics.items
-        ++ end_line written.old.front.now position.packet position.message is_whole (Some error)) }
+        ++ framing_error_line
+        (line_start written.old.front.now position.packet position.message) is_whole
+        (Some error)) }
     ensures front { written.new.front ≡ written.old.front }
 {
     if is_whole || !is_cut(&error) {
@@ -265,13 +285,14 @@ fn is_cut(error: &DecodeError) -> bool
     )
 }
 
-/// Returns the number of the next message of a datagram. It is at most the length of the datagram,
-/// so that it cannot overflow.
-fn next_number(count: u64, most: usize) -> u64
-    ensures { count < most → result ≡ count + 1 }
+/// Returns the number of the next message of a datagram, after `count` messages. It is at most
+/// `limit`, the length of the datagram, so that it cannot overflow.
+fn next_number(count: u64, limit: usize) -> u64
+    // The premise holds in each call, since each message has more than one byte.
+    ensures { count < limit → result ≡ count + 1 }
 {
-    let most = most as u64;
-    if count < most { count + 1 } else { most }
+    let limit = limit as u64;
+    if count < limit { count + 1 } else { limit }
 }
 
 /// Appends the lines and the diagnostics of a message. Returns whether it has no diagnostic, or
@@ -283,24 +304,26 @@ fn list_message(
     position: Position,
     message: &Message<'_>,
 ) -> Result<bool, AllocError>
+    // `message_parts message`: its header and its payload.
     ensures lines { OnOk result (written.new.lines.items ≡ written.old.lines.items
         ++ message_lines options (past_requests requests.now) (message_parts message.now)) }
     ensures clean { IfOk result (λ is_clean. is_clean
         ≡ is_clean_message (message_parts message.now)) }
+    // `line_start ..`: the start of each line, with the numbers of the packet and the message.
     ensures diagnosed { OnOk result (written.new.diagnostics.items ≡ written.old.diagnostics.items
-        ++ lines_about_message written.old.front.now position.packet position.message
+        ++ lines_about_message (line_start written.old.front.now position.packet position.message)
         (message_parts message.now)) }
     ensures front { written.new.front ≡ written.old.front }
 {
-    let interrupted = interruption_diagnostic(message.header.flags);
+    let interrupted = interrupted_diagnostic(message.header.flags);
     push_optional_diagnostic(written, position, &interrupted)?;
     let diagnostic = push_message(&mut written.lines, requests, options, message)?;
     push_explained_diagnostic(written, position, &diagnostic, message)?;
-    Ok(interrupted.is_none() & is_informational(&diagnostic))
+    Ok(interrupted.is_none() & is_none_or_informational(&diagnostic))
 }
 
-/// Returns `Interrupted` if the flags of a message have `NLM_F_DUMP_INTR`.
-fn interruption_diagnostic(flags: u16) -> Option<Diagnostic>
+/// Returns `Interrupted` if the flags of a message have `NLM_F_DUMP_INTR`, or else `None`.
+fn interrupted_diagnostic(flags: u16) -> Option<Diagnostic>
     ensures { result ≡ interrupted_diagnostic flags }
 {
     if flags & NLM_F_DUMP_INTR == 0 {
@@ -311,7 +334,7 @@ fn interruption_diagnostic(flags: u16) -> Option<Diagnostic>
 }
 
 /// Returns whether there is no diagnostic, or only a note: the kernel listed what it can list.
-fn is_informational(diagnostic: &Option<Diagnostic>) -> bool
+fn is_none_or_informational(diagnostic: &Option<Diagnostic>) -> bool
     ensures { result ≡ is_informational_or_none diagnostic.now }
 {
     matches!(
@@ -320,14 +343,15 @@ fn is_informational(diagnostic: &Option<Diagnostic>) -> bool
     )
 }
 
-/// Appends the lines of a message if it is a reply. Returns its diagnostic, except for
-/// `Interrupted`.
+/// Appends the lines of a message if it is a reply. Returns the diagnostic of the message, if it
+/// has one, except for `Interrupted`.
 fn push_message(
     lines: &mut Vec<u8>,
     requests: &Requests,
     options: Options,
     message: &Message<'_>,
 ) -> Result<Option<Diagnostic>, AllocError>
+    // `message_parts message`: its header and its payload.
     ensures lines { OnOk result (lines.new.items ≡ lines.old.items
         ++ message_lines options (past_requests requests.now) (message_parts message.now)) }
     ensures diagnostic { IfOk result (λ diagnostic. diagnostic
@@ -335,6 +359,7 @@ fn push_message(
 {
     let Message { header, payload } = message;
     let message_type = header.message_type;
+    // A control message, of one of the types 1 to 4, has no lines.
     if (NLMSG_NOOP..=NLMSG_OVERRUN).contains(&message_type) {
         return Ok(diagnostic_of_control(message_type, payload));
     }
@@ -362,7 +387,7 @@ fn diagnostic_of_control(message_type: u16, payload: &[u8]) -> Option<Diagnostic
     }
 }
 
-/// Returns the diagnostic of a decode error, if there is one.
+/// Returns the diagnostic of a decode error. Returns `None` if there is no error.
 fn diagnostic_of_rejection(error: Option<DecodeError>) -> Option<Diagnostic>
     ensures { result ≡ option_map Refused error }
 {
@@ -372,8 +397,9 @@ fn diagnostic_of_rejection(error: Option<DecodeError>) -> Option<Diagnostic>
     }
 }
 
-/// Returns the diagnostic of an `NLMSG_ERROR` or `NLMSG_DONE` with this number: a negated number of
-/// errno(3), or else no error. It is `None` if the message is too short for a number.
+/// Returns the diagnostic of an `NLMSG_ERROR` or `NLMSG_DONE`. A negative `number` is a negated
+/// number of errno(3), and any other is no error. `number` is `None` if the message is too short
+/// for one.
 fn diagnostic_of_answer(number: Option<i32>) -> Option<Diagnostic>
     ensures { result ≡ answer_diagnostic number }
 {
@@ -395,15 +421,17 @@ fn diagnostic_of_errno(errno: u32) -> Diagnostic
     }
 }
 
-/// Appends the line of a diagnostic, if there is one.
+/// Appends the line of a diagnostic. Appends nothing if there is none (`None`).
 fn push_optional_diagnostic(
     written: &mut PacketOutput<'_>,
     position: Position,
     diagnostic: &Option<Diagnostic>,
 ) -> Result<(), AllocError>
     ensures lines { OnOk result (written.new.lines.items ≡ written.old.lines.items) }
+    // `line_start ..`: the start of the line, with the numbers of the packet and the message.
     ensures diagnostics { OnOk result (written.new.diagnostics.items ≡ written.old.diagnostics.items
-        ++ diagnostic_line written.old.front.now position.packet position.message diagnostic.now) }
+        ++ diagnostic_line (line_start written.old.front.now position.packet position.message)
+        diagnostic.now) }
     ensures front { written.new.front ≡ written.old.front }
 {
     match diagnostic {
@@ -412,8 +440,9 @@ fn push_optional_diagnostic(
     }
 }
 
-/// Appends the line of the diagnostic of a message, if there is one, with what the message
-/// explains.
+/// Appends the line of the diagnostic of a message. After the text of the diagnostic it has the
+/// request that the message answers, and the kernel's text and offset (`push_explanation`). Appends
+/// nothing if there is no diagnostic (`None`).
 fn push_explained_diagnostic(
     written: &mut PacketOutput<'_>,
     position: Position,
@@ -421,9 +450,11 @@ fn push_explained_diagnostic(
     message: &Message<'_>,
 ) -> Result<(), AllocError>
     ensures lines { OnOk result (written.new.lines.items ≡ written.old.lines.items) }
+    // `line_start ..`: the start of the line, with the numbers of the packet and the message.
+    // `explanation ..`: what the message explains, after the text of the diagnostic.
     ensures diagnostics { OnOk result (written.new.diagnostics.items ≡ written.old.diagnostics.items
-        ++ explained_line written.old.front.now position.packet position.message diagnostic.now
-        (explanation (message_parts message.now))) }
+        ++ explained_line (line_start written.old.front.now position.packet position.message)
+        diagnostic.now (explanation (message_parts message.now))) }
     ensures front { written.new.front ≡ written.old.front }
 {
     match diagnostic {
@@ -432,7 +463,7 @@ fn push_explained_diagnostic(
     }
 }
 
-/// Appends the line of a diagnostic, with what the message explains.
+/// Appends the line of a diagnostic, which ends with the explanation in the message `explained`.
 #[tactic(auto, using(crate::proofs::Adding::three_texts_concatenate))]
 fn push_explained_line(
     written: &mut PacketOutput<'_>,
@@ -441,8 +472,10 @@ fn push_explained_line(
     explained: &Message<'_>,
 ) -> Result<(), AllocError>
     ensures lines { OnOk result (written.new.lines.items ≡ written.old.lines.items) }
+    // `line_start ..`: the start of the line, with the numbers of the packet and the message.
+    // `explanation ..`: what the message explains, after the text of the diagnostic.
     ensures diagnostics { OnOk result (written.new.diagnostics.items ≡ written.old.diagnostics.items
-        ++ explained_line written.old.front.now position.packet position.message
+        ++ explained_line (line_start written.old.front.now position.packet position.message)
         (Some diagnostic.now) (explanation (message_parts explained.now))) }
     ensures front { written.new.front ≡ written.old.front }
 {
@@ -451,7 +484,7 @@ fn push_explained_line(
     Ok(written.diagnostics.push(b'\n')?)
 }
 
-/// Appends the text of a diagnostic, and what the message explains.
+/// Appends the text of a diagnostic, and after it the explanation in the message `explained`.
 fn push_explained_text(
     text: &mut Vec<u8>,
     diagnostic: &Diagnostic,
@@ -472,8 +505,9 @@ fn push_diagnostic(
     diagnostic: &Diagnostic,
 ) -> Result<(), AllocError>
     ensures lines { OnOk result (written.new.lines.items ≡ written.old.lines.items) }
+    // `line_start ..`: the start of the line, with the numbers of the packet and the message.
     ensures diagnostics { OnOk result (written.new.diagnostics.items ≡ written.old.diagnostics.items
-        ++ diagnostic_line written.old.front.now position.packet position.message
+        ++ diagnostic_line (line_start written.old.front.now position.packet position.message)
         (Some diagnostic.now)) }
     ensures front { written.new.front ≡ written.old.front }
 {
@@ -482,7 +516,7 @@ fn push_diagnostic(
     Ok(written.diagnostics.push(b'\n')?)
 }
 
-/// Appends the start of a line about a message.
+/// Appends the start of a line about a message: the prefix `front`, and `packet 2, message 1: `.
 fn push_line_start(written: &mut PacketOutput<'_>, position: Position) -> Result<(), AllocError>
     ensures lines { OnOk result (written.new.lines.items ≡ written.old.lines.items) }
     ensures diagnostics { OnOk result (written.new.diagnostics.items ≡ written.old.diagnostics.items
@@ -496,6 +530,7 @@ fn push_line_start(written: &mut PacketOutput<'_>, position: Position) -> Result
         "{front}packet {packet}, message {message}: "
     ) {
         Ok(()) => Ok(()),
+        // A write to a `Vec` fails only if an allocation failed.
         Err(_) => Err(AllocError),
     }
 }

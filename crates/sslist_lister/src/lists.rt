@@ -1,4 +1,5 @@
-//! Lists of sockets. A capture has several if its first request was repeated.
+//! Lists of sockets. A capture has several if its first request was repeated. In the contracts,
+//! `message_parts request.now` is the header and the payload of a request.
 
 ghost use Rattle.std.specs.Prelude.{◌≡◌, OnOk, None};
 ghost use Rattle.sslist_lister.specs.Messages.{message_parts};
@@ -28,7 +29,7 @@ impl FirstRequest {
     }
 
     /// Returns whether a request is the same as the first one, which precedes it. Only the types
-    /// and the bytes after the headers are compared.
+    /// and the bytes after the headers are compared. Returns false if there was no request before.
     pub(crate) fn is_repeated_by(&self, request: &Message<'_>) -> bool
         ensures { result ≡ is_repetition (first_request self.now) (message_parts request.now) }
     {
@@ -50,6 +51,7 @@ impl FirstRequest {
         if self.message_type.is_some() {
             return Ok(());
         }
+        // It is empty, unless an earlier call failed.
         self.payload.clear();
         self.payload.extend_from_slice(request.payload)?;
         self.message_type = Some(request.header.message_type);

@@ -1,12 +1,13 @@
 //! The MD5 keys of a TCP socket (`INET_DIAG_MD5SIG`). A function of this module that appends to a
-//! text or to a writer may fail: then an allocation failed, and the content is not specified.
+//! text or to a writer may fail: then an allocation failed, and the content is not specified. The
+//! clauses `prefix` state that the bytes before the first token of the writer are unchanged.
 
 ghost use Rattle.std.specs.Prelude.{◌≡◌, ◌≤◌, ◌++◌, OnOk, SomeIff, flat_map, length};
 ghost use Rattle.json.specs.Tree.{json_tokens};
 ghost use Rattle.sslist_lister.specs.Md5Keys.{are_md5_keys, key_at, key_byte, md5_facts};
 ghost use Rattle.sslist_lister.specs.Md5Keys.{md5_key_members, md5_key_text, md5_key_value};
 ghost use Rattle.sslist_lister.specs.Md5Keys.{md5_keys, md5_keys_text, peer_member, peer_text};
-ghost use Rattle.sslist_lister.specs.texts.JsonWriting.{AddsMembers, AddsTokens, KeepsTextBefore};
+ghost use Rattle.sslist_lister.specs.texts.JsonWriting.{KeepsPrefix, members_tokens};
 
 use crate::texts::cells::{push_digits, push_escaped_byte, push_number};
 use crate::texts::json_writing::{write_address, write_numbers, write_text};
@@ -29,16 +30,18 @@ pub(crate) fn has_md5_keys(value: &[u8]) -> bool
 /// Appends the keys in a value.
 #[tactic(auto, unfolding(crate::specs::Md5Keys::md5_facts))]
 pub(crate) fn push_md5_keys(text: &mut Vec<u8>, value: &[u8]) -> Result<(), AllocError>
+    // `(md5_facts value).text`: what the table shows of the keys.
     ensures { OnOk result (text.new.items ≡ text.old.items ++ (md5_facts value.now).text) }
 {
     text.extend_from_slice(b" md5keys")?;
     push_keys(text, value)
 }
 
-/// Returns the key at the start of the bytes. Returns `None` if there are fewer than 100.
+/// Returns the key at the start of the bytes. Returns `None` if they are fewer than the
+/// `KEY_LENGTH` bytes of a key.
 #[tactic(auto, unfolding(crate::specs::Md5Keys::key_at))]
 fn read_key(bytes: &[u8]) -> Option<Md5Signature>
-    ensures { SomeIff result (100 ≤ length bytes.now) (key_at bytes.now) }
+    ensures { SomeIff result (KEY_LENGTH ≤ length bytes.now) (key_at bytes.now) }
 {
     read_attribute_record::<Md5Signature>(bytes)
 }
@@ -46,21 +49,23 @@ fn read_key(bytes: &[u8]) -> Option<Md5Signature>
 /// Appends a colon and the keys, separated by commas.
 #[tactic(auto, using(crate::proofs::Md5Keys::key_rules))]
 fn push_keys(text: &mut Vec<u8>, value: &[u8]) -> Result<(), AllocError>
+    // 58 is the colon, which the first key follows.
     ensures { OnOk result (text.new.items ≡ text.old.items
         ++ md5_keys_text 58 (md5_keys value.now)) }
 {
     let mut separator = b':';
-    let mut rest = value;
-    while let Some(key) = read_key(rest) {
+    let mut remaining = value;
+    while let Some(key) = read_key(remaining) {
         text.push(separator)?;
         push_key(text, &key)?;
         separator = b',';
-        rest = &rest[KEY_LENGTH..];
+        remaining = &remaining[KEY_LENGTH..];
     }
     Ok(())
 }
 
-/// Appends the address of the peers, the length of the prefix, and the bytes of the key.
+/// Appends a key: the address of the peers, a slash, the length of the prefix, an equals sign, and
+/// the bytes of the key. Example: `192.0.2.0/24=secret`.
 #[tactic(auto, unfolding(crate::specs::Md5Keys::md5_key_text))]
 fn push_key(text: &mut Vec<u8>, key: &Md5Signature) -> Result<(), AllocError>
     ensures { OnOk result (text.new.items ≡ text.old.items ++ md5_key_text key.now) }
@@ -72,7 +77,7 @@ fn push_key(text: &mut Vec<u8>, key: &Md5Signature) -> Result<(), AllocError>
     push_key_bytes(text, key.used_key())
 }
 
-/// Appends an address, or `*` for `None`.
+/// Appends the address of the peers of a key, or `*` for `None`.
 fn push_peer_ip(text: &mut Vec<u8>, ip: Option<IpAddr>) -> Result<(), AllocError>
     ensures { OnOk result (text.new.items ≡ text.old.items ++ peer_text ip) }
 {
@@ -81,6 +86,7 @@ fn push_peer_ip(text: &mut Vec<u8>, ip: Option<IpAddr>) -> Result<(), AllocError
     };
     match write!(text, "{ip}") {
         Ok(()) => Ok(()),
+        // A write to a `Vec` fails only if an allocation failed.
         Err(_) => Err(AllocError),
     }
 }
@@ -106,14 +112,16 @@ fn push_key_byte(text: &mut Vec<u8>, byte: u8) -> Result<(), AllocError>
     }
 }
 
-/// Writes the member `md5sig`: an object for each key in a value.
+/// Writes the member `md5sig`: an array with an object for each key in a value.
 pub(crate) fn write_md5_keys(
     alloc: Global,
     writer: &mut Writer,
     value: &[u8],
 ) -> Result<(), AllocError>
-    ensures before { KeepsTextBefore result writer.old writer.new }
-    ensures members { AddsMembers result writer.old writer.new (md5_facts value.now).members }
+    ensures prefix { KeepsPrefix result writer.old writer.new }
+    // `(md5_facts value).members`: the member with the keys. `members_tokens`: its tokens.
+    ensures members { OnOk result (writer.new.tokens ≡ writer.old.tokens
+        ++ members_tokens (md5_facts value.now).members) }
 {
     writer.key("md5sig")?;
     writer.begin_array()?;
@@ -124,23 +132,25 @@ pub(crate) fn write_md5_keys(
 /// Writes an object for each key.
 #[tactic(auto, using(crate::proofs::Md5Keys::key_rules))]
 fn write_keys(alloc: Global, writer: &mut Writer, value: &[u8]) -> Result<(), AllocError>
-    ensures before { KeepsTextBefore result writer.old writer.new }
-    ensures tokens { AddsTokens result writer.old writer.new
-        (flat_map (λ key. json_tokens (md5_key_value key)) (md5_keys value.now)) }
+    ensures prefix { KeepsPrefix result writer.old writer.new }
+    // `md5_keys value`: the keys in the value. `json_tokens (md5_key_value key)`: the tokens of the
+    // object of a key.
+    ensures tokens { OnOk result (writer.new.tokens ≡ writer.old.tokens
+        ++ flat_map (λ key. json_tokens (md5_key_value key)) (md5_keys value.now)) }
 {
-    let mut rest = value;
-    while let Some(key) = read_key(rest) {
+    let mut remaining = value;
+    while let Some(key) = read_key(remaining) {
         write_key(alloc, writer, &key)?;
-        rest = &rest[KEY_LENGTH..];
+        remaining = &remaining[KEY_LENGTH..];
     }
     Ok(())
 }
 
 /// Writes an object with the members of a key.
 fn write_key(alloc: Global, writer: &mut Writer, key: &Md5Signature) -> Result<(), AllocError>
-    ensures before { KeepsTextBefore result writer.old writer.new }
-    ensures tokens { AddsTokens result writer.old writer.new
-        (json_tokens (md5_key_value key.now)) }
+    ensures prefix { KeepsPrefix result writer.old writer.new }
+    ensures tokens { OnOk result (writer.new.tokens ≡ writer.old.tokens
+        ++ json_tokens (md5_key_value key.now)) }
 {
     writer.begin_object()?;
     write_key_members(alloc, writer, key)?;
@@ -148,14 +158,14 @@ fn write_key(alloc: Global, writer: &mut Writer, key: &Md5Signature) -> Result<(
 }
 
 /// Writes the members of a key.
-#[tactic(auto, using(crate::proofs::JsonWriting::json_rules), unfolding(crate::specs::Md5Keys::md5_key_members))]
 fn write_key_members(
     alloc: Global,
     writer: &mut Writer,
     key: &Md5Signature,
 ) -> Result<(), AllocError>
-    ensures before { KeepsTextBefore result writer.old writer.new }
-    ensures members { AddsMembers result writer.old writer.new (md5_key_members key.now) }
+    ensures prefix { KeepsPrefix result writer.old writer.new }
+    ensures members { OnOk result (writer.new.tokens ≡ writer.old.tokens
+        ++ members_tokens (md5_key_members key.now)) }
 {
     let rows = [
         ("family", key.family as u64),
@@ -169,10 +179,11 @@ fn write_key_members(
 }
 
 /// Writes the address of the peers. Writes nothing for `None`.
-#[tactic(auto, unfolding(crate::specs::Md5Keys::peer_member, crate::specs::texts::JsonWriting::members_tokens))]
+#[tactic(auto, using(crate::proofs::Md5Keys::peer_rules))]
 fn write_peer(alloc: Global, writer: &mut Writer, ip: Option<IpAddr>) -> Result<(), AllocError>
-    ensures before { KeepsTextBefore result writer.old writer.new }
-    ensures members { AddsMembers result writer.old writer.new (peer_member ip) }
+    ensures prefix { KeepsPrefix result writer.old writer.new }
+    ensures members { OnOk result (writer.new.tokens ≡ writer.old.tokens
+        ++ members_tokens (peer_member ip)) }
 {
     match ip {
         Some(ip) => write_address(alloc, writer, "addr", ip),

@@ -1,4 +1,5 @@
-//! Netlink messages, by their header and their payload.
+//! Netlink messages, by their header and their payload. In the contracts, `message_parts` has both
+//! of a [`Message`].
 
 ghost use Rattle.std.specs.Prelude.{◌≡◌, option_map};
 ghost use Rattle.netlink_core.specs.Header.{HasHeader};
@@ -16,7 +17,7 @@ pub(crate) struct Message<'a> {
 }
 
 impl<'a> Message<'a> {
-    /// Returns the message that the bytes begin with. This is its header.
+    /// Returns the message that the bytes begin with. `header` must be its header.
     #[tactic(auto, using(crate::proofs::MessageWalk::header_found))]
     pub(crate) fn new(header: NetlinkHeader, bytes: &'a [u8]) -> Message<'a>
         requires { HasHeader bytes.now header }

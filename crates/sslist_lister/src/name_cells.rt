@@ -1,4 +1,5 @@
-//! Cells with the names of UNIX sockets.
+//! Cells with the names of UNIX sockets. If a function of this module fails, an allocation failed,
+//! and the content of the text is not specified.
 
 ghost use Rattle.std.specs.Prelude.{◌≡◌, ◌++◌, ◌≤◌, [], ℕ, List, OnOk, Some, drop};
 ghost use Rattle.std.specs.Prelude.{option_map, vec_len};
@@ -22,6 +23,9 @@ pub(crate) fn push_name_column(
     utf8: bool,
     name: Option<NameView<'_>>,
 ) -> Result<(), AllocError>
+    // `name_cell utf8 name`: the text of the cell. `option_map name_view_model name.entry`: the
+    // name, with the bytes that it borrows as a list, or None. `name_column`: the cell and the
+    // spaces after it.
     ensures { OnOk result (text.new.items ≡ text.old.items
         ++ name_column utf8 width
         (name_cell utf8 (option_map name_view_model name.entry))) }
@@ -33,6 +37,8 @@ pub(crate) fn push_name_column(
 
 /// Appends the name of a UNIX socket, or `*` for `None`.
 fn push_name(text: &mut Vec<u8>, utf8: bool, name: Option<NameView<'_>>) -> Result<(), AllocError>
+    // `name_cell utf8 name`: the text of the cell. `option_map name_view_model name.entry`: the
+    // name, with the bytes that it borrows as a list, or None.
     ensures { OnOk result (text.new.items ≡ text.old.items
         ++ name_cell utf8 (option_map name_view_model name.entry)) }
 {
@@ -43,9 +49,9 @@ fn push_name(text: &mut Vec<u8>, utf8: bool, name: Option<NameView<'_>>) -> Resu
     }
 }
 
-/// Ends the column of a name that begins at the offset `start`: appends spaces until it takes
-/// `width` columns of a terminal, and one more space. A longer column is not cut. `start` must be
-/// at most the length of the text.
+/// Ends the column of a name that begins at the offset `start`: appends spaces until the column
+/// takes `width` columns of a terminal, and one more space. A longer column is not cut. `start`
+/// must be at most the length of the text.
 fn end_name_column(
     text: &mut Vec<u8>,
     start: usize,
@@ -53,11 +59,13 @@ fn end_name_column(
     utf8: bool,
 ) -> Result<(), AllocError>
     requires { start ≤ vec_len text.old }
+    // `drop start text`: what the column has already. `spaces_after`: the spaces after it.
     ensures { OnOk result (text.new.items
         ≡ text.old.items ++ spaces_after utf8 width (drop start text.old.items)) }
 {
     let spaces = width.saturating_sub(cell_width(utf8, &text[start..]));
     let Some(end) = text.len().checked_add(spaces) else {
+        // A text of such a length cannot be allocated.
         return Err(AllocError);
     };
     text.resize(end, b' ')?;
@@ -65,7 +73,7 @@ fn end_name_column(
 }
 
 /// Returns the number of columns that a cell takes in a terminal: the width of its characters if
-/// `utf8` is set, or else a column for each byte.
+/// `utf8` is set and the cell is valid UTF-8, or else a column for each byte.
 fn cell_width(utf8: bool, cell: &[u8]) -> usize
     ensures { result ≡ cell_width utf8 cell.now }
 {
@@ -82,26 +90,28 @@ fn cell_width(utf8: bool, cell: &[u8]) -> usize
 fn push_abstract(text: &mut Vec<u8>, utf8: bool, address: &[u8]) -> Result<(), AllocError>
     ensures cell { OnOk result (text.new.items
         ≡ text.old.items ++ name_cell utf8 (Some (Abstract address.now))) }
-    // The name can be read back from the cell if a space follows.
-    ensures unescapes { (behind : List ℕ) → unescaped_bytes 0 behind ≡ []
-        → name_of_cell (name_cell utf8 (Some (Abstract address.now)) ++ behind)
+    // The name can be read back from the cell. `after` is the text that follows the cell. By the
+    // premise it begins with a space or is empty, so it does not continue the name.
+    ensures unescapes { (after : List ℕ) → unescaped_bytes 0 after ≡ []
+        → name_of_cell (name_cell utf8 (Some (Abstract address.now)) ++ after)
         ≡ Some (Abstract address.now) }
 {
     text.push(b'@')?;
     push_shown(text, utf8, address)
 }
 
-/// Appends a path. If it begins with `@`, or is `*`, its first byte is escaped, since these are an
-/// abstract name and no name.
+/// Appends a path. The first byte is escaped if the path begins with `@` or is `*`, since the cell
+/// would else be that of an abstract name or of no name.
 fn push_path(text: &mut Vec<u8>, utf8: bool, path: &[u8]) -> Result<(), AllocError>
     ensures cell { OnOk result (text.new.items
         ≡ text.old.items ++ name_cell utf8 (Some (Pathname path.now))) }
-    // The name can be read back from the cell if a space follows.
-    ensures unescapes { (behind : List ℕ) → unescaped_bytes 0 behind ≡ []
-        → name_of_cell (name_cell utf8 (Some (Pathname path.now)) ++ behind)
+    // The name can be read back from the cell. `after` is the text that follows the cell. By the
+    // premise it begins with a space or is empty, so it does not continue the name.
+    ensures unescapes { (after : List ℕ) → unescaped_bytes 0 after ≡ []
+        → name_of_cell (name_cell utf8 (Some (Pathname path.now)) ++ after)
         ≡ Some (Pathname path.now) }
 {
-    if !is_mistaken(path) {
+    if !needs_escaped_first_byte(path) {
         return push_shown(text, utf8, path);
     }
     push_digits(text, path[0])?;
@@ -109,7 +119,7 @@ fn push_path(text: &mut Vec<u8>, utf8: bool, path: &[u8]) -> Result<(), AllocErr
 }
 
 /// Returns whether a path begins with `@` or is `*`.
-fn is_mistaken(path: &[u8]) -> bool
+fn needs_escaped_first_byte(path: &[u8]) -> bool
     ensures { result ≡ needs_escaped_first_byte path.now }
 {
     (!path.is_empty() && path[0] == b'@') || (path.len() == 1 && path[0] == b'*')

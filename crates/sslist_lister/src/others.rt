@@ -1,4 +1,7 @@
-//! Lines of the replies about netlink, packet, vsock and XDP sockets.
+//! Lines of the replies about netlink, packet, vsock and XDP sockets. If a function of this module
+//! fails, an allocation failed, and the content of the text is not specified. In the contracts,
+//! `collected found.now` is what the attributes in `found` say. `list` is the number of the list of
+//! sockets that a reply belongs to, since a repeated request begins another list; only JSON has it.
 
 ghost use Rattle.std.specs.Prelude.{◌≡◌, ◌++◌, ◌≤◌, drop, IfOk, OnOk, option_map};
 ghost use Rattle.sslist_lister.specs.texts.CellsModel.{cells_model};
@@ -8,14 +11,14 @@ ghost use Rattle.sslist_lister.specs.Collected.{Summary, collected, summary_of};
 ghost use Rattle.sslist_lister.specs.JsonListing.{other_output};
 ghost use Rattle.sslist_lister.specs.Listing.{family_error, family_lines, other_reply_error};
 ghost use Rattle.sslist_lister.specs.Listing.{other_reply_lines};
-ghost use Rattle.sslist_lister.specs.Others.{family_numbered, optional_numbers_text};
-ghost use Rattle.sslist_lister.specs.Others.{numbers_text, interface_number, netlink_socket};
-ghost use Rattle.sslist_lister.specs.Others.{other_columns, other_line};
+ghost use Rattle.sslist_lister.specs.Others.{family_numbered, optional_address_text};
+ghost use Rattle.sslist_lister.specs.Others.{address_text, interface_number, netlink_socket};
+ghost use Rattle.sslist_lister.specs.Others.{other_columns, other_first_columns};
 ghost use Rattle.sslist_lister.specs.Others.{other_lines, packet_socket, none_if_equal};
 ghost use Rattle.sslist_lister.specs.Others.{user_kind, vsock_socket};
 ghost use Rattle.sslist_lister.specs.Others.{u32_in_attribute, u32_in_first};
 ghost use Rattle.sslist_lister.specs.Others.{xdp_socket};
-ghost use Rattle.sslist_lister.specs.Pieces.{attributes_or_error, framing_error_of};
+ghost use Rattle.sslist_lister.specs.Pieces.{framing_error_of, pieces_in};
 ghost use Rattle.sslist_lister.specs.declared.attributes.Sockets.TheVariants.{Other};
 ghost use Rattle.sslist_lister.specs.declared.others.OtherSocket.{OtherSocket as SocketShown};
 ghost use Rattle.sslist_lister.specs.declared.command_line.options.Family.{Family as SocketFamily};
@@ -29,7 +32,7 @@ use crate::command_line::{Family, Options};
 use crate::details::push_details;
 use crate::json_attributes::{JsonHeader, push_json};
 use crate::kinds::name_of_other_kind;
-use crate::line::LOCAL;
+use crate::line::LOCAL_WIDTH;
 use crate::texts::cells::{Cells, end_column, push_first_columns, push_number_or_star};
 use crate::texts::parts::NO_TIMER;
 use byteorder::{ByteOrder, LittleEndian};
@@ -47,8 +50,15 @@ const NETLINK_CONNECTED: u8 = 1;
 /// `VMADDR_CID_ANY` and `VMADDR_PORT_ANY` of vsock(7).
 const ANY: u32 = 0xffff_ffff;
 
-/// A local or peer address: two numbers. `None` is shown as `*`.
-type Numbers = (Option<u32>, Option<u32>);
+/// Offset of `SK_MEMINFO_RMEM_ALLOC` in the attribute with the memory, in bytes.
+const RMEM_ALLOC_OFFSET: usize = 0;
+
+/// Offset of `SK_MEMINFO_WMEM_ALLOC` in the attribute with the memory, in bytes.
+const WMEM_ALLOC_OFFSET: usize = 8;
+
+/// A local or peer address: two numbers, such as the context and the port of a vsock socket. `None`
+/// is shown as `*`.
+type Address = (Option<u32>, Option<u32>);
 
 /// The values of a netlink, packet, vsock or XDP socket that a line shows. The memory and the user
 /// id are not among them: they are in attributes.
@@ -60,8 +70,8 @@ pub(crate) struct OtherSocket {
     state: u8,
     inode: u32,
     cookie: u64,
-    local: Numbers,
-    peer: Option<Numbers>,
+    local: Address,
+    peer: Option<Address>,
 }
 
 /// A header of a reply about a netlink, packet, vsock or XDP socket.
@@ -81,7 +91,8 @@ pub(crate) trait Listed: Record<Param = ()> + JsonHeader + Drop {
         ensures { result ≡ listed self.now (collected found.now) };
 }
 
-/// Returns the family of this number, if it is a netlink, packet, vsock or XDP family.
+/// Returns the netlink, packet, vsock or XDP family of this number. Returns `None` for any other
+/// number.
 pub(crate) fn family_numbered(number: u8) -> Option<Family>
     ensures { result ≡ family_numbered number }
 {
@@ -103,6 +114,9 @@ pub(crate) fn push_other(
     number: u8,
     payload: &[u8],
 ) -> Result<Option<DecodeError>, AllocError>
+    // `family_lines options list family bytes`: the lines of a reply of this family;
+    // `family_error`: its decode error. `family_numbered number`: the family, or `None` for an
+    // unknown one.
     ensures lines { OnOk result (text.new.items ≡ text.old.items
         ++ family_lines options list (family_numbered number) payload.now) }
     ensures error { IfOk result
@@ -117,16 +131,22 @@ pub(crate) fn push_other(
     }
 }
 
-/// Appends the lines of a reply with this header. Returns its decode error, if it has one.
+/// Appends the lines of a reply with a header of the type `H`. Returns the decode error of the
+/// reply, if it has one.
 fn push_listed<H: Listed>(
     text: &mut Vec<u8>,
     options: Options,
     list: u64,
     payload: &[u8],
 ) -> Result<Option<DecodeError>, AllocError>
+    // The record states how replies with this header are listed (`ReplyFormat`).
     ensures lines { OnOk result (text.new.items ≡ text.old.items
-        ++ other_reply_lines options list H.layout H.listed H.listed_family H.json_members
-        payload.now) }
+        ++ other_reply_lines options list (record {
+          family = H.listed_family;
+          layout = H.layout;
+          socket = H.listed;
+          members = H.json_members;
+        }) payload.now) }
     ensures error { IfOk result (λ error. error ≡ other_reply_error H.layout payload.now) }
 {
     match read_record::<H>(payload, ()) {
@@ -135,8 +155,8 @@ fn push_listed<H: Listed>(
     }
 }
 
-/// Appends what is written for a socket with this header and the attributes in these bytes, if the
-/// options select it. Returns the error of the bytes after the last attribute.
+/// Appends what is written for a socket with this header, if the options select it. `bytes` are its
+/// attributes. Returns the error of the bytes after the last attribute, if there are any.
 fn push_socket<H: Listed>(
     text: &mut Vec<u8>,
     options: Options,
@@ -144,12 +164,15 @@ fn push_socket<H: Listed>(
     header: &H,
     bytes: &[u8],
 ) -> Result<Option<DecodeError>, AllocError>
-    ensures lines { OnOk result (text.new.items ≡ text.old.items
-        ++ other_output options list (H.listed header.now (summary_of (Other H.listed_family)
-        (attributes_or_error 0 bytes.now))) (H.json_members header.now)
-        (summary_of (Other H.listed_family) (attributes_or_error 0 bytes.now))) }
+    // `pieces_in`: each attribute in the bytes, and then the framing error, if there is one.
+    // `summary_of`: the first valid attribute of each kind, the unknown and the invalid ones, and
+    // this error.
+    ensures lines { let summary = summary_of (Other H.listed_family) (pieces_in bytes.now) in
+        OnOk result (text.new.items ≡ text.old.items
+        ++ other_output options list (H.listed header.now summary) (H.json_members header.now)
+        summary) }
     ensures error { IfOk result
-        (λ error. error ≡ framing_error_of (attributes_or_error 0 bytes.now)) }
+        (λ error. error ≡ framing_error_of (pieces_in bytes.now)) }
 {
     let mut found = Attributes::new(*text.allocator(), Sockets::Other(H::family()));
     found.collect(bytes)?;
@@ -180,7 +203,8 @@ fn push_output<H: Listed>(
     push_lines(text, options, socket, found)
 }
 
-/// Returns the bytes after the header.
+/// Returns the bytes after the header, which has `H.layout.least` bytes. There are none if the
+/// payload is shorter.
 fn attributes_of<H: Listed>(payload: &[u8]) -> &[u8]
     ensures { result.now ≡ drop H.layout.least payload.now }
 {
@@ -202,7 +226,7 @@ fn push_lines(
     ensures { OnOk result (text.new.items ≡ text.old.items
         ++ other_lines options socket.now (collected found.now)) }
 {
-    push_other_line(text, socket, found)?;
+    push_other_columns(text, socket, found)?;
     let mut cookie = [0; 8];
     LittleEndian::write_u64(&mut cookie, socket.cookie);
     push_details(text, options, &NO_TIMER, &cookie, found)?;
@@ -210,37 +234,38 @@ fn push_lines(
 }
 
 /// Appends the columns of a socket.
-fn push_other_line(
+fn push_other_columns(
     text: &mut Vec<u8>,
     socket: &OtherSocket,
     found: &Attributes<'_>,
 ) -> Result<(), AllocError>
     ensures { OnOk result (text.new.items ≡ text.old.items
-        ++ other_line socket.now (collected found.now)) }
+        ++ other_columns socket.now (collected found.now)) }
 {
     push_first_columns(text, &other_cells(socket, found))?;
     push_local(text, socket.local)?;
-    push_end(text, socket.peer)
+    push_optional_address(text, socket.peer)
 }
 
 /// Returns the first columns of a socket. The queues are in the attribute with its memory, and the
 /// user id is in an attribute too.
 fn other_cells(socket: &OtherSocket, found: &Attributes<'_>) -> Cells
-    ensures { cells_model result ≡ other_columns socket.now (collected found.now) }
+    // `cells_model`: the cells, with the text of `kind` as a list of bytes.
+    ensures { cells_model result ≡ other_first_columns socket.now (collected found.now) }
 {
     let memory = memory_kind(socket.family);
     Cells {
         kind: name_of_other_kind(socket.family, socket.kind).as_bytes(),
         state: socket.state,
-        receive_queue: word_in(found, memory, 0),
-        send_queue: word_in(found, memory, 8),
+        receive_queue: u32_in_first(found, memory, RMEM_ALLOC_OFFSET),
+        send_queue: u32_in_first(found, memory, WMEM_ALLOC_OFFSET),
         inode: socket.inode,
-        uid: word_in(found, user_kind(socket.family), 0),
+        uid: u32_in_first(found, user_kind(socket.family), 0),
     }
 }
 
-/// Returns the kind of the attribute with the user id of a socket. Netlink and vsock sockets have
-/// none.
+/// Returns the kind of the attribute with the user id of the owner. Returns `None` for netlink and
+/// vsock sockets, which have none.
 fn user_kind(family: Family) -> Option<u16>
     ensures { result ≡ user_kind family }
 {
@@ -252,28 +277,28 @@ fn user_kind(family: Family) -> Option<u16>
 }
 
 /// Appends the column of the local address.
-fn push_local(text: &mut Vec<u8>, address: Numbers) -> Result<(), AllocError>
+fn push_local(text: &mut Vec<u8>, address: Address) -> Result<(), AllocError>
     ensures { OnOk result (text.new.items ≡ text.old.items
-        ++ column LOCAL (numbers_text address)) }
+        ++ column LOCAL_WIDTH (address_text address)) }
 {
     let start = text.len();
-    push_numbers(text, address)?;
-    end_column(text, start, LOCAL)
+    push_address(text, address)?;
+    end_column(text, start, LOCAL_WIDTH)
 }
 
 /// Appends an address, or `*` for `None`.
-fn push_end(text: &mut Vec<u8>, address: Option<Numbers>) -> Result<(), AllocError>
-    ensures { OnOk result (text.new.items ≡ text.old.items ++ optional_numbers_text address) }
+fn push_optional_address(text: &mut Vec<u8>, address: Option<Address>) -> Result<(), AllocError>
+    ensures { OnOk result (text.new.items ≡ text.old.items ++ optional_address_text address) }
 {
     match address {
-        Some(address) => push_numbers(text, address),
+        Some(address) => push_address(text, address),
         None => Ok(text.push(b'*')?),
     }
 }
 
 /// Appends both numbers of an address, separated by a colon. A number that is `None` is `*`.
-fn push_numbers(text: &mut Vec<u8>, address: Numbers) -> Result<(), AllocError>
-    ensures { OnOk result (text.new.items ≡ text.old.items ++ numbers_text address) }
+fn push_address(text: &mut Vec<u8>, address: Address) -> Result<(), AllocError>
+    ensures { OnOk result (text.new.items ≡ text.old.items ++ address_text address) }
 {
     let (first, second) = address;
     push_number_or_star(text, first)?;
@@ -281,45 +306,50 @@ fn push_numbers(text: &mut Vec<u8>, address: Numbers) -> Result<(), AllocError>
     push_number_or_star(text, second)
 }
 
-/// Returns the `u32` at an offset of the value of the first valid attribute of a kind. Returns
-/// `None` if there is none.
-fn word_in(found: &Attributes<'_>, kind: Option<u16>, place: usize) -> Option<u32>
-    requires { place ≤ 8 }
-    ensures { result ≡ u32_in_first kind place (collected found.now) }
+/// Returns the little-endian `u32` at an offset of the value of the first valid attribute of a
+/// kind. Returns `None` if there is no such attribute, if its value is too short, or if `kind` is
+/// `None`.
+fn u32_in_first(found: &Attributes<'_>, kind: Option<u16>, offset: usize) -> Option<u32>
+    // The greatest offset that is used, so that `offset + 4` cannot overflow.
+    requires { offset ≤ WMEM_ALLOC_OFFSET }
+    ensures { result ≡ u32_in_first kind offset (collected found.now) }
 {
     match kind {
-        Some(kind) => read_word(found.first_of(kind), place),
+        Some(kind) => u32_in_attribute(found.first_of(kind), offset),
         None => None,
     }
 }
 
 /// Returns the little-endian `u32` at an offset of the value of an attribute. Returns `None` if
 /// there is no attribute, or if its value is too short.
-fn read_word(attribute: Option<NlaBuffer<'_>>, place: usize) -> Option<u32>
-    requires { place ≤ 8 }
-    ensures { result ≡ u32_in_attribute place (option_map buffered_attribute attribute.entry) }
+fn u32_in_attribute(attribute: Option<NlaBuffer<'_>>, offset: usize) -> Option<u32>
+    // The greatest offset that is used, so that `offset + 4` cannot overflow.
+    requires { offset ≤ WMEM_ALLOC_OFFSET }
+    // `option_map buffered_attribute attribute.entry`: the type and the value of the attribute, if
+    // there is one.
+    ensures { result ≡ u32_in_attribute offset (option_map buffered_attribute attribute.entry) }
 {
     match attribute {
-        Some(nla) if nla.value().len() >= place + 4 => {
-            Some(LittleEndian::read_u32(&nla.value()[place..]))
+        Some(nla) if nla.value().len() >= offset + 4 => {
+            Some(LittleEndian::read_u32(&nla.value()[offset..]))
         }
         _ => None,
     }
 }
 
-/// Returns `None` if the number is `none`, or else the number.
-fn unless(none: u32, number: u32) -> Option<u32>
+/// Returns the number, or `None` if it is equal to `none`.
+fn none_if_equal(none: u32, number: u32) -> Option<u32>
     ensures { result ≡ none_if_equal none number }
 {
     if number == none { None } else { Some(number) }
 }
 
 /// Returns the interface number: the `u32` at offset 0 of the first valid attribute of a kind.
-/// Returns `None` if there is none, or if it is 0.
-fn interface_in(found: &Attributes<'_>, kind: u16) -> Option<u32>
+/// Returns `None` if there is no such attribute, or if the number is 0, which is no interface.
+fn interface_number(found: &Attributes<'_>, kind: u16) -> Option<u32>
     ensures { result ≡ interface_number kind (collected found.now) }
 {
-    unless(0, word_in(found, Some(kind), 0)?)
+    none_if_equal(0, u32_in_first(found, Some(kind), 0)?)
 }
 
 impl Listed for NetlinkResponseHeader {
@@ -340,6 +370,7 @@ impl Listed for NetlinkResponseHeader {
         OtherSocket {
             family: Family::Netlink,
             kind: self.kind,
+            // The column State has UNCONN for each netlink socket, as in ss(8).
             state: TCP_CLOSE,
             inode: self.inode,
             cookie: self.cookie,
@@ -359,10 +390,11 @@ impl Listed for PacketResponseHeader {
     }
 
     fn socket(&self, found: &Attributes<'_>) -> OtherSocket {
-        let interface = interface_in(found, PACKET_DIAG_INFO);
+        let interface = interface_number(found, PACKET_DIAG_INFO);
         OtherSocket {
             family: Family::Packet,
             kind: self.kind,
+            // The header has no state. The column State has UNCONN.
             state: TCP_CLOSE,
             inode: self.inode,
             cookie: self.cookie,
@@ -383,8 +415,8 @@ impl Listed for VsockResponseHeader {
 
     fn socket(&self, _found: &Attributes<'_>) -> OtherSocket {
         let peer = (
-            unless(ANY, self.destination_context),
-            unless(ANY, self.destination_port),
+            none_if_equal(ANY, self.destination_context),
+            none_if_equal(ANY, self.destination_port),
         );
         OtherSocket {
             family: Family::Vsock,
@@ -393,8 +425,8 @@ impl Listed for VsockResponseHeader {
             inode: self.inode,
             cookie: self.cookie,
             local: (
-                unless(ANY, self.source_context),
-                unless(ANY, self.source_port),
+                none_if_equal(ANY, self.source_context),
+                none_if_equal(ANY, self.source_port),
             ),
             peer: Some(peer),
         }
@@ -411,14 +443,16 @@ impl Listed for XdpResponseHeader {
     }
 
     fn socket(&self, found: &Attributes<'_>) -> OtherSocket {
-        let interface = interface_in(found, XDP_DIAG_INFO);
+        let interface = interface_number(found, XDP_DIAG_INFO);
         OtherSocket {
             family: Family::Xdp,
             kind: self.kind,
+            // The header has no state. The column State has UNCONN.
             state: TCP_CLOSE,
             inode: self.inode,
             cookie: self.cookie,
-            local: (interface, word_in(found, Some(XDP_DIAG_INFO), 4)),
+            // The queue is at offset 4 of the attribute, after the interface.
+            local: (interface, u32_in_first(found, Some(XDP_DIAG_INFO), 4)),
             peer: None,
         }
     }

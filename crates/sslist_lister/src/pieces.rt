@@ -2,11 +2,9 @@
 //! not hide other attributes.
 
 ghost use Rattle.std.specs.Prelude.{◌≡◌, option_map};
-ghost use Rattle.std.specs.Iterator.{YieldsFirstBy};
 ghost use Rattle.netlink_core.specs.Walk.{buffered_attribute};
-ghost use Rattle.sslist_lister.specs.Pieces.{first_of_kind, framing_error_of};
-ghost use Rattle.sslist_lister.specs.Pieces.{attribute_or_error_of, attributes_or_error};
-ghost use Rattle.sslist_lister.specs.Pieces.{attributes_or_error_left};
+ghost use Rattle.sslist_lister.specs.Pieces.{YieldsFirstPiece, first_of_kind, pieces_in};
+ghost use Rattle.sslist_lister.specs.Pieces.{framing_error_of};
 
 use netlink_core::{DecodeError, NlaBuffer, NlasIterator};
 
@@ -15,16 +13,21 @@ use netlink_core::{DecodeError, NlaBuffer, NlasIterator};
 pub(crate) fn next_piece<'a>(
     walk: &mut NlasIterator<'a>,
 ) -> Option<Result<NlaBuffer<'a>, DecodeError>>
-    ensures { YieldsFirstBy attribute_or_error_of attributes_or_error_left walk.old result
-        walk.new }
+    // The result is the first attribute or error that was left, or `None` if none was. The later
+    // ones are left.
+    ensures { YieldsFirstPiece walk.old result walk.new }
 {
     walk.next()
 }
 
-/// Returns the first attribute of this kind, if there is one.
+/// Returns the first attribute of this kind. Returns `None` if there is none before the end, or
+/// before bytes that are not an attribute.
 pub(crate) fn find_kind<'a>(bytes: &'a [u8], kind: u16) -> Option<NlaBuffer<'a>>
+    // `pieces_in bytes`: each attribute in the bytes, and then the framing error, if there is one.
+    // `option_map buffered_attribute result`: the type and the value of the attribute, if there is
+    // one.
     ensures { option_map buffered_attribute result
-        ≡ first_of_kind kind (attributes_or_error 0 bytes.entry.now) }
+        ≡ first_of_kind kind (pieces_in bytes.entry.now) }
 {
     let mut walk = NlasIterator::new(bytes);
     while let Some(piece) = next_piece(&mut walk) {
@@ -38,7 +41,7 @@ pub(crate) fn find_kind<'a>(bytes: &'a [u8], kind: u16) -> Option<NlaBuffer<'a>>
 
 /// Returns the error of the bytes after the last attribute, if there are any.
 pub(crate) fn find_framing_error(bytes: &[u8]) -> Option<DecodeError>
-    ensures { result ≡ framing_error_of (attributes_or_error 0 bytes.now) }
+    ensures { result ≡ framing_error_of (pieces_in bytes.now) }
 {
     let mut walk = NlasIterator::new(bytes);
     while let Some(piece) = next_piece(&mut walk) {

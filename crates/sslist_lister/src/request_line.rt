@@ -1,13 +1,15 @@
-//! Lines of requests. They separate the dumps of a capture.
+//! Lines of requests. They separate the dumps of a capture. If a function of this module fails, an
+//! allocation failed, and the content of the text is not specified. In the contracts,
+//! `message_parts request.now` is the header and the payload of a request.
 
 ghost use Rattle.std.specs.Prelude.{◌≡◌, ◌++◌, OnOk, Some};
 ghost use Rattle.sslist_lister.specs.Messages.{message_parts, request_in};
-ghost use Rattle.sslist_lister.specs.RequestLine.{inet_request_text, is_known};
+ghost use Rattle.sslist_lister.specs.RequestLine.{inet_request_text, is_known_request};
 ghost use Rattle.sslist_lister.specs.RequestLine.{known_request_note};
 ghost use Rattle.sslist_lister.specs.RequestLine.{request_line, request_line_if_selected};
 ghost use Rattle.sslist_lister.specs.RequestLine.{request_note, request_text};
 ghost use Rattle.sslist_lister.specs.RequestLine.{requested_family_text, requested_text};
-ghost use Rattle.sslist_lister.specs.RequestLine.{verb};
+ghost use Rattle.sslist_lister.specs.RequestLine.{request_verb};
 ghost use Rattle.sslist_lister.specs.Requests.{requested};
 
 use crate::command_line::{Family, Options};
@@ -36,7 +38,8 @@ pub(crate) fn push_shown_request(
     push_request_line(text, header, request)
 }
 
-/// Appends the line of a request: the time of its capture, and what it asks for.
+/// Appends the line of a request: the time of its capture, which is in the packet header, and what
+/// it asks for. Example: `-- 2026-11-27T05:13:59.123456000Z unix states:0x400`.
 fn push_request_line(
     text: &mut Vec<u8>,
     header: &PacketHeader,
@@ -52,8 +55,8 @@ fn push_request_line(
     Ok(text.push(b'\n')?)
 }
 
-/// Appends, in parentheses, what the request that the bytes begin with asks for. Appends `unknown`
-/// if they begin with none, or if this is not known.
+/// Appends what a request asks for, in parentheses. The request is the one that `bytes` begin with.
+/// Appends `unknown` if they do not begin with a request, or if it is not known what it asks for.
 pub(crate) fn push_request_note(
     text: &mut Vec<u8>,
     unknown: &[u8],
@@ -77,7 +80,7 @@ fn push_note_if_known(
     ensures { OnOk result (text.new.items ≡ text.old.items ++ request_note unknown.now
         (Some (message_parts request.now))) }
 {
-    if is_known(&requested_by(request)) {
+    if is_known_request(&requested_by(request)) {
         push_note(text, request)
     } else {
         text.extend_from_slice(unknown)
@@ -95,8 +98,8 @@ fn push_note(text: &mut Vec<u8>, request: &Message<'_>) -> Result<(), AllocError
 }
 
 /// Returns whether it is known what a request asks for.
-fn is_known(requested: &Requested) -> bool
-    ensures { result ≡ is_known requested.now }
+fn is_known_request(requested: &Requested) -> bool
+    ensures { result ≡ is_known_request requested.now }
 {
     !matches!(requested, Requested::Unknown)
 }
@@ -107,13 +110,14 @@ fn push_request(text: &mut Vec<u8>, request: &Message<'_>) -> Result<(), AllocEr
     ensures { OnOk result (text.new.items ≡ text.old.items
         ++ request_text (message_parts request.now)) }
 {
-    text.extend_from_slice(verb(request.header.message_type))?;
+    text.extend_from_slice(request_verb(request.header.message_type))?;
     push_requested(text, requested_by(request))
 }
 
-/// Returns the text before the sockets of a request of this type.
-fn verb(message_type: u16) -> &'static [u8]
-    ensures { result.now ≡ verb message_type }
+/// Returns the text before the sockets of a request of this type: `destroy ` if it closes them, or
+/// else nothing.
+fn request_verb(message_type: u16) -> &'static [u8]
+    ensures { result.now ≡ request_verb message_type }
 {
     if message_type == SOCK_DESTROY {
         b"destroy "
@@ -122,8 +126,8 @@ fn verb(message_type: u16) -> &'static [u8]
     }
 }
 
-/// Appends the text about requested sockets: of IPv4 and IPv6 sockets the protocol, the family and
-/// a bit for each state, of UNIX sockets the same bits, or else the name of the family.
+/// Appends the text about requested sockets: for IPv4 and IPv6 sockets the protocol, the family and
+/// a bit for each state; for UNIX sockets `unix` and these bits; or else the name of the family.
 fn push_requested(text: &mut Vec<u8>, requested: Requested) -> Result<(), AllocError>
     ensures { OnOk result (text.new.items ≡ text.old.items ++ requested_text requested) }
 {
@@ -139,14 +143,14 @@ fn push_requested(text: &mut Vec<u8>, requested: Requested) -> Result<(), AllocE
 }
 
 /// Appends the text about requested IPv4 or IPv6 sockets.
-fn push_inet_request(text: &mut Vec<u8>, asked: Query) -> Result<(), AllocError>
-    ensures { OnOk result (text.new.items ≡ text.old.items ++ inet_request_text asked) }
+fn push_inet_request(text: &mut Vec<u8>, query: Query) -> Result<(), AllocError>
+    ensures { OnOk result (text.new.items ≡ text.old.items ++ inet_request_text query) }
 {
-    let kind = name_of_inet_kind(Some(asked.protocol), asked.family);
+    let kind = name_of_inet_kind(Some(query.protocol), query.family);
     text.extend_from_slice(kind.as_bytes())?;
     text.extend_from_slice(b" family:")?;
-    text.extend_from_slice(name_of_inet_family(asked.family).as_bytes())?;
-    push_hex_detail(text, b"states", asked.states.into())
+    text.extend_from_slice(name_of_inet_family(query.family).as_bytes())?;
+    push_hex_detail(text, b"states", query.states.into())
 }
 
 /// Returns the name of a family of requested sockets.

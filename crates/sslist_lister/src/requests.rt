@@ -1,5 +1,6 @@
 //! Captured requests. They contain the protocols of the sockets in the replies, and separate lists
-//! of sockets.
+//! of sockets. In the contracts, `message_parts request.now` is the header and the payload of a
+//! request.
 
 ghost use Rattle.std.specs.Prelude.{◌≡◌, ◌≤◌, length, OnOk, option_map};
 ghost use Rattle.std.proofs.Common.{rules};
@@ -23,7 +24,7 @@ use sock_diag_records::inet::{INET_DIAG_REQ_PROTOCOL, INET_REQUEST_LEN};
 use sock_diag_records::unix::UNIX_REQUEST_LEN;
 use std::alloc::{AllocError, Global};
 
-/// Number of requests that are kept when a new one is added.
+/// Number of older requests that are kept when a new one is added: at most 16 are kept.
 const MAX_OLDER_REQUESTS: usize = 15;
 
 /// A request for IPv4 or IPv6 sockets.
@@ -79,7 +80,8 @@ impl Requests {
         self.add_query(request)
     }
 
-    /// Returns the number of the list after one more request.
+    /// Returns the number of the list after one more request: the next number if the request
+    /// repeats the first one.
     fn list_with(&self, request: &Message<'_>) -> u64
         ensures { result ≡ list_with (message_parts request.now) (past_requests self.now) }
     {
@@ -91,7 +93,7 @@ impl Requests {
     }
 
     /// Adds a request to `asked` if it is to list IPv4 or IPv6 sockets. Then at most 15 older
-    /// requests are kept.
+    /// requests are kept. If it fails, an allocation failed, and `asked` is not specified.
     fn add_query(&mut self, request: &Message<'_>) -> Result<(), AllocError>
         ensures queries { OnOk result (self.new.asked.items
             ≡ with_query (message_parts request.now) self.old.asked.items) }
@@ -119,6 +121,7 @@ impl Requests {
 }
 
 /// Returns the protocol of the first of these requests that a reply with these numbers may answer.
+/// Returns `None` if there is none.
 fn find_in(asked: &[Query], sequence_number: u32, port_number: u32) -> Option<u32>
     ensures { result ≡ protocol_of asked.now sequence_number port_number }
 {
@@ -145,7 +148,9 @@ pub(crate) enum Requested {
     Unknown,
 }
 
-/// Returns what a request asks for.
+/// Returns what a request asks for. Returns `Unknown` for another type of request, an empty
+/// payload, a payload that is too short for a request for IPv4, IPv6 or UNIX sockets, or another
+/// family. The length of requests of the other families is not checked.
 pub(crate) fn requested_by(request: &Message<'_>) -> Requested
     ensures { result ≡ requested (message_parts request.now) }
 {
@@ -158,20 +163,23 @@ pub(crate) fn requested_by(request: &Message<'_>) -> Requested
             Requested::Inet(query_of(request))
         }
         AF_UNIX if payload.len() >= UNIX_REQUEST_LEN => {
+            // `udiag_states` is at 4.
             Requested::Unix(LittleEndian::read_u32(&payload[4..]))
         }
+        // Also UNIX, IPv4 and IPv6, if the payload is too short: then the result is `Unknown`.
         family => requested_other(family_numbered(family)),
     }
 }
 
-/// Returns whether a request of this type is about sockets.
+/// Returns whether a request of this type is about sockets: it lists or closes them.
 fn is_about_sockets(message_type: u16) -> bool
     ensures { result ≡ is_about_sockets message_type }
 {
     matches!(message_type, SOCK_DIAG_BY_FAMILY | SOCK_DESTROY)
 }
 
-/// Returns what a request for sockets of this family asks for.
+/// Returns what a request for sockets of this family asks for. `None` is a family other than
+/// netlink, packet, vsock and XDP.
 fn requested_other(family: Option<Family>) -> Requested
     ensures { result ≡ requested_other family }
 {
@@ -181,14 +189,15 @@ fn requested_other(family: Option<Family>) -> Requested
     }
 }
 
-/// Returns the query in a request for IPv4 or IPv6 sockets, a `struct inet_diag_req_v2` and
-/// attributes.
+/// Returns the query in a request for IPv4 or IPv6 sockets. Its payload must have at least a
+/// `struct inet_diag_req_v2`, and attributes may follow.
 fn query_of(request: &Message<'_>) -> Query
     requires { INET_REQUEST_LEN ≤ length request.now.payload.now }
     ensures { result ≡ query_of (message_parts request.now) }
 {
     let Message { header, payload } = request;
     let attribute = find_kind(&payload[INET_REQUEST_LEN..], INET_DIAG_REQ_PROTOCOL);
+    // `sdiag_family` is at 0, `sdiag_protocol` at 1, and `idiag_states` at 4.
     Query {
         sequence_number: header.sequence_number,
         port_number: header.port_number,
@@ -199,8 +208,10 @@ fn query_of(request: &Message<'_>) -> Query
 }
 
 /// Returns the protocol in the attribute `INET_DIAG_REQ_PROTOCOL` if its value has four bytes.
-/// Otherwise returns the protocol in the header.
+/// Otherwise, or if there is no attribute, returns `byte`, the protocol in the header.
 fn choose_protocol(byte: u8, attribute: Option<NlaBuffer<'_>>) -> u32
+    // `option_map buffered_attribute attribute.entry`: the type and the value of the attribute, if
+    // there is one.
     ensures { result ≡ protocol_by byte (option_map buffered_attribute attribute.entry) }
 {
     match attribute {

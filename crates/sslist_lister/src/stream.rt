@@ -1,9 +1,9 @@
 //! The table of a capture. Each packet is listed before the next one is read.
 
-ghost use Rattle.std.specs.Prelude.{◌≡◌, OnOk, IfErr, IfOk};
-ghost use Rattle.sslist_lister.specs.texts.Reports.{ReportsMore};
+ghost use Rattle.std.specs.Prelude.{◌≡◌, OnOk, IfErr};
 ghost use Rattle.program_streams.specs.declared.streams.WriteError.{WriteError};
-ghost use Rattle.sslist_lister.specs.Run.{Fails, Finishes};
+ghost use Rattle.sslist_lister.specs.Run.{ListingEnds};
+ghost use Rattle.sslist_lister.specs.texts.Reports.{Reports, error_output};
 
 use crate::command_line::Options;
 use crate::list::list_packet;
@@ -20,13 +20,14 @@ use std::alloc::Global;
 /// long as `is_open` is set. If a write on `errors` fails, clears `is_open`, and writes nothing
 /// more there. Returns whether all packets were listed completely.
 ///
-/// If it fails, nothing was written if the capture could not be opened (`Header`). If a packet
-/// could not be read (`Packet`) or an allocation failed (`Memory`), the packets before it were
-/// listed. If a write or the final flush failed (`Write`), a prefix of the table was
-/// written.
+/// It fails with `Header` if the capture could not be opened; then nothing was written. It fails
+/// with `Packet` if a packet could not be read, and with `Memory` if an allocation failed while a
+/// packet was listed; then the packets before it were listed. It fails with `Write` if a write or
+/// the final flush failed; then a prefix of the table was written.
 ///
-/// The streams are those of std, or others that record their failed calls. Streams of std record
-/// none, so the clauses about failed calls say nothing of them.
+/// The streams are those of std, or others that record their failed calls and flushes. For streams
+/// of std `failed` and `flushed` always hold, so the clauses about them say nothing of such
+/// streams.
 pub fn run<R: Source, W: Sink, E: Sink>(
     alloc: Global,
     options: Options,
@@ -37,20 +38,24 @@ pub fn run<R: Source, W: Sink, E: Sink>(
     errors: &mut E,
     is_open: &mut bool,
 ) -> Result<bool, ListError>
-    // R.left: the bytes that are left to read, if known. W.held, E.held: the bytes written, if
-    // known. The type after it: a write failed.
-    ensures table { IfOk result (Finishes options (R.left input.old) (R.left input.new)
-        (W.held output.old) (W.held output.new) heading.now front.now
-        (ReportsMore (E.held errors.old) ((e : WriteError) × E.failed errors.old e) is_open.old
-        (E.held errors.new) ((e : WriteError) × E.failed errors.new e) is_open.new)) }
+    // R.left: the bytes that are left to read, if known. R.failed: a read failed with this error.
+    // W.held and E.held: the bytes written, if known. E.failed: a write failed with this error.
+    ensures ended { ListingEnds (record {
+      options = options;
+      heading = heading.now;
+      front = front.now;
+      left_before = R.left input.old;
+      left_after = R.left input.new;
+      ReadFailed = R.failed input.new;
+      held_before = W.held output.old;
+      held_after = W.held output.new;
+      Reported = Reports (error_output (E.held errors.old) (E.failed errors.old) is_open.old)
+          (error_output (E.held errors.new) (E.failed errors.new) is_open.new);
+    }) result }
+    // W.flushed: the last call flushed the output.
     ensures flushed { OnOk result (W.flushed output.new) }
-    // R.failed: a read failed with this error.
-    ensures failed { IfErr result (Fails options (R.left input.old) (R.left input.new)
-        (W.held output.old) (W.held output.new) heading.now front.now
-        (ReportsMore (E.held errors.old) ((e : WriteError) × E.failed errors.old e) is_open.old
-        (E.held errors.new) ((e : WriteError) × E.failed errors.new e) is_open.new)
-        (R.failed input.new)) }
-    // W.failed: a write or a flush failed with this error.
+    // If the error of the run is a failed write (`Write`), then a write or a flush of the output
+    // failed with this error (W.failed).
     ensures cause { IfErr result (λ e. (error : WriteError) → e ≡ ListError.Write error
         → W.failed output.new error) }
 {
@@ -63,6 +68,7 @@ pub fn run<R: Source, W: Sink, E: Sink>(
         diagnostics: Vec::new(alloc),
     };
     let mut requests = Requests::new(alloc);
+    // Whether all packets so far were listed completely.
     let mut is_whole = true;
     'packets: for number in 1..u64::MAX {
         let Some(header) = read_packet(&mut reader, input, number, &mut packet)? else {
@@ -77,6 +83,7 @@ pub fn run<R: Source, W: Sink, E: Sink>(
         report(errors, is_open, written.diagnostics.as_slice());
         send(output, written.lines.as_slice())?;
     }
+    // Not reached in practice: 2^64 - 2 packets were read. The run fails as if the next read had.
     Err(ListError::Packet {
         packet: u64::MAX,
         error: CaptureError::Read(ReadError::Other),

@@ -1,9 +1,12 @@
 //! The facts of a TCP or MPTCP connection: the fields of `struct tcp_info` or `struct mptcp_info`,
-//! as far as a value contains them.
+//! as far as a value contains them. If a function of this module fails, an allocation failed, and
+//! the content of the sink is not specified. In the contracts, `S.content sink.old` and `S.content
+//! sink.new` are what the sink shows before and after the call.
 
-ghost use Rattle.std.specs.Prelude.{◌≡◌, ◌++◌, OnOk, flat_map, map, option_map};
-ghost use Rattle.sslist_lister.specs.Facts.{Shows};
-ghost use Rattle.sslist_lister.specs.Tcp.{bits_of, bytes_at, field_facts, field_in};
+ghost use Rattle.std.specs.Prelude.{◌≡◌, OnOk, flat_map, map, option_map};
+ghost use Rattle.sslist_lister.specs.Facts.{AddsFacts, AddsItems};
+ghost use Rattle.sslist_lister.specs.Tcp.{part_bits, bytes_from, field_facts, field_in};
+ghost use Rattle.sslist_lister.specs.Tcp.{field_row_of};
 ghost use Rattle.sslist_lister.specs.Tcp.{has_scales, mptcp_info, mptcp_rows, number_in};
 ghost use Rattle.sslist_lister.specs.Tcp.{row_facts, tcp_fields, tcp_info, tcp_metric_rows};
 ghost use Rattle.sslist_lister.specs.Tcp.{tcp_rate_rows, tcp_state_rows};
@@ -81,6 +84,9 @@ macro_rules! flag {
 
 /// Offset of `tcpi_options` in bytes.
 const OPTIONS: usize = 5;
+
+// In the rows below: the offset of the field in bytes, the number there, the text of the table, and
+// the name in JSON.
 
 /// The facts of the first eight bytes of `struct tcp_info`: the state, the options and the window
 /// scales.
@@ -215,7 +221,8 @@ static MPTCP_ROWS: [FieldRow; 26] = [
 
 /// Shows the fields of `struct tcp_info` that the bytes contain, as the group `info`.
 pub(crate) fn show_tcp_info<S: FactSink>(sink: &mut S, bytes: &[u8]) -> Result<(), AllocError>
-    ensures { Shows S.kept S.content S.items result sink.old sink.new (tcp_info bytes.now) }
+    ensures { OnOk result (AddsFacts (S.content sink.old) (S.content sink.new)
+        (tcp_info bytes.now)) }
 {
     sink.begin(b"", "info")?;
     show_tcp_fields(sink, bytes)?;
@@ -224,7 +231,8 @@ pub(crate) fn show_tcp_info<S: FactSink>(sink: &mut S, bytes: &[u8]) -> Result<(
 
 /// Shows the fields of `struct tcp_info` that the bytes contain.
 fn show_tcp_fields<S: FactSink>(sink: &mut S, bytes: &[u8]) -> Result<(), AllocError>
-    ensures { Shows S.kept S.content S.items result sink.old sink.new (tcp_fields bytes.now) }
+    ensures { OnOk result (AddsFacts (S.content sink.old) (S.content sink.new)
+        (tcp_fields bytes.now)) }
 {
     show_fields(sink, bytes, tcp_state_rows())?;
     show_fields(sink, bytes, tcp_metric_rows())?;
@@ -233,7 +241,8 @@ fn show_tcp_fields<S: FactSink>(sink: &mut S, bytes: &[u8]) -> Result<(), AllocE
 
 /// Shows the fields of `struct mptcp_info` that the bytes contain, as the group `info`.
 pub(crate) fn show_mptcp_info<S: FactSink>(sink: &mut S, bytes: &[u8]) -> Result<(), AllocError>
-    ensures { Shows S.kept S.content S.items result sink.old sink.new (mptcp_info bytes.now) }
+    ensures { OnOk result (AddsFacts (S.content sink.old) (S.content sink.new)
+        (mptcp_info bytes.now)) }
 {
     sink.begin(b"", "info")?;
     show_fields(sink, bytes, mptcp_rows())?;
@@ -243,8 +252,10 @@ pub(crate) fn show_mptcp_info<S: FactSink>(sink: &mut S, bytes: &[u8]) -> Result
 /// Returns the rows of the first eight bytes of `struct tcp_info`.
 #[tactic(auto, unfolding(crate::specs::Tcp::tcp_state_rows))]
 fn tcp_state_rows() -> &'static [FieldRow]
-    ensures { map (λ row. (row.0, row.1, row.2, row.3.now, option_map (λ m. m.now) row.4))
-        result.now ≡ tcp_state_rows }
+    // The rows are those of the definition `tcp_state_rows`, which names the fields of `struct
+    // tcp_info` instead of their offsets. `field_row_of`: the row, with its texts as lists of
+    // bytes.
+    ensures { map field_row_of result.now ≡ tcp_state_rows }
 {
     &TCP_STATE_ROWS
 }
@@ -252,8 +263,10 @@ fn tcp_state_rows() -> &'static [FieldRow]
 /// Returns the rows of the times and metrics in `struct tcp_info`.
 #[tactic(auto, unfolding(crate::specs::Tcp::tcp_metric_rows))]
 fn tcp_metric_rows() -> &'static [FieldRow]
-    ensures { map (λ row. (row.0, row.1, row.2, row.3.now, option_map (λ m. m.now) row.4))
-        result.now ≡ tcp_metric_rows }
+    // The rows are those of the definition `tcp_metric_rows`, which names the fields of `struct
+    // tcp_info` instead of their offsets. `field_row_of`: the row, with its texts as lists of
+    // bytes.
+    ensures { map field_row_of result.now ≡ tcp_metric_rows }
 {
     &TCP_METRIC_ROWS
 }
@@ -261,8 +274,10 @@ fn tcp_metric_rows() -> &'static [FieldRow]
 /// Returns the rows of the rates and counters in `struct tcp_info`.
 #[tactic(auto, unfolding(crate::specs::Tcp::tcp_rate_rows))]
 fn tcp_rate_rows() -> &'static [FieldRow]
-    ensures { map (λ row. (row.0, row.1, row.2, row.3.now, option_map (λ m. m.now) row.4))
-        result.now ≡ tcp_rate_rows }
+    // The rows are those of the definition `tcp_rate_rows`, which names the fields of `struct
+    // tcp_info` instead of their offsets. `field_row_of`: the row, with its texts as lists of
+    // bytes.
+    ensures { map field_row_of result.now ≡ tcp_rate_rows }
 {
     &TCP_RATE_ROWS
 }
@@ -270,26 +285,33 @@ fn tcp_rate_rows() -> &'static [FieldRow]
 /// Returns the rows of `struct mptcp_info`.
 #[tactic(auto, unfolding(crate::specs::Tcp::mptcp_rows))]
 fn mptcp_rows() -> &'static [FieldRow]
-    ensures { map (λ row. (row.0, row.1, row.2, row.3.now, option_map (λ m. m.now) row.4))
-        result.now ≡ mptcp_rows }
+    // The rows are those of the definition `mptcp_rows`, which names the fields of `struct
+    // mptcp_info` instead of their offsets. `field_row_of`: the row, with its texts as lists of
+    // bytes.
+    ensures { map field_row_of result.now ≡ mptcp_rows }
 {
     &MPTCP_ROWS
 }
 
-/// Shows the facts of these rows, in the order of the rows.
+/// Shows the facts of these rows, in the order of the rows, as far as the bytes contain their
+/// fields.
 fn show_fields<S: FactSink>(sink: &mut S, bytes: &[u8], rows: &[FieldRow]) -> Result<(), AllocError>
-    ensures { Shows S.kept S.content S.items result sink.old sink.new (field_facts bytes.now
-        (map (λ row. (row.0, row.1, row.2, row.3.now, option_map (λ m. m.now) row.4)) rows.now)) }
+    // `field_row_of`: the row, with its texts as lists of bytes. `field_facts bytes rows`: the
+    // facts of those rows whose fields the bytes contain.
+    ensures { OnOk result (AddsFacts (S.content sink.old) (S.content sink.new)
+        (field_facts bytes.now (map field_row_of rows.now))) }
 {
     show_rows(sink, bytes, rows)
 }
 
-/// Shows the facts of these rows.
+/// Shows the facts of these rows, as far as the bytes contain their fields. The contract states
+/// this of items, as the loop appends them.
 #[tactic(auto, unfolding(crate::specs::Tcp::row_facts))]
 fn show_rows<S: FactSink>(sink: &mut S, bytes: &[u8], rows: &[FieldRow]) -> Result<(), AllocError>
-    ensures { OnOk result ((S.kept sink.new ≡ S.kept sink.old)
-        × (S.content sink.new ≡ S.content sink.old ++ flat_map (λ row. S.items (row_facts bytes.now
-        (row.0, row.1, row.2, row.3.now, option_map (λ m. m.now) row.4))) rows.now)) }
+    // For each row the items of its fact; none if the bytes do not contain its field.
+    // `field_row_of`: the row, with its texts as lists of bytes.
+    ensures { OnOk result (AddsItems (S.content sink.old) (S.content sink.new)
+        (flat_map (λ row. S.items (row_facts bytes.now (field_row_of row))) rows.now)) }
 {
     for &(offset, part, format, text, member) in rows {
         if let Some(number) = number_in(bytes, offset, part) {
@@ -299,39 +321,41 @@ fn show_rows<S: FactSink>(sink: &mut S, bytes: &[u8], rows: &[FieldRow]) -> Resu
     Ok(())
 }
 
-/// Returns the number of a row. Returns `None` if the value ends before its end, or if it does not
-/// apply to the connection.
+/// Returns the number of a row. Returns `None` if the value ends before the end of the field, or if
+/// the number does not apply to the connection (`Negotiated`).
 #[inline(always)]
 fn number_in(value: &[u8], offset: usize, part: FieldPart) -> Option<u64>
     ensures { result ≡ number_in part offset value.now }
 {
     match part {
         FieldPart::Four => {
-            let bytes = bytes_at(value, offset, 4)?;
+            let bytes = bytes_from(value, offset, 4)?;
             Some(LittleEndian::read_u32(bytes).into())
         }
         FieldPart::Eight => {
-            let bytes = bytes_at(value, offset, 8)?;
+            let bytes = bytes_from(value, offset, 8)?;
             Some(LittleEndian::read_u64(bytes))
         }
         FieldPart::Two => {
-            let bytes = bytes_at(value, offset, 2)?;
+            let bytes = bytes_from(value, offset, 2)?;
             Some(LittleEndian::read_u16(bytes).into())
         }
         FieldPart::Negotiated if !has_scales(byte_at(value, OPTIONS)) => None,
+        // `part_bits` returns all of the byte for `Byte` and `Negotiated`.
         FieldPart::Byte
         | FieldPart::Negotiated
         | FieldPart::LowFour
         | FieldPart::HighFour
         | FieldPart::FirstBit
-        | FieldPart::NextTwo => Some(bits_of(byte_at(value, offset)?, part)),
+        | FieldPart::NextTwo => Some(part_bits(byte_at(value, offset)?, part)),
     }
 }
 
 /// Returns the bytes from an offset on. Returns `None` if there are fewer than `width`.
 #[inline(always)]
-fn bytes_at<'a>(value: &'a [u8], offset: usize, width: usize) -> Option<&'a [u8]>
-    ensures { option_map (λ rest. rest.now) result ≡ bytes_at width offset value.entry.now }
+fn bytes_from<'a>(value: &'a [u8], offset: usize, width: usize) -> Option<&'a [u8]>
+    // `rest.now`: the bytes that the result borrows.
+    ensures { option_map (λ rest. rest.now) result ≡ bytes_from width offset value.entry.now }
 {
     match value.get(offset..) {
         Some(rest) if rest.len() >= width => Some(rest),
@@ -339,16 +363,17 @@ fn bytes_at<'a>(value: &'a [u8], offset: usize, width: usize) -> Option<&'a [u8]
     }
 }
 
-/// Returns the byte at an offset. Returns `None` if the value ends before it.
+/// Returns the byte at an offset. Returns `None` if the value has no byte there.
 #[inline(always)]
 fn byte_at(value: &[u8], offset: usize) -> Option<u64>
+    // `field_in width offset bytes`: the number of `width` bytes at this offset.
     ensures { result ≡ field_in 1 offset value.now }
 {
-    let bytes = bytes_at(value, offset, 1)?;
+    let bytes = bytes_from(value, offset, 1)?;
     Some(LittleEndian::read_uint(bytes, 1))
 }
 
-/// Returns whether window scaling is negotiated, by `tcpi_options`.
+/// Returns whether window scaling is negotiated, by `tcpi_options`. Returns false for `None`.
 fn has_scales(options: Option<u64>) -> bool
     ensures { result ≡ has_scales options }
 {
@@ -358,10 +383,10 @@ fn has_scales(options: Option<u64>) -> bool
     }
 }
 
-/// Returns the bits of a byte that a row is about.
+/// Returns the bits of a byte that a row is about. Returns the byte if the row is about all of it.
 #[inline(always)]
-fn bits_of(byte: u64, part: FieldPart) -> u64
-    ensures { result ≡ bits_of part byte }
+fn part_bits(byte: u64, part: FieldPart) -> u64
+    ensures { result ≡ part_bits part byte }
 {
     match part {
         FieldPart::LowFour => byte % 16,

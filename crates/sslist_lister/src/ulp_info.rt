@@ -1,15 +1,18 @@
 //! The facts of the upper layer protocol of a TCP socket (`INET_DIAG_ULP_INFO`): its name, and what
 //! TLS and MPTCP report. A function of this module that appends to a sink may fail: then an
-//! allocation failed, and the content of the sink is not specified.
+//! allocation failed, and the content of the sink is not specified. In the contracts, `S.content
+//! sink.old` and `S.content sink.new` are what the sink shows before and after the call. `bytes`
+//! are nested attributes.
 
-ghost use Rattle.std.specs.Prelude.{◌≡◌, ◌≤◌, ◌++◌, [], OnOk, codes, flat_map, map, option_map};
+ghost use Rattle.std.specs.Prelude.{◌≡◌, ◌≤◌, IfOk, OnOk, codes, flat_map, map, option_map};
 ghost use Rattle.netlink_core.specs.Errors.{map_ok};
-ghost use Rattle.sslist_lister.specs.Facts.{Decodes, Shows, facts_of_each, group};
+ghost use Rattle.sslist_lister.specs.Facts.{AddsFacts, AddsItems, AddsOutcome, facts_of_each};
+ghost use Rattle.sslist_lister.specs.Facts.{json_group};
 ghost use Rattle.sslist_lister.specs.UlpInfo.{nested_group, nested_number, nested_value};
 ghost use Rattle.sslist_lister.specs.UlpInfo.{presence_facts, tokens_in};
 ghost use Rattle.sslist_lister.specs.UlpInfo.{subflow_facts, subflow_rows, tls_facts};
 ghost use Rattle.sslist_lister.specs.UlpInfo.{tls_rows, token_facts, ulp_name, ulp_number};
-ghost use Rattle.sslist_lister.specs.UlpInfo.{ulp_outcome, ulp_parts, ulp_row};
+ghost use Rattle.sslist_lister.specs.UlpInfo.{ulp_outcome, ulp_parts, ulp_row, ulp_row_of};
 
 use crate::facts::{FactSink, NumberRow, Shown, Status, show_numbers};
 use crate::pieces::find_kind;
@@ -58,7 +61,8 @@ macro_rules! subflow {
     };
 }
 
-/// The numbers about TLS. The table shows `rxconf` before `txconf`.
+/// The numbers about TLS. `rxconf` has two rows, since the table shows it before `txconf`, and JSON
+/// after it.
 static TLS_ROWS: [UlpRow; 5] = [
     tls!(Version, b" version:", Some("version"), Version),
     tls!(Cipher, b" cipher:", Some("cipher"), Cipher),
@@ -67,7 +71,8 @@ static TLS_ROWS: [UlpRow; 5] = [
     tls!(Never, b"", Some("rxconf"), Receiving),
 ];
 
-/// The numbers of a subflow.
+/// The numbers of a subflow. The table shows the flags, the tokens and the ids before these, by
+/// [`show_subflow_parts`].
 static SUBFLOW_ROWS: [UlpRow; 10] = [
     subflow!(Never, b"", "token_rem", RemoteToken),
     subflow!(Never, b"", "token_loc", LocalToken),
@@ -81,9 +86,12 @@ static SUBFLOW_ROWS: [UlpRow; 10] = [
     subflow!(Never, b"", "id_loc", LocalId),
 ];
 
-/// Shows the upper layer protocol in a value.
+/// Shows the upper layer protocol in the value of an attribute. If the value has no valid name,
+/// shows nothing, and the status is the error of the name.
 pub(crate) fn show_ulp<S: FactSink>(sink: &mut S, value: &[u8]) -> Result<Status, AllocError>
-    ensures { Decodes S.kept S.content S.items result sink.old sink.new (ulp_outcome value.now) }
+    // The facts of the outcome, if it has any, were appended, and the result is its status.
+    ensures { IfOk result (AddsOutcome (S.content sink.old) (S.content sink.new)
+        (ulp_outcome value.now)) }
 {
     match name_of_protocol(value) {
         Ok(name) => {
@@ -94,10 +102,12 @@ pub(crate) fn show_ulp<S: FactSink>(sink: &mut S, value: &[u8]) -> Result<Status
     }
 }
 
-/// Shows the name of a protocol, and what the value has about TLS and MPTCP, as a group.
+/// Shows the name of a protocol, and what the value has about TLS and MPTCP, as an object in JSON.
+/// The table has no text around them.
 fn show_ulp_info<S: FactSink>(sink: &mut S, name: &str, value: &[u8]) -> Result<(), AllocError>
-    ensures { Shows S.kept S.content S.items result sink.old sink.new
-        (group [] [] (codes "ulp_info") (ulp_parts name.now value.now)) }
+    // `ulp_parts`: the name, and the facts about TLS and MPTCP.
+    ensures { OnOk result (AddsFacts (S.content sink.old) (S.content sink.new)
+        (json_group (codes "ulp_info") (ulp_parts name.now value.now))) }
 {
     sink.begin(b"", "ulp_info")?;
     show_ulp_parts(sink, name, value)?;
@@ -106,8 +116,8 @@ fn show_ulp_info<S: FactSink>(sink: &mut S, name: &str, value: &[u8]) -> Result<
 
 /// Shows the name of a protocol, and what the value has about TLS and MPTCP.
 fn show_ulp_parts<S: FactSink>(sink: &mut S, name: &str, value: &[u8]) -> Result<(), AllocError>
-    ensures { Shows S.kept S.content S.items result sink.old sink.new
-        (ulp_parts name.now value.now) }
+    ensures { OnOk result (AddsFacts (S.content sink.old) (S.content sink.new)
+        (ulp_parts name.now value.now)) }
 {
     sink.name(false, b" tcp-ulp-", "name", name)?;
     show_tls(sink, value)?;
@@ -116,8 +126,11 @@ fn show_ulp_parts<S: FactSink>(sink: &mut S, name: &str, value: &[u8]) -> Result
 
 /// Shows what TLS reports, if the value has it.
 fn show_tls<S: FactSink>(sink: &mut S, value: &[u8]) -> Result<(), AllocError>
-    ensures { Shows S.kept S.content S.items result sink.old sink.new
-        (nested_group (codes "tls") tls_facts (nested_value INET_ULP_INFO_TLS value.now)) }
+    // `nested_value kind value`: the value of the first attribute of this kind, if there is one.
+    // `nested_group member facts found`: `facts` of the attributes in `found`, as the object
+    // `member`; no facts for None.
+    ensures { OnOk result (AddsFacts (S.content sink.old) (S.content sink.new)
+        (nested_group (codes "tls") tls_facts (nested_value INET_ULP_INFO_TLS value.now))) }
 {
     match find_value(value, INET_ULP_INFO_TLS) {
         Some(bytes) => show_tls_info(sink, bytes),
@@ -127,8 +140,9 @@ fn show_tls<S: FactSink>(sink: &mut S, value: &[u8]) -> Result<(), AllocError>
 
 /// Shows what TLS reports, as a group.
 fn show_tls_info<S: FactSink>(sink: &mut S, bytes: &[u8]) -> Result<(), AllocError>
-    ensures { Shows S.kept S.content S.items result sink.old sink.new
-        (group [] [] (codes "tls") (tls_facts bytes.now)) }
+    // JSON has the object `tls` with these facts. The table has no text around them.
+    ensures { OnOk result (AddsFacts (S.content sink.old) (S.content sink.new)
+        (json_group (codes "tls") (tls_facts bytes.now))) }
 {
     sink.begin(b"", "tls")?;
     show_tls_parts(sink, bytes)?;
@@ -137,14 +151,16 @@ fn show_tls_info<S: FactSink>(sink: &mut S, bytes: &[u8]) -> Result<(), AllocErr
 
 /// Shows the numbers about TLS, and whether each flag is present.
 fn show_tls_parts<S: FactSink>(sink: &mut S, bytes: &[u8]) -> Result<(), AllocError>
-    ensures { Shows S.kept S.content S.items result sink.old sink.new (tls_facts bytes.now) }
+    ensures { OnOk result (AddsFacts (S.content sink.old) (S.content sink.new)
+        (tls_facts bytes.now)) }
 {
     show_tls_numbers(sink, bytes)?;
     show_presence(sink, bytes, TLS_INFO_ZC_RO_TX, b" zc_ro_tx", "zc_ro_tx")?;
     show_presence(sink, bytes, TLS_INFO_RX_NO_PAD, b" no_pad_rx", "rx_no_pad")
 }
 
-/// Shows whether the nested attributes have one of this kind. The table shows this text if so.
+/// Shows whether the nested attributes have one of this kind. If so, the table shows `text`. JSON
+/// has `member`.
 fn show_presence<S: FactSink>(
     sink: &mut S,
     bytes: &[u8],
@@ -152,17 +168,20 @@ fn show_presence<S: FactSink>(
     text: &[u8],
     member: &str,
 ) -> Result<(), AllocError>
-    ensures { Shows S.kept S.content S.items result sink.old sink.new
-        (presence_facts kind text.now member.now bytes.now) }
+    ensures { OnOk result (AddsFacts (S.content sink.old) (S.content sink.new)
+        (presence_facts kind text.now member.now bytes.now)) }
 {
     let is_present = find_value(bytes, kind).is_some();
+    // The flag is the number 0 or 1, so `Bits(1)` shows the text if it is set.
     sink.flag(Shown::Bits(1), text, member, is_present)
 }
 
 /// Shows the numbers about TLS.
 fn show_tls_numbers<S: FactSink>(sink: &mut S, bytes: &[u8]) -> Result<(), AllocError>
-    ensures { Shows S.kept S.content S.items result sink.old sink.new
-        (facts_of_each (ulp_row bytes.now) tls_rows) }
+    // `facts_of_each (ulp_row bytes) rows`: for each row its fact, if the nested attributes have
+    // its number.
+    ensures { OnOk result (AddsFacts (S.content sink.old) (S.content sink.new)
+        (facts_of_each (ulp_row bytes.now) tls_rows)) }
 {
     show_rows(sink, bytes, list_tls_rows())
 }
@@ -170,16 +189,20 @@ fn show_tls_numbers<S: FactSink>(sink: &mut S, bytes: &[u8]) -> Result<(), Alloc
 /// Returns the rows of the numbers about TLS.
 #[tactic(auto, unfolding(crate::specs::UlpInfo::tls_rows))]
 fn list_tls_rows() -> &'static [UlpRow]
-    ensures { map (λ row. (row.0, row.1.now, option_map (λ m. m.now) row.2, row.3)) result.now
-        ≡ tls_rows }
+    // The rows are those of the definition. `ulp_row_of`: the row, with its texts as lists of
+    // bytes.
+    ensures { map ulp_row_of result.now ≡ tls_rows }
 {
     &TLS_ROWS
 }
 
 /// Shows what MPTCP reports, if the value has it.
 fn show_subflow<S: FactSink>(sink: &mut S, value: &[u8]) -> Result<(), AllocError>
-    ensures { Shows S.kept S.content S.items result sink.old sink.new (nested_group (codes "mptcp")
-        subflow_facts (nested_value INET_ULP_INFO_MPTCP value.now)) }
+    // `nested_value kind value`: the value of the first attribute of this kind, if there is one.
+    // `nested_group member facts found`: `facts` of the attributes in `found`, as the object
+    // `member`; no facts for None.
+    ensures { OnOk result (AddsFacts (S.content sink.old) (S.content sink.new)
+        (nested_group (codes "mptcp") subflow_facts (nested_value INET_ULP_INFO_MPTCP value.now))) }
 {
     match find_value(value, INET_ULP_INFO_MPTCP) {
         Some(bytes) => show_subflow_info(sink, bytes),
@@ -189,8 +212,9 @@ fn show_subflow<S: FactSink>(sink: &mut S, value: &[u8]) -> Result<(), AllocErro
 
 /// Shows what MPTCP reports, as a group.
 fn show_subflow_info<S: FactSink>(sink: &mut S, bytes: &[u8]) -> Result<(), AllocError>
-    ensures { Shows S.kept S.content S.items result sink.old sink.new
-        (group [] [] (codes "mptcp") (subflow_facts bytes.now)) }
+    // JSON has the object `mptcp` with these facts. The table has no text around them.
+    ensures { OnOk result (AddsFacts (S.content sink.old) (S.content sink.new)
+        (json_group (codes "mptcp") (subflow_facts bytes.now))) }
 {
     sink.begin(b"", "mptcp")?;
     show_subflow_parts(sink, bytes)?;
@@ -199,7 +223,8 @@ fn show_subflow_info<S: FactSink>(sink: &mut S, bytes: &[u8]) -> Result<(), Allo
 
 /// Shows the flags, the tokens and the numbers of a subflow.
 fn show_subflow_parts<S: FactSink>(sink: &mut S, bytes: &[u8]) -> Result<(), AllocError>
-    ensures { Shows S.kept S.content S.items result sink.old sink.new (subflow_facts bytes.now) }
+    ensures { OnOk result (AddsFacts (S.content sink.old) (S.content sink.new)
+        (subflow_facts bytes.now)) }
 {
     let flags = UlpField::Subflow(SubflowField::Flags);
     show_row(sink, bytes, Shown::Letters, b" flags:", None, flags)?;
@@ -209,8 +234,10 @@ fn show_subflow_parts<S: FactSink>(sink: &mut S, bytes: &[u8]) -> Result<(), All
 
 /// Shows the numbers of a subflow.
 fn show_subflow_numbers<S: FactSink>(sink: &mut S, bytes: &[u8]) -> Result<(), AllocError>
-    ensures { Shows S.kept S.content S.items result sink.old sink.new
-        (facts_of_each (ulp_row bytes.now) subflow_rows) }
+    // `facts_of_each (ulp_row bytes) rows`: for each row its fact, if the nested attributes have
+    // its number.
+    ensures { OnOk result (AddsFacts (S.content sink.old) (S.content sink.new)
+        (facts_of_each (ulp_row bytes.now) subflow_rows)) }
 {
     show_rows(sink, bytes, list_subflow_rows())
 }
@@ -218,8 +245,9 @@ fn show_subflow_numbers<S: FactSink>(sink: &mut S, bytes: &[u8]) -> Result<(), A
 /// Returns the rows of the numbers of a subflow.
 #[tactic(auto, unfolding(crate::specs::UlpInfo::subflow_rows))]
 fn list_subflow_rows() -> &'static [UlpRow]
-    ensures { map (λ row. (row.0, row.1.now, option_map (λ m. m.now) row.2, row.3)) result.now
-        ≡ subflow_rows }
+    // The rows are those of the definition. `ulp_row_of`: the row, with its texts as lists of
+    // bytes.
+    ensures { map ulp_row_of result.now ≡ subflow_rows }
 {
     &SUBFLOW_ROWS
 }
@@ -227,7 +255,8 @@ fn list_subflow_rows() -> &'static [UlpRow]
 /// Shows the tokens of a connection and the ids of the addresses, which JSON has as numbers of the
 /// subflow, if all four are present.
 fn show_tokens<S: FactSink>(sink: &mut S, bytes: &[u8]) -> Result<(), AllocError>
-    ensures { Shows S.kept S.content S.items result sink.old sink.new (tokens_in bytes.now) }
+    ensures { OnOk result (AddsFacts (S.content sink.old) (S.content sink.new)
+        (tokens_in bytes.now)) }
 {
     show_four(
         sink,
@@ -246,11 +275,12 @@ fn show_four<S: FactSink>(
     local: Option<u64>,
     local_id: Option<u64>,
 ) -> Result<(), AllocError>
-    ensures { Shows S.kept S.content S.items result sink.old sink.new
-        (token_facts remote remote_id local local_id) }
+    ensures { OnOk result (AddsFacts (S.content sink.old) (S.content sink.new)
+        (token_facts remote remote_id local local_id)) }
 {
     match (remote, remote_id, local, local_id) {
         (Some(remote), Some(remote_id), Some(local), Some(local_id)) => {
+            // The table has ` token:REMOTE(id:ID)/LOCAL(id:ID)`.
             let rows: [NumberRow<'_>; 4] = [
                 (Shown::Hex, b" token:", None, Some(remote)),
                 (Shown::Closed, b"(id:", None, Some(remote_id)),
@@ -263,11 +293,13 @@ fn show_four<S: FactSink>(
     }
 }
 
-/// Shows the number of each row, if the nested attributes have its field.
+/// Shows the number of each row, if the nested attributes have its field. The contract states this
+/// of items, as the loop appends them.
 fn show_rows<S: FactSink>(sink: &mut S, bytes: &[u8], rows: &[UlpRow]) -> Result<(), AllocError>
-    ensures { OnOk result ((S.kept sink.new ≡ S.kept sink.old)
-        × (S.content sink.new ≡ S.content sink.old ++ flat_map (λ row. S.items (ulp_row bytes.now
-        (row.0, row.1.now, option_map (λ m. m.now) row.2, row.3))) rows.now)) }
+    // For each row the items of its fact; none if the nested attributes do not have its field.
+    // `ulp_row_of`: the row, with its texts as lists of bytes.
+    ensures { OnOk result (AddsItems (S.content sink.old) (S.content sink.new)
+        (flat_map (λ row. S.items (ulp_row bytes.now (ulp_row_of row))) rows.now)) }
 {
     for &(format, text, member, field) in rows {
         show_row(sink, bytes, format, text, member, field)?;
@@ -275,7 +307,8 @@ fn show_rows<S: FactSink>(sink: &mut S, bytes: &[u8], rows: &[UlpRow]) -> Result
     Ok(())
 }
 
-/// Shows a number, if the nested attributes have its field.
+/// Shows a number, if the nested attributes have its field. The table shows it by `format`, after
+/// `text`. JSON has it under `member`, or not at all for `None`.
 #[tactic(auto, unfolding(crate::specs::UlpInfo::ulp_row))]
 fn show_row<S: FactSink>(
     sink: &mut S,
@@ -285,8 +318,10 @@ fn show_row<S: FactSink>(
     member: Option<&str>,
     field: UlpField,
 ) -> Result<(), AllocError>
-    ensures { Shows S.kept S.content S.items result sink.old sink.new (ulp_row bytes.now
-        (format, text.now, option_map (λ m. m.now) member.entry, field)) }
+    // The tuple is the row. `option_map (λ m. m.now) member.entry`: the bytes of `member`, if there
+    // is one.
+    ensures { OnOk result (AddsFacts (S.content sink.old) (S.content sink.new)
+        (ulp_row bytes.now (format, text.now, option_map (λ m. m.now) member.entry, field))) }
 {
     match number_of(bytes, field) {
         Some(number) => sink.number(format, text, member, number),
@@ -294,7 +329,7 @@ fn show_row<S: FactSink>(
     }
 }
 
-/// Returns the number of a field of the nested attributes.
+/// Returns the number of a field. Returns `None` if the nested attributes do not have it.
 fn number_of(bytes: &[u8], field: UlpField) -> Option<u64>
     ensures { result ≡ ulp_number bytes.now field }
 {
@@ -310,9 +345,10 @@ fn number_of(bytes: &[u8], field: UlpField) -> Option<u64>
     }
 }
 
-/// Returns the name of the protocol, without one terminating NUL if it has one. Fails if there is
-/// none, or if it is not valid UTF-8.
+/// Returns the name of the protocol in a value, without its terminating NUL if it has one. Fails if
+/// there is no name, or if it is not valid UTF-8.
 fn name_of_protocol<'a>(value: &'a [u8]) -> Result<&'a str, DecodeError>
+    // `map_ok (λ name. name.now) result`: the bytes of the name, or the same error.
     ensures { map_ok (λ name. name.now) result ≡ ulp_name value.entry.now }
 {
     match find_value(value, INET_ULP_INFO_NAME) {
@@ -322,8 +358,9 @@ fn name_of_protocol<'a>(value: &'a [u8]) -> Result<&'a str, DecodeError>
 }
 
 /// Returns the little-endian number of `width` bytes in the first attribute of this kind. Returns
-/// `None` if there is none, or if its value has another length.
+/// `None` if there is no such attribute, or if its value has another length.
 pub(crate) fn find_number(bytes: &[u8], kind: u16, width: usize) -> Option<u64>
+    // `read_uint` reads one to eight bytes.
     requires one { 1 ≤ width }
     requires eight { width ≤ 8 }
     ensures { result ≡ nested_number (kind, width) bytes.now }
@@ -336,6 +373,7 @@ pub(crate) fn find_number(bytes: &[u8], kind: u16, width: usize) -> Option<u64>
 
 /// Returns the value of the first attribute of this kind in the bytes, if there is one.
 pub(crate) fn find_value<'a>(bytes: &'a [u8], kind: u16) -> Option<&'a [u8]>
+    // `value.now`: the bytes that the result borrows.
     ensures { option_map (λ value. value.now) result ≡ nested_value kind bytes.entry.now }
 {
     match find_kind(bytes, kind) {

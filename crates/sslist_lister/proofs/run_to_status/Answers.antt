@@ -27,5 +27,5 @@ returns g c =
           (λ d first. reports_from_start start end none last is_open (d ++ closing)
           (reports_then start before end none some last true opened is_open d closing first
           c.report_outcome.ensures))
-          c.run-outcome.ensures.table c.run-outcome.ensures.failed,
+          c.run-outcome.ensures.ended,
     )

@@ -22,9 +22,9 @@ abbrev pub address_number : IpAddr → ℕ
 address_number (V4 ip) = ipv4_bits ip
 address_number (V6 ip) = ipv6_bits ip
 
--- The first `length` bits of an address as a number, without the bits after them. These are all
--- bits if `length` is greater than their number. For example, the first 20 bits of 10.1.16.5, whose
--- number is 0x0a011005, are 0x0a011.
+-- `first_bits length address`: the first `length` bits of the address as a number, without the bits
+-- after them; all of its bits if it has fewer than `length`. For example, the first 20 bits of
+-- 10.1.16.5, whose number is 0x0a011005, are 0x0a011.
 abbrev pub first_bits : (length : ℕ) → IpAddr → ℕ
 first_bits length address = address_number address / 2 ^ (width address - length)
 
@@ -33,36 +33,45 @@ first_bits length address = address_number address / 2 ^ (width address - length
 abbrev pub begins_alike : (length : ℕ) → IpAddr → IpAddr → Bool
 begins_alike length a b = width a == width b && first_bits length a == first_bits length b
 
--- the address meets the condition; each address does if there is none
+-- `meets_address condition address`: the address meets the condition. Each address does if there is
+-- no condition (None).
 abbrev pub meets_address : Option AddressCondition → IpAddr → Bool
 meets_address None address = true
-meets_address (Some c) address = begins_alike c.length c.address address
+meets_address (Some condition) address =
+    begins_alike condition.length condition.address address
 
 -- ---- conditions of a command line
 
--- The address that a text is, as std::net parses it: four decimal numbers, or a form of RFC 4291,
--- section 2.2. It is the one for which the grammar of std, `IsIpText`, has this text (`ip_in` of
--- src/addresses.rt, clause `spelled`). None if there is none.
+-- `ip_in text`: the address that the text is, as std::net parses it: four decimal numbers, or a
+-- form of RFC 4291, section 2.2. None if the text is not an address. `read_ipv4` and `read_ipv6`
+-- read an address at the start of a text, and `whole_value` is this address if no text is left
+-- after it. The clause `spelled` of the function `ip_in` (src/command_line/addresses.rt) states the
+-- same by the grammar of std, `IsIpText`.
 unfoldable pub ip_in : List ℕ → Option IpAddr
 ip_in text =
     option_or (option_map (λ octets. V4 record { octets = octets }) (whole_value (read_ipv4 text)))
     (option_map (λ segments. V6 record { segments = segments }) (whole_value (read_ipv6 text)))
 
--- `begins_with address length`: the condition that an address begins with the first `length` bits
--- of this one; None if it has fewer bits
+-- `begins_with address length`: the condition that another address begins with the first `length`
+-- bits of `address`; None if `address` has fewer than `length` bits
 abbrev pub begins_with : IpAddr → ℕ → Option AddressCondition
 begins_with address length =
     if nat_le length (width address)
     then Some (record { address = address; length = length }) else None
 
--- `in_network address length`: the same, if there are both
+-- `in_network address length`: the condition `begins_with` of the address and the length; None if
+-- one of them is missing, or if the address has fewer bits
 abbrev pub in_network : Option IpAddr → Option ℕ → Option AddressCondition
 in_network address length =
-    option_and_then (λ a. option_and_then (begins_with a) length) address
+    option_and_then (λ known. option_and_then (begins_with known) length) address
 
--- A condition on an address: `ADDRESS/LENGTH` is to begin with the first LENGTH bits of ADDRESS,
--- and `ADDRESS` to be equal to it. A slash is 47.
+-- `address_condition text`: the condition on an address in the text. `ADDRESS/LENGTH` is the
+-- condition that an address begins with the first LENGTH bits of ADDRESS, and `ADDRESS` that it is
+-- equal to ADDRESS. None for any other text, or if ADDRESS has fewer than LENGTH bits. A slash is
+-- 47.
 abbrev pub address_condition : List ℕ → Option AddressCondition
 address_condition text =
-    option_map_or (λ i. in_network (ip_in (take i text)) (decimal_u16 (drop (i + 1) text)))
-    (index_of 47 text) (option_and_then (λ a. begins_with a (width a)) (ip_in text))
+    option_map_or
+    (λ index. in_network (ip_in (take index text)) (decimal_u16 (drop (index + 1) text)))
+    (index_of 47 text)
+    (option_and_then (λ address. begins_with address (width address)) (ip_in text))

@@ -7,13 +7,13 @@ use Rattle.std.specs.List.{ends_with, list_any, starts_with}
 use Rattle.std.specs.Option.{option_map_or}
 use Rattle.sslist_lister.specs.declared.command_line.addresses.AddressCondition.{AddressCondition}
 use Rattle.sslist_lister.specs.declared.command_line.arguments.Argument.{Argument}
-use Rattle.sslist_lister.specs.declared.command_line.arguments.Argument.TheVariants as argument
+use Rattle.sslist_lister.specs.declared.command_line.arguments.Argument.TheVariants as parsed_as
 use Rattle.sslist_lister.specs.declared.command_line.arguments.End.{End}
 use Rattle.sslist_lister.specs.declared.command_line.arguments.End.TheVariants.{Local, Remote}
 use Rattle.sslist_lister.specs.declared.command_line.arguments.Place.{Place}
-use Rattle.sslist_lister.specs.declared.command_line.arguments.Place.TheVariants as place
+use Rattle.sslist_lister.specs.declared.command_line.arguments.Place.TheVariants as places
 use Rattle.sslist_lister.specs.declared.command_line.choice.Choice.{Choice}
-use Rattle.sslist_lister.specs.declared.command_line.choice.Choice.TheVariants as choice
+use Rattle.sslist_lister.specs.declared.command_line.choice.Choice.TheVariants as choices
 use Rattle.sslist_lister.specs.declared.command_line.choice.Rejection.{Rejection}
 use Rattle.sslist_lister.specs.declared.command_line.choice.Rejection.TheVariants as rejections
 use Rattle.sslist_lister.specs.declared.command_line.filter.PortCondition.{PortCondition}
@@ -30,13 +30,22 @@ use Rattle.sslist_lister.specs.command_line.Text.{index_of}
 
 -- ---- letters
 
--- the letter is an element of the list
+-- the byte of a text of one letter
+abbrev pub letter_of : List ℕ → ℕ
+letter_of text = slice_index text 0
+
+-- `contains_letter letter letters`: the letter is one of the letters
 abbrev pub contains_letter : ℕ → List ℕ → Bool
-contains_letter letter letters = list_any (λ c. c == letter) letters
+contains_letter letter letters = list_any (λ other. other == letter) letters
+
+-- `has_letter text letters`: the letter in the text, which is a text of one letter, is one of the
+-- letters
+abbrev pub has_letter : List ℕ → List ℕ → Bool
+has_letter text letters = contains_letter (letter_of text) letters
 
 -- a letter that is an option: -t, -u, -x, -M, -0, -4, -6, -o, -e, -m, -i, -O, -H, -l, -n or -a
-abbrev pub is_letter : ℕ → Bool
-is_letter letter = contains_letter letter (codes "tuxM046oemiOHlna")
+abbrev pub is_option_letter : ℕ → Bool
+is_option_letter letter = contains_letter letter (codes "tuxM046oemiOHlna")
 
 -- the last letter is f
 abbrev pub ends_in_f : List ℕ → Bool
@@ -46,57 +55,61 @@ ends_in_f letters = ends_with nat_eq letters (codes "f")
 abbrev pub without_last_f : List ℕ → List ℕ
 without_last_f letters = if ends_in_f letters then take (length letters - 1) letters else letters
 
--- the first letter for which `is_letter` does not hold; None if there is none
+-- the first of the letters that is not an option (`is_option_letter`); None if there is none
 abbrev pub first_unknown_letter : List ℕ → Option ℕ
-first_unknown_letter letters = find (λ letter. not (is_letter letter)) letters
+first_unknown_letter letters = find (λ letter. not (is_option_letter letter)) letters
 
--- The first letter that is not an option at its place; None if each is an option. The last one may
--- also be f, which needs the name of a family as the next argument.
-abbrev pub first_other_letter : List ℕ → Option ℕ
-first_other_letter letters = first_unknown_letter (without_last_f letters)
+-- The first letter because of which the letters are rejected: one that is not an option. The last
+-- letter may also be f, which needs the name of a family as the next argument. None if there is no
+-- such letter.
+abbrev pub first_rejected_letter : List ℕ → Option ℕ
+first_rejected_letter letters = first_unknown_letter (without_last_f letters)
 
--- The options `o`, and the options of these letters that select details or their form: -o (111), -e
--- (101), -m (109), -i (105), -O (79) and -H (72).
+-- `with_details letters options`: `options`, and the options of those of the letters that select
+-- details or their form
 abbrev pub with_details : List ℕ → Options → Options
-with_details letters o = record o {
-  timer = o.timer || contains_letter 111 letters;
-  extended = o.extended || contains_letter 101 letters;
-  memory = o.memory || contains_letter 109 letters;
-  connection = o.connection || contains_letter 105 letters;
-  one_line = o.one_line || contains_letter 79 letters;
-  no_heading = o.no_heading || contains_letter 72 letters;
+with_details letters options = record options {
+  timer = options.timer || has_letter (codes "o") letters;
+  extended = options.extended || has_letter (codes "e") letters;
+  memory = options.memory || has_letter (codes "m") letters;
+  connection = options.connection || has_letter (codes "i") letters;
+  one_line = options.one_line || has_letter (codes "O") letters;
+  no_heading = options.no_heading || has_letter (codes "H") letters;
 }
 
--- `listening_after before letters`: whether only listening sockets are listed after these letters:
--- the last one that is l (108) or a (97) decides
+-- `listening_after before letters`: whether only listening sockets are listed. The last letter that
+-- is l or a decides: l for yes, a for no. If there is no such letter, it is as before the letters
+-- (`before`).
 abbrev pub listening_after : Bool → List ℕ → Bool
 listening_after before letters = fold
-    (λ listening c. if c == 108 then true else if c == 97 then false else listening)
+    (λ listening letter. if letter == letter_of (codes "l") then true
+    else if letter == letter_of (codes "a") then false else listening)
     before letters
 
--- The options `o`, and the options of these letters that select sockets: -t (116), -u (117), -M
--- (77), -x (120), -0 (48), -4 (52), -6 (54), -l and -a.
+-- `with_sockets letters options`: `options`, and the options of those of the letters that select
+-- sockets
 abbrev pub with_sockets : List ℕ → Options → Options
-with_sockets letters o = record o {
-  tcp = o.tcp || contains_letter 116 letters;
-  udp = o.udp || contains_letter 117 letters;
-  mptcp = o.mptcp || contains_letter 77 letters;
-  unix = o.unix || contains_letter 120 letters;
-  packet = o.packet || contains_letter 48 letters;
-  inet = o.inet || contains_letter 52 letters;
-  inet6 = o.inet6 || contains_letter 54 letters;
-  listening = listening_after o.listening letters;
+with_sockets letters options = record options {
+  tcp = options.tcp || has_letter (codes "t") letters;
+  udp = options.udp || has_letter (codes "u") letters;
+  mptcp = options.mptcp || has_letter (codes "M") letters;
+  unix = options.unix || has_letter (codes "x") letters;
+  packet = options.packet || has_letter (codes "0") letters;
+  inet = options.inet || has_letter (codes "4") letters;
+  inet6 = options.inet6 || has_letter (codes "6") letters;
+  listening = listening_after options.listening letters;
 }
 
--- The options `o`, and the options of these letters. The letter n changes nothing.
+-- `with_letters letters options`: `options`, and the options of all of the letters; the letter n
+-- changes nothing
 abbrev pub with_letters : List ℕ → Options → Options
-with_letters letters o = with_sockets letters (with_details letters o)
+with_letters letters options = with_sockets letters (with_details letters options)
 
 -- ---- long names of letters
 
--- `long_name name letter`: a long name, and the letter in the second text
+-- `long_name name letter`: the long name `name` (`.0`) of the letter in the text `letter` (`.1`)
 abbrev pub long_name : List ℕ → List ℕ → List ℕ × ℕ
-long_name name letter = (name, slice_index letter 0)
+long_name name letter = (name, letter_of letter)
 
 -- the long names of letters, as in ss(8): each name (`.0`) and its letter (`.1`)
 abbrev pub long_names : List (List ℕ × ℕ)
@@ -136,200 +149,229 @@ family_named name =
     else if bytes_eq name (codes "xdp") then Some (Other Xdp)
     else None
 
--- the options `o`, and the one that selects sockets of this family
+-- `with_family family options`: `options`, and the option that selects sockets of the family
 abbrev pub with_family : AnyFamily → Options → Options
-with_family Inet o = record o { inet = true }
-with_family Inet6 o = record o { inet6 = true }
-with_family Unix o = record o { unix = true }
-with_family (Other Netlink) o = record o { netlink = true }
-with_family (Other Packet) o = record o { packet = true }
-with_family (Other Vsock) o = record o { vsock = true }
-with_family (Other Xdp) o = record o { xdp = true }
+with_family Inet options = record options { inet = true }
+with_family Inet6 options = record options { inet6 = true }
+with_family Unix options = record options { unix = true }
+with_family (Other Netlink) options = record options { netlink = true }
+with_family (Other Packet) options = record options { packet = true }
+with_family (Other Vsock) options = record options { vsock = true }
+with_family (Other Xdp) options = record options { xdp = true }
 
 -- ---- arguments
 
 -- An argument that may be an option is the name of a file if it does not begin with a hyphen, or if
 -- it is only a hyphen, which is standard input. The empty argument is one too.
 abbrev pub is_file : List ℕ → Bool
-is_file word = nat_lt (length word) 2 || not (starts_with nat_eq word (codes "-"))
+is_file argument = nat_lt (length argument) 2 || not (starts_with nat_eq argument (codes "-"))
 
--- what the name of a family is parsed as; any other text is rejected for this reason
+-- `family_argument rejection name`: what the name of a family is parsed as: the selection of its
+-- sockets. Any other text is rejected, for the reason `rejection`. `option_map_or f option
+-- default`: `f v` if the option is `Some v`, and else `default`.
 abbrev pub family_argument : Rejection → List ℕ → Argument
 family_argument rejection name =
-    option_map_or argument.Sockets (family_named name) (argument.Rejected rejection)
+    option_map_or parsed_as.Sockets (family_named name) (parsed_as.Rejected rejection)
 
--- what the name of states is parsed as
+-- what the name of a state or of a group of states is parsed as; any other text is rejected
 abbrev pub state_argument : List ℕ → Argument
 state_argument name =
-    option_map_or argument.States (states_named name) (argument.Rejected
-    rejections.UnknownStateValue)
+    option_map_or parsed_as.States (states_named name)
+    (parsed_as.Rejected rejections.UnknownStateValue)
 
--- what a condition on the port of an end is parsed as
+-- `port_argument end text`: what a condition on the port of this end is parsed as; any other text
+-- is rejected
 abbrev pub port_argument : End → List ℕ → Argument
 port_argument end text =
-    option_map_or (argument.Port end) (port_condition text) (argument.Rejected
-    rejections.InvalidPortValue)
+    option_map_or (parsed_as.Port end) (port_condition text)
+    (parsed_as.Rejected rejections.InvalidPortValue)
 
--- what a condition on the address of an end is parsed as
+-- `address_argument end text`: what a condition on the address of this end is parsed as; any other
+-- text is rejected
 abbrev pub address_argument : End → List ℕ → Argument
 address_argument end text =
-    option_map_or (argument.Address end) (address_condition text) (argument.Rejected
-    rejections.InvalidAddressValue)
+    option_map_or (parsed_as.Address end) (address_condition text)
+    (parsed_as.Rejected rejections.InvalidAddressValue)
 
--- The reason why letters are rejected of which `letter` is the first one that is not an option at
--- its place: f, h and V are options too, but f only as the last letter, and h and V only alone.
+-- `letter_rejection letter`: the reason why letters are rejected, of which `first_rejected_letter`
+-- finds this one. f, h and V are options too, but f only as the last letter, and h and V only
+-- alone.
 abbrev pub letter_rejection : ℕ → Rejection
 letter_rejection letter =
-    if contains_letter letter (codes "fhV") then
-    rejections.MisplacedLetter letter else rejections.UnknownLetter letter
+    if contains_letter letter (codes "fhV") then rejections.MisplacedLetter letter
+    else rejections.UnknownLetter letter
 
--- the word is an option that needs a value, without one
+-- the argument is an option that needs a value, without one
 abbrev pub misses_value : List ℕ → Bool
-misses_value word =
-    bytes_eq word (codes "--family") || bytes_eq word (codes "--state")
-    || bytes_eq word (codes "--sport") || bytes_eq word (codes "--dport")
-    || bytes_eq word (codes "--src") || bytes_eq word (codes "--dst")
+misses_value argument =
+    bytes_eq argument (codes "--family") || bytes_eq argument (codes "--state")
+    || bytes_eq argument (codes "--sport") || bytes_eq argument (codes "--dport")
+    || bytes_eq argument (codes "--src") || bytes_eq argument (codes "--dst")
 
--- the word is the long name of a letter, with an equals sign (61) and a value
-abbrev pub has_letter_value : List ℕ → Bool
-has_letter_value word =
-    option_map_or (λ index. is_some (letter_named (take index word))) (index_of 61 word) false
+-- the argument is the long name of a letter, with an equals sign (61) and a value; `false` if there
+-- is no equals sign
+abbrev pub is_long_name_with_value : List ℕ → Bool
+is_long_name_with_value argument =
+    option_map_or (λ index. is_some (letter_named (take index argument))) (index_of 61 argument)
+    false
 
--- the word is an option that takes no value, with an equals sign and a value
+-- the argument is an option that takes no value, with an equals sign and a value
 abbrev pub has_unexpected_value : List ℕ → Bool
-has_unexpected_value word =
-    starts_with nat_eq word (codes "--help=") || starts_with nat_eq word (codes "--version=")
-    || starts_with nat_eq word (codes "--utf8=") || starts_with nat_eq word (codes "--requests=")
-    || starts_with nat_eq word (codes "--json=") || starts_with nat_eq word (codes "--vsock=")
-    || starts_with nat_eq word (codes "--xdp=") || has_letter_value word
+has_unexpected_value argument =
+    starts_with nat_eq argument (codes "--help=")
+    || starts_with nat_eq argument (codes "--version=")
+    || starts_with nat_eq argument (codes "--utf8=")
+    || starts_with nat_eq argument (codes "--requests=")
+    || starts_with nat_eq argument (codes "--json=")
+    || starts_with nat_eq argument (codes "--vsock=")
+    || starts_with nat_eq argument (codes "--xdp=")
+    || is_long_name_with_value argument
 
--- the reason why a word is rejected that begins with two hyphens and is not an option
+-- the reason why an argument is rejected that begins with two hyphens and is not an option
 abbrev pub long_rejection : List ℕ → Rejection
-long_rejection word =
-    if misses_value word then rejections.MissingValue else if has_unexpected_value word then
-    rejections.UnexpectedValue
+long_rejection argument =
+    if misses_value argument then rejections.MissingValue
+    else if has_unexpected_value argument then rejections.UnexpectedValue
     else rejections.UnknownOption
 
--- what the long name of a letter is parsed as; any other word is rejected
+-- what the long name of a letter is parsed as; any other argument is rejected
 abbrev pub long_argument : List ℕ → Argument
-long_argument word =
-    option_map_or argument.Letter (letter_named word) (argument.Rejected (long_rejection word))
+long_argument argument =
+    option_map_or parsed_as.Letter (letter_named argument)
+    (parsed_as.Rejected (long_rejection argument))
 
--- What letters after a hyphen are parsed as. A word that begins with two hyphens is the long name
--- of a letter, or rejected.
+-- What an argument of letters after a hyphen is parsed as. It is rejected if one of its letters is
+-- (`first_rejected_letter`). Else it is `Letters`, with whether it ends in f. An argument that
+-- begins with two hyphens is the long name of a letter, or rejected. The empty argument is rejected
+-- too; it is never parsed here, because it is the name of a file.
 abbrev pub letters_argument : List ℕ → Argument
-letters_argument word =
-    if (length word == 0) || starts_with nat_eq word (codes "--") then long_argument word
-    else option_map_or (λ letter. argument.Rejected (letter_rejection letter))
-    (first_other_letter (drop 1 word)) (argument.Letters (ends_in_f word))
+letters_argument argument =
+    if (length argument == 0) || starts_with nat_eq argument (codes "--")
+    then long_argument argument
+    else option_map_or (λ letter. parsed_as.Rejected (letter_rejection letter))
+    (first_rejected_letter (drop 1 argument)) (parsed_as.Letters (ends_in_f argument))
 
--- what an option is parsed as that contains a condition on an address, consists of letters, or is
--- the long name of a letter
-abbrev pub address_option : List ℕ → Argument
-address_option word =
-    if starts_with nat_eq word (codes "--src=") then address_argument Local (drop 6 word)
-    else if starts_with nat_eq word (codes "--dst=") then address_argument Remote (drop 6 word)
-    else letters_argument word
+-- `value_after option argument`: what follows the option, such as `--sport=`, in the argument,
+-- which begins with it
+abbrev pub value_after : List ℕ → List ℕ → List ℕ
+value_after option argument = drop (length option) argument
 
--- what an option is parsed as that contains a condition on a port or an address, consists of
--- letters, or is the long name of a letter
-abbrev pub port_option : List ℕ → Argument
-port_option word =
-    if starts_with nat_eq word (codes "--sport=") then port_argument Local (drop 8 word)
-    else if starts_with nat_eq word (codes "--dport=") then port_argument Remote (drop 8 word)
-    else address_option word
-
--- what an option is parsed as that contains its value, consists of letters, or is the long name of
--- a letter
-abbrev pub valued_argument : List ℕ → Argument
-valued_argument word =
-    if starts_with nat_eq word (codes "--family=")
-    then family_argument rejections.UnknownFamilyValue (drop 9 word)
-    else if starts_with nat_eq word (codes "--state=") then state_argument (drop 8 word)
-    else port_option word
+-- what an option that contains its value is parsed as, such as `--sport=80`; any other argument is
+-- parsed as letters, or as the long name of a letter
+abbrev pub value_or_letters_argument : List ℕ → Argument
+value_or_letters_argument argument =
+    if starts_with nat_eq argument (codes "--family=")
+    then family_argument rejections.UnknownFamilyValue (value_after (codes "--family=") argument)
+    else if starts_with nat_eq argument (codes "--state=")
+    then state_argument (value_after (codes "--state=") argument)
+    else if starts_with nat_eq argument (codes "--sport=")
+    then port_argument Local (value_after (codes "--sport=") argument)
+    else if starts_with nat_eq argument (codes "--dport=")
+    then port_argument Remote (value_after (codes "--dport=") argument)
+    else if starts_with nat_eq argument (codes "--src=")
+    then address_argument Local (value_after (codes "--src=") argument)
+    else if starts_with nat_eq argument (codes "--dst=")
+    then address_argument Remote (value_after (codes "--dst=") argument)
+    else letters_argument argument
 
 -- what an option is parsed as
 abbrev pub option_argument : List ℕ → Argument
-option_argument word =
-    if bytes_eq word (codes "--") then argument.EndOfOptions
-    else if bytes_eq word (codes "--help") || bytes_eq word (codes "-h") then argument.Help
-    else if bytes_eq word (codes "--version") || bytes_eq word (codes "-V") then argument.Version
-    else if bytes_eq word (codes "--utf8") then argument.Utf8
-    else if bytes_eq word (codes "--requests") then argument.Requests
-    else if bytes_eq word (codes "--json") then argument.Json
-    else if bytes_eq word (codes "--vsock") then argument.Sockets (Other Vsock)
-    else if bytes_eq word (codes "--xdp") then argument.Sockets (Other Xdp)
-    else valued_argument word
+option_argument argument =
+    if bytes_eq argument (codes "--") then parsed_as.EndOfOptions
+    else if bytes_eq argument (codes "--help") || bytes_eq argument (codes "-h")
+    then parsed_as.Help
+    else if bytes_eq argument (codes "--version") || bytes_eq argument (codes "-V")
+    then parsed_as.Version
+    else if bytes_eq argument (codes "--utf8") then parsed_as.Utf8
+    else if bytes_eq argument (codes "--requests") then parsed_as.Requests
+    else if bytes_eq argument (codes "--json") then parsed_as.Json
+    else if bytes_eq argument (codes "--vsock") then parsed_as.Sockets (Other Vsock)
+    else if bytes_eq argument (codes "--xdp") then parsed_as.Sockets (Other Xdp)
+    else value_or_letters_argument argument
 
--- What an argument is parsed as, by its place: an option or a file, the name of a family, or a
--- file.
+-- `argument_at place argument`: what an argument is parsed as at its place: as an option or a file,
+-- as the name of a family, or as a file.
 abbrev pub argument_at : Place → List ℕ → Argument
-argument_at place.Any word = if is_file word then argument.File else option_argument word
-argument_at place.Family word = family_argument rejections.UnknownFamily word
-argument_at place.File word = argument.File
+argument_at places.Any argument =
+    if is_file argument then parsed_as.File else option_argument argument
+argument_at places.Family argument = family_argument rejections.UnknownFamily argument
+argument_at places.File argument = parsed_as.File
 
--- The place of the argument after this one: the name of a family after letters that end in f, the
--- name of a file after `--`.
+-- `next_place place parsed`: the place of the argument after one at `place` that is parsed as
+-- `parsed`: the name of a family after letters that end in f, the name of a file after `--` and
+-- from then on.
 abbrev pub next_place : Place → Argument → Place
-next_place place.File a = place.File
-next_place p argument.EndOfOptions = place.File
-next_place p (argument.Letters true) = place.Family
-next_place p a = place.Any
+next_place places.File parsed = places.File
+next_place place parsed_as.EndOfOptions = places.File
+next_place place (parsed_as.Letters true) = places.Family
+next_place place parsed = places.Any
 
--- `parsed p words`: what each of these arguments is parsed as, with its bytes. The first one is at
--- the place `p`.
-abbrev pub parsed : Place → List (List ℕ) → List (Argument × List ℕ)
-parsed p [] = []
-parsed p (word ∷ words) =
-    (argument_at p word, word) ∷ parsed (next_place p (argument_at p word)) words
+-- an argument: its bytes, and what they are parsed as
+pub record ParsedArgument : Type 0 where
+  pub parsed : Argument
+  pub bytes : List ℕ
 
--- the place after all these arguments, the first of which is at the place `p`
+-- `parsed_arguments place arguments`: each of these arguments, with what it is parsed as. The first
+-- one is at this place.
+abbrev pub parsed_arguments : Place → List (List ℕ) → List ParsedArgument
+parsed_arguments place [] = []
+parsed_arguments place (argument ∷ later) =
+    record { parsed = argument_at place argument; bytes = argument }
+    ∷ parsed_arguments (next_place place (argument_at place argument)) later
+
+-- `last_place place arguments`: the place after all these arguments, the first of which is at
+-- `place`
 abbrev pub last_place : Place → List (List ℕ) → Place
-last_place p [] = p
-last_place p (word ∷ words) = last_place (next_place p (argument_at p word)) words
+last_place place [] = place
+last_place place (argument ∷ later) =
+    last_place (next_place place (argument_at place argument)) later
 
--- the argument decides alone what the program does
+-- the argument alone decides what the program does
 abbrev pub decides : Argument → Bool
-decides argument.Help = true
-decides argument.Version = true
-decides (argument.Rejected reason) = true
-decides a = false
+decides parsed_as.Help = true
+decides parsed_as.Version = true
+decides (parsed_as.Rejected reason) = true
+decides parsed = false
 
 -- the argument is the name of a file
 abbrev pub names_file : Argument → Bool
-names_file argument.File = true
-names_file a = false
+names_file parsed_as.File = true
+names_file parsed = false
 
 -- ---- the command line
 
--- the conditions `f`, with this one on the port of an end instead of any other one
+-- `with_end_port end condition filter`: the conditions `filter`, with this one on the port of the
+-- end in place of any other one on it
 abbrev pub with_end_port : End → PortCondition → SocketFilter → SocketFilter
-with_end_port Local condition f = record f { source_port = Some condition }
-with_end_port Remote condition f = record f { destination_port = Some condition }
+with_end_port Local condition filter = record filter { source_port = Some condition }
+with_end_port Remote condition filter = record filter { destination_port = Some condition }
 
--- the conditions `f`, with this one on the address of an end instead of any other one
+-- `with_end_address end condition filter`: the conditions `filter`, with this one on the address of
+-- the end in place of any other one on it
 abbrev pub with_end_address : End → AddressCondition → SocketFilter → SocketFilter
-with_end_address Local condition f = record f { source_address = Some condition }
-with_end_address Remote condition f = record f { destination_address = Some condition }
+with_end_address Local condition filter = record filter { source_address = Some condition }
+with_end_address Remote condition filter = record filter { destination_address = Some condition }
 
--- `with_argument o a word`: the options `o`, and those of an argument with the bytes `word` that is
--- parsed as `a`. Letters follow a hyphen. A long name means what its letter means. States add up.
--- Of several conditions on the same port or address the last one counts.
+-- `with_argument options parsed argument`: `options`, and the options of the argument, which is
+-- parsed as `parsed`. Letters follow a hyphen, so that an argument of letters is not empty. A long
+-- name means what its letter means. States add up. Of several conditions on the same port or
+-- address the last one counts.
 abbrev pub with_argument : Options → Argument → List ℕ → Options
-with_argument o argument.Utf8 word = record o { utf8 = true }
-with_argument o argument.Requests word = record o { requests = true }
-with_argument o argument.Json word = record o { json = true }
-with_argument o (argument.Sockets family) word = with_family family o
-with_argument o (argument.States states) word =
-    record o { filter = record o.filter { states = bit_or o.filter.states states } }
-with_argument o (argument.Port end condition) word =
-    record o { filter = with_end_port end condition o.filter }
-with_argument o (argument.Address end condition) word =
-    record o { filter = with_end_address end condition o.filter }
-with_argument o (argument.Letters needs) word =
-    if length word == 0 then o else with_letters (drop 1 word) o
-with_argument o (argument.Letter letter) word = with_letters (letter ∷ []) o
-with_argument o a word = o
+with_argument options parsed_as.Utf8 argument = record options { utf8 = true }
+with_argument options parsed_as.Requests argument = record options { requests = true }
+with_argument options parsed_as.Json argument = record options { json = true }
+with_argument options (parsed_as.Sockets family) argument = with_family family options
+with_argument options (parsed_as.States states) argument = record options {
+  filter = record options.filter { states = bit_or options.filter.states states };
+}
+with_argument options (parsed_as.Port end condition) argument =
+    record options { filter = with_end_port end condition options.filter }
+with_argument options (parsed_as.Address end condition) argument =
+    record options { filter = with_end_address end condition options.filter }
+with_argument options (parsed_as.Letters needs_family) argument =
+    if length argument == 0 then options else with_letters (drop 1 argument) options
+with_argument options (parsed_as.Letter letter) argument = with_letters (letter ∷ []) options
+with_argument options parsed argument = options
 
 -- the options of a command line without options: none is set
 abbrev pub no_options : Options
@@ -363,27 +405,39 @@ no_options = record {
   };
 }
 
--- the options of all these arguments, the first of which is at the place `p`, added to `o`
+-- `options_after options place arguments`: these options, and those of all these arguments, the
+-- first of which is at this place
 abbrev pub options_after : Options → Place → List (List ℕ) → Options
-options_after o p words = fold (λ before a. with_argument before a.0 a.1) o (parsed p words)
+options_after options place arguments =
+    fold (λ before argument. with_argument before argument.parsed argument.bytes) options
+    (parsed_arguments place arguments)
 
--- the first of these arguments that decides alone what the program does, and what it is parsed as
-abbrev pub first_deciding : Place → List (List ℕ) → Option (Argument × List ℕ)
-first_deciding p words = find (λ a. decides a.0) (parsed p words)
+-- `first_deciding_argument place arguments`: the first of these arguments that alone decides what
+-- the program does; None if none does. The first argument is at this place.
+abbrev pub first_deciding_argument : Place → List (List ℕ) → Option ParsedArgument
+first_deciding_argument place arguments =
+    find (λ argument. decides argument.parsed) (parsed_arguments place arguments)
 
--- The request of the arguments after the program's name. If an argument decides, the first one that
--- does is the request: `--help` or `-h`, `--version` or `-V`, or an argument that is rejected, with
--- the reason. Else the name of a family is missing if the last argument is letters that end in f.
--- Else captures are listed with the options of all arguments.
+-- what the first argument that decides is parsed as
+abbrev pub decision_of : List (List ℕ) → Option Argument
+decision_of arguments =
+    option_map (λ argument. argument.parsed) (first_deciding_argument places.Any arguments)
+
+-- `IsChoice arguments choice`: the arguments after the program's name request `choice`. If an
+-- argument decides, the first one that does is the request: `--help` or `-h`, `--version` or `-V`,
+-- or an argument that is rejected, with the reason. Else the name of a family is missing if the
+-- last argument is letters that end in f. Else captures are listed with the options of all
+-- arguments.
 abbrev pub IsChoice : List (List ℕ) → Choice → Type 0
-IsChoice words choice.Help =
-    option_map (λ a. a.0) (first_deciding place.Any words) ≡ Some argument.Help
-IsChoice words choice.Version =
-    option_map (λ a. a.0) (first_deciding place.Any words) ≡ Some argument.Version
-IsChoice words (choice.Reject reason word) =
-    first_deciding place.Any words ≡ Some (argument.Rejected reason, word.now)
-IsChoice words choice.MissingFamily =
-    (first_deciding place.Any words ≡ None) × (last_place place.Any words ≡ place.Family)
-IsChoice words (choice.Captures options) =
-    (first_deciding place.Any words ≡ None) × (last_place place.Any words ≢ place.Family)
-    × (options ≡ options_after no_options place.Any words)
+IsChoice arguments choices.Help = decision_of arguments ≡ Some parsed_as.Help
+IsChoice arguments choices.Version = decision_of arguments ≡ Some parsed_as.Version
+IsChoice arguments (choices.Reject reason argument) =
+    first_deciding_argument places.Any arguments
+    ≡ Some (record { parsed = parsed_as.Rejected reason; bytes = argument.now })
+IsChoice arguments choices.MissingFamily =
+    (first_deciding_argument places.Any arguments ≡ None)
+    × (last_place places.Any arguments ≡ places.Family)
+IsChoice arguments (choices.Captures options) =
+    (first_deciding_argument places.Any arguments ≡ None)
+    × (last_place places.Any arguments ≢ places.Family)
+    × (options ≡ options_after no_options places.Any arguments)

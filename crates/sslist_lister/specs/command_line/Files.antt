@@ -1,33 +1,35 @@
 -- The captures that a command line names, and the exit status.
-use Rattle.std.specs.Prelude.{ℕ, ◌==◌, if◌then◌else◌, List, [], ◌∷◌, Option, Some, None, filter}
-use Rattle.std.specs.Prelude.{bytes_eq, codes, fold, map}
-use Rattle.sslist_lister.specs.command_line.Choice.{names_file, parsed}
+use Rattle.std.specs.Prelude.{◌≡◌, ℕ, ◌==◌, if◌then◌else◌, List, [], ◌∷◌, ◌++◌, Option, Some, None}
+use Rattle.std.specs.Prelude.{bytes_eq, codes, filter, fold, map}
+use Rattle.sslist_lister.specs.command_line.Choice.{names_file, parsed_arguments}
 use Rattle.sslist_lister.specs.declared.command_line.arguments.Place.{Place}
 use Rattle.sslist_lister.specs.declared.command_line.arguments.Place.TheVariants.{Any}
 
--- A capture that was listed: the name of the file, or None for standard input, and the exit status
--- of the listing.
+-- A capture that was listed.
 pub record Listing : Type 0 where
   -- the name of the file, or None for standard input
   pub name : Option (List ℕ)
   -- the exit status of the listing
   pub status : ℕ
 
--- a capture of this name that was listed with this status
+-- `listing name status`: a capture of this name that was listed with this status
 abbrev pub listing : Option (List ℕ) → ℕ → Listing
 listing name status = record { name = name; status = status }
 
 -- the name of a listed capture
 abbrev pub listing_name : Listing → Option (List ℕ)
-listing_name one = one.name
+listing_name listed = listed.name
 
 -- the exit status of a listed capture
 abbrev pub listing_status : Listing → ℕ
-listing_status one = one.status
+listing_status listed = listed.status
 
--- the names of files among these arguments, the first of which is at the place `p`
+-- `files_from place arguments`: the names of files among these arguments, the first of which is at
+-- this place
 abbrev pub files_from : Place → List (List ℕ) → List (List ℕ)
-files_from p words = map (λ a. a.1) (filter (λ a. names_file a.0) (parsed p words))
+files_from place arguments =
+    map (λ argument. argument.bytes)
+    (filter (λ argument. names_file argument.parsed) (parsed_arguments place arguments))
 
 -- the capture in the file of this name, or the one on standard input (None) if the name is `-`
 abbrev pub capture_named : List ℕ → Option (List ℕ)
@@ -40,8 +42,27 @@ files_or_input (file ∷ files) = map capture_named (file ∷ files)
 
 -- the captures that the arguments name, in order
 abbrev pub captures_in : List (List ℕ) → List (Option (List ℕ))
-captures_in words = files_or_input (files_from Any words)
+captures_in arguments = files_or_input (files_from Any arguments)
+
+-- `later_failure before status`: `status` unless it is 0, or else `before`
+abbrev pub later_failure : ℕ → ℕ → ℕ
+later_failure before status = if status == 0 then before else status
 
 -- the last status that is not 0, or 0 if all are
 abbrev pub last_failure : List ℕ → ℕ
-last_failure statuses = fold (λ before status. if status == 0 then before else status) 0 statuses
+last_failure statuses = fold later_failure 0 statuses
+
+-- ---- what a lister has listed: `listed listings` states that it has listed these captures
+
+-- `AddsListing listed listed' one`: the capture `one` was listed. If the captures `before` had been
+-- listed (`listed before`), then `before` and after them `one` have been listed now (`listed'`).
+abbrev pub AddsListing : (List Listing → Type 0) → (List Listing → Type 0) → Listing → Type 0
+AddsListing listed listed' one =
+    (before : List Listing) → listed before → listed' (before ++ one ∷ [])
+
+-- `ListsAll listed arguments status`: all captures that the arguments name were listed, in order,
+-- and `status` is the last one of theirs that is not 0, or else 0.
+abbrev pub ListsAll : (List Listing → Type 0) → List (List ℕ) → ℕ → Type 0
+ListsAll listed arguments status = (listings : List Listing) × listed listings
+    × (map listing_name listings ≡ captures_in arguments)
+    × (status ≡ last_failure (map listing_status listings))

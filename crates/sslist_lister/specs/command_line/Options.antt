@@ -8,78 +8,88 @@ use Rattle.sslist_lister.specs.declared.command_line.options.Family.{Family}
 use Rattle.sslist_lister.specs.declared.command_line.options.Family.TheVariants.{Netlink, Packet}
 use Rattle.sslist_lister.specs.declared.command_line.options.Family.TheVariants.{Vsock, Xdp}
 use Rattle.sslist_lister.specs.declared.command_line.options.Options.{Options}
+use Rattle.sock_diag_records.specs.declared.constants.TheConstants.{TCP_CLOSE, TCP_LISTEN}
 use Rattle.sslist_lister.specs.declared.command_line.options.TheConstants.{IPPROTO_MPTCP}
 use Rattle.sslist_lister.specs.declared.command_line.options.TheConstants.{IPPROTO_TCP, IPPROTO_UDP}
 use Rattle.sslist_lister.specs.command_line.Filter.{has_endpoint_condition, has_state}
 
--- the option of this group of details is set
-abbrev pub is_detail_selected : Options → Detail → Bool
-is_detail_selected o Timer = o.timer
-is_detail_selected o Extended = o.extended
-is_detail_selected o Memory = o.memory
-is_detail_selected o Connection = o.connection
+-- `selects_detail options detail`: the option of this group of details is set
+abbrev pub selects_detail : Options → Detail → Bool
+selects_detail options Timer = options.timer
+selects_detail options Extended = options.extended
+selects_detail options Memory = options.memory
+selects_detail options Connection = options.connection
 
--- A group of details is shown if its option is set, or if no option for details is.
+-- `shows_detail options detail`: this group of details is shown: its option is set, or the option
+-- of no group is.
 abbrev pub shows_detail : Options → Detail → Bool
-shows_detail o detail = is_detail_selected o detail
-    || not (o.timer || o.extended || o.memory || o.connection)
+shows_detail options detail = selects_detail options detail
+    || not (options.timer || options.extended || options.memory || options.connection)
 
--- the option of a protocol of IPv4 and IPv6 sockets is set
+-- the option of a protocol of IPv4 and IPv6 sockets is set: TCP, UDP or MPTCP
 abbrev pub selects_inet_protocol : Options → Bool
-selects_inet_protocol o = o.tcp || o.udp || o.mptcp
+selects_inet_protocol options = options.tcp || options.udp || options.mptcp
 
 -- the option of a family other than IPv4 and IPv6 is set
 abbrev pub selects_other_family : Options → Bool
-selects_other_family o = o.unix || o.netlink || o.packet || o.vsock || o.xdp
+selects_other_family options =
+    options.unix || options.netlink || options.packet || options.vsock || options.xdp
 
 -- an option that selects sockets is set
 abbrev pub selects_sockets : Options → Bool
-selects_sockets o = selects_inet_protocol o || o.inet || o.inet6 || selects_other_family o
+selects_sockets options =
+    selects_inet_protocol options || options.inet || options.inet6 || selects_other_family options
 
--- Sockets in this state are listed: in the states of `--state`, if there are any. Else in any
--- state, or with `-l` only in 10 (TCP_LISTEN) and 7 (TCP_CLOSE), as in ss(8).
+-- `lists_state options state`: sockets in this state are listed. If there is an option `--state`
+-- (`states` is not 0), its states are listed. Else all states are, or with `-l` only TCP_LISTEN and
+-- TCP_CLOSE, as in ss(8).
 abbrev pub lists_state : Options → ℕ → Bool
-lists_state o state =
-    if not (o.filter.states == 0) then has_state o.filter.states state
-    else not o.listening || state == 10 || state == 7
+lists_state options state =
+    if not (options.filter.states == 0) then has_state options.filter.states state
+    else not options.listening || state == TCP_LISTEN || state == TCP_CLOSE
 
--- A UNIX socket in this state is listed if `-x` is set or no option that selects sockets is, if
--- sockets in this state are listed, and if there is no condition on a port or an address.
+-- `lists_unix options state`: a UNIX socket in this state is listed. Three conditions must hold:
+-- `-x` is set, or no option that selects sockets is; sockets in this state are listed; and there is
+-- no condition on a port or an address of an IPv4 or IPv6 socket.
 abbrev pub lists_unix : Options → ℕ → Bool
-lists_unix o state =
-    (o.unix || not (selects_sockets o)) && lists_state o state
-    && not (has_endpoint_condition o.filter)
+lists_unix options state =
+    (options.unix || not (selects_sockets options)) && lists_state options state
+    && not (has_endpoint_condition options.filter)
 
--- The option of this protocol is set. None is a protocol that is not known, which can be any of the
--- three.
+-- `selects_protocol options protocol`: the option of this protocol, a number IPPROTO_.., is set.
+-- None is a protocol that is not known, which can be any of the three.
 abbrev pub selects_protocol : Options → Option ℕ → Bool
-selects_protocol o None = o.tcp || o.udp || o.mptcp
-selects_protocol o (Some protocol) =
-    if protocol == IPPROTO_TCP then o.tcp else if protocol == IPPROTO_UDP then o.udp
-    else if protocol == IPPROTO_MPTCP then o.mptcp else false
+selects_protocol options None = options.tcp || options.udp || options.mptcp
+selects_protocol options (Some protocol) =
+    if protocol == IPPROTO_TCP then options.tcp else if protocol == IPPROTO_UDP then options.udp
+    else if protocol == IPPROTO_MPTCP then options.mptcp else false
 
--- IPv4 and IPv6 sockets of a protocol are listed if its option is set; or if the option of no
--- protocol is, and either `-4` or `-6` is, or no option of another family.
+-- `lists_protocol options protocol`: IPv4 and IPv6 sockets of this protocol are listed. They are if
+-- the option of the protocol is set. If the option of no protocol is set, they also are if `-4` or
+-- `-6` is set, or if the option of no other family is.
 abbrev pub lists_protocol : Options → Option ℕ → Bool
-lists_protocol o protocol = selects_protocol o protocol
-    || (not (selects_inet_protocol o) && (o.inet || o.inet6 || not (selects_other_family o)))
+lists_protocol options protocol = selects_protocol options protocol
+    || (not (selects_inet_protocol options)
+    && (options.inet || options.inet6 || not (selects_other_family options)))
 
--- IPv6 sockets are listed, or else IPv4 sockets: the option of this family is set, or neither of
--- both is
+-- `lists_version options is_ipv6`: IPv6 sockets are listed, or IPv4 sockets if `is_ipv6` is false:
+-- the option of this version is set, or the option of the other one is not
 abbrev pub lists_version : Options → Bool → Bool
-lists_version o is_ipv6 = if is_ipv6 then o.inet6 || not o.inet else o.inet || not o.inet6
+lists_version options is_ipv6 =
+    if is_ipv6 then options.inet6 || not options.inet else options.inet || not options.inet6
 
--- the option of this family is set
+-- `selects_family options family`: the option of this family is set
 abbrev pub selects_family : Options → Family → Bool
-selects_family o Netlink = o.netlink
-selects_family o Packet = o.packet
-selects_family o Vsock = o.vsock
-selects_family o Xdp = o.xdp
+selects_family options Netlink = options.netlink
+selects_family options Packet = options.packet
+selects_family options Vsock = options.vsock
+selects_family options Xdp = options.xdp
 
--- A socket of this family in this state is listed if the option of the family is set or no option
--- that selects sockets is, if sockets in this state are listed, and if there is no condition on a
--- port or an address.
+-- `lists_family options family state`: a socket of this family in this state is listed. Three
+-- conditions must hold: the option of the family is set, or no option that selects sockets is;
+-- sockets in this state are listed; and there is no condition on a port or an address of an IPv4 or
+-- IPv6 socket.
 abbrev pub lists_family : Options → Family → ℕ → Bool
-lists_family o family state =
-    (selects_family o family || not (selects_sockets o)) && lists_state o state
-    && not (has_endpoint_condition o.filter)
+lists_family options family state =
+    (selects_family options family || not (selects_sockets options)) && lists_state options state
+    && not (has_endpoint_condition options.filter)

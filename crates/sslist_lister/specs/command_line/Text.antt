@@ -4,21 +4,29 @@ use Rattle.std.specs.Prelude.{if◌then◌else◌, List, [], ◌∷◌, Option, 
 use Rattle.std.specs.Prelude.{option_and_then}
 use Rattle.std.specs.List.{position_from}
 
--- the index of the first byte that is equal to `byte`; None if there is none
+-- `index_of byte text`: the index of the first byte of the text that is equal to `byte`; None if
+-- there is none
 abbrev pub index_of : (byte : ℕ) → List ℕ → Option ℕ
-index_of byte text = position_from (λ c. c == byte) 0 text
+index_of byte text = position_from (λ other. other == byte) 0 text
 
--- a number with one more decimal digit, whose byte is `c` (48 to 57); None if it is not a digit or
--- the number exceeds 65535
+-- `appended_digit number digit`: the number with one more decimal digit. The digit is a byte: `0`
+-- is 48.
+abbrev pub appended_digit : ℕ → ℕ → ℕ
+appended_digit number digit = number * 10 + (digit - 48)
+
+-- `with_digit number digit`: the number with one more decimal digit (`appended_digit`); None if the
+-- byte is not a digit, from 48 to 57, or if the result exceeds 65535
 abbrev pub with_digit : ℕ → ℕ → Option ℕ
-with_digit n c =
-    if not (nat_le 48 c && nat_le c 57) || nat_lt 65535 (n * 10 + (c - 48)) then None
-    else Some (n * 10 + (c - 48))
+with_digit number digit =
+    if not (nat_le 48 digit && nat_le digit 57) || nat_lt 65535 (appended_digit number digit)
+    then None else Some (appended_digit number digit)
 
--- the number `n` with these further decimal digits
+-- `with_digits number digits`: the number with these further decimal digits; None if one of them is
+-- not a digit, or if the result exceeds 65535
 abbrev pub with_digits : ℕ → List ℕ → Option ℕ
-with_digits n [] = Some n
-with_digits n (c ∷ digits) = option_and_then (λ longer. with_digits longer digits) (with_digit n c)
+with_digits number [] = Some number
+with_digits number (digit ∷ later) =
+    option_and_then (λ longer. with_digits longer later) (with_digit number digit)
 
 -- the number with these decimal digits, at least one; None if a byte is not a digit, or if the
 -- number exceeds 65535

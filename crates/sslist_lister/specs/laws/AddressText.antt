@@ -88,3 +88,6 @@ pub parsed_is_ip_in : {E : Type 0} (text : List ℕ) (r : Result IpAddr E)
 parsed_is_ip_in text (Ok a) h = sym (ip_in_complete text a h)
 parsed_is_ip_in text (Err e) h =
     sym (none_if_no_value _ (λ a read. h a (ip_in_sound text a read)))
+
+-- what a parsed address is
+pub ruleset ip_text_rules = (parsed_is_ip_in, ip_in_is_ip_text)

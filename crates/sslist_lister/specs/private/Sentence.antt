@@ -8,7 +8,7 @@ use Rattle.sslist_lister.specs.declared.error_text.Sentence.TheVariants.{One, Pl
 
 -- the text of a sentence
 abbrev pub sentence_text : Sentence → List ℕ
-sentence_text (Plain words) = words.now
+sentence_text (Plain plain) = plain.now
 sentence_text (One before n after) = before.now ++ decimal n ++ after.now
 sentence_text (Two before first between second after) =
     before.now ++ decimal first ++ between.now ++ decimal second ++ after.now

@@ -1,15 +1,18 @@
 -- Cells of a line of the table. Texts are lists of ASCII codes.
-use Rattle.std.specs.Prelude.{ℕ, ◌-◌, ◌==◌, if◌then◌else◌, Bool, List, [], ◌∷◌, ◌++◌, length}
-use Rattle.std.specs.Prelude.{replicate, codes, decimal, Option, None, Some, slice_get, unwrap_or}
+use Rattle.std.specs.Prelude.{ℕ, ◌==◌, if◌then◌else◌, Bool, List, [], ◌∷◌, ◌++◌, codes, decimal}
+use Rattle.std.specs.Prelude.{length, Option, None, Some, slice_get, unwrap_or}
 use Rattle.std.specs.declared.net.ip_addr.IpAddr.{IpAddr}
 use Rattle.std.specs.declared.net.ip_addr.IpAddr.TheVariants.{V4, V6}
 use Rattle.std.specs.Net.Text.{ip_text, scope_text}
-use Rattle.sslist_lister.specs.texts.Widths.{name_column}
+use Rattle.sslist_lister.specs.declared.texts.cells.TheConstants.{INODE_WIDTH, NETID_WIDTH}
+use Rattle.sslist_lister.specs.declared.texts.cells.TheConstants.{QUEUE_WIDTH, STATE_WIDTH}
+use Rattle.sslist_lister.specs.declared.texts.cells.TheConstants.{UID_WIDTH}
+use Rattle.sslist_lister.specs.texts.Widths.{column_padding, name_column}
 
--- A column: the content, padded with spaces (32) to a width, and one more space. Longer content is
--- not cut.
+-- `column width content`: the content, padded with spaces to a width, and one more space. Longer
+-- content is not cut.
 abbrev pub column : ℕ → List ℕ → List ℕ
-column width content = content ++ replicate (width - length content) 32 ++ 32 ∷ []
+column width content = content ++ column_padding width (length content)
 
 -- a number in decimal, or `-` for None
 abbrev pub number_cell : Option ℕ → List ℕ
@@ -27,22 +30,22 @@ state_names =
 abbrev pub state_name : ℕ → List ℕ
 state_name state = unwrap_or (slice_get state_names state) (codes "UNKNOWN")
 
--- the inode of the peer in decimal, or `*` for None
+-- a number in decimal, such as the inode of a UNIX socket's peer, or `*` for None
 abbrev pub number_or_star : Option ℕ → List ℕ
 number_or_star None = codes "*"
 number_or_star (Some n) = decimal n
 
 -- an address, in brackets (91 and 93) if it is an IPv6 address
 abbrev pub bracketed_address : IpAddr → List ℕ
-bracketed_address (V4 a) = ip_text (V4 a)
-bracketed_address (V6 a) = 91 ∷ ip_text (V6 a) ++ 93 ∷ []
+bracketed_address (V4 ip) = ip_text (V4 ip)
+bracketed_address (V6 ip) = 91 ∷ ip_text (V6 ip) ++ 93 ∷ []
 
 -- a port in decimal, or `*` for 0
 abbrev pub port_text : ℕ → List ℕ
 port_text port = if port == 0 then codes "*" else decimal port
 
--- An address, a scope, a colon (58) and a port. The scope is `%` and the interface number, or
--- nothing if the number is 0.
+-- `endpoint address interface port`: an address, a scope, a colon (58) and a port. The scope is `%`
+-- and the interface number, or nothing if the number is 0.
 abbrev pub endpoint : IpAddr → ℕ → ℕ → List ℕ
 endpoint address interface port =
     bracketed_address address ++ scope_text interface ++ 58 ∷ port_text port
@@ -58,22 +61,28 @@ pub record FirstColumns : Type 0 where
   pub receive_queue : Option ℕ
   -- the column Send-Q
   pub send_queue : Option ℕ
+  -- the column Inode
   pub inode : ℕ
+  -- the column Uid
   pub uid : Option ℕ
 
--- the first columns of a line, with their widths
+-- the first columns of a line, each padded to its width, and with one more space
 abbrev pub first_columns : FirstColumns → List ℕ
-first_columns c =
-    column 5 c.kind ++ column 10 (state_name c.state) ++ column 6 (number_cell c.receive_queue)
-    ++ column 6 (number_cell c.send_queue) ++ column 10 (decimal c.inode)
-    ++ column 5 (number_cell c.uid)
+first_columns cells =
+    column NETID_WIDTH cells.kind
+    ++ column STATE_WIDTH (state_name cells.state)
+    ++ column QUEUE_WIDTH (number_cell cells.receive_queue)
+    ++ column QUEUE_WIDTH (number_cell cells.send_queue)
+    ++ column INODE_WIDTH (decimal cells.inode)
+    ++ column UID_WIDTH (number_cell cells.uid)
 
--- A line without its details: the first columns, then the local address, padded to 30 characters,
--- then the peer's, which is not padded.
+-- `table_line cells local peer`: a line without its details: the first columns, then the local
+-- address, padded to 30 characters, then the peer's, which is not padded
 abbrev pub table_line : FirstColumns → List ℕ → List ℕ → List ℕ
-table_line c local peer = first_columns c ++ column 30 local ++ peer
+table_line cells local peer = first_columns cells ++ column 30 local ++ peer
 
--- the line of a socket with a name, without its details: as `table_line`, with the cell of the name
--- as the local address
+-- `named_line utf8 cells name peer`: the line of a socket with a name, without its details: as
+-- `table_line`, with the cell of the name in place of the local address. Its width is measured by
+-- `name_column`.
 abbrev pub named_line : Bool → FirstColumns → List ℕ → List ℕ → List ℕ
-named_line utf8 c name peer = first_columns c ++ name_column utf8 30 name ++ peer
+named_line utf8 cells name peer = first_columns cells ++ name_column utf8 30 name ++ peer

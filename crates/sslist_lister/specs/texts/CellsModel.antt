@@ -4,11 +4,11 @@ use Rattle.sslist_lister.specs.texts.Cells.{FirstColumns}
 
 -- the same fields, and the bytes of `kind` for the reference to them
 abbrev pub cells_model : Cells → FirstColumns
-cells_model c = record {
-  kind = c.kind.now;
-  state = c.state;
-  receive_queue = c.receive_queue;
-  send_queue = c.send_queue;
-  inode = c.inode;
-  uid = c.uid;
+cells_model cells = record {
+  kind = cells.kind.now;
+  state = cells.state;
+  receive_queue = cells.receive_queue;
+  send_queue = cells.send_queue;
+  inode = cells.inode;
+  uid = cells.uid;
 }

@@ -14,18 +14,21 @@ use Rattle.ucd_category.specs.declared.GeneralCategory.{GeneralCategory}
 use Rattle.ucd_category.specs.declared.GeneralCategoryGroup.TheVariants.{Letter, Number}
 use Rattle.ucd_category.specs.declared.GeneralCategoryGroup.TheVariants.{Punctuation, Symbol}
 use Rattle.unicode.specs.Binary.{is_default_ignorable_code_point}
+use Rattle.sslist_lister.specs.declared.texts.names.TheConstants.{BRAILLE_BLANK, NULL_NOTEHEAD}
+use Rattle.sslist_lister.specs.declared.texts.names.TheConstants.{HIEROGLYPH_FULL_BLANK}
+use Rattle.sslist_lister.specs.declared.texts.names.TheConstants.{HIEROGLYPH_HALF_BLANK}
 
 -- a byte that is shown unchanged: from `!` (33) to `~` (126), except the backslash (92)
 abbrev pub is_printable_byte : ℕ → Bool
-is_printable_byte c = (nat_le 33 c && nat_le c 126) && (if c == 92 then false else true)
+is_printable_byte byte = (nat_le 33 byte && nat_le byte 126) && not (byte == 92)
 
 -- a backslash (92), `x` (120) and the two lowercase hexadecimal digits of a byte
 abbrev pub byte_digits : ℕ → List ℕ
-byte_digits c = 92 ∷ 120 ∷ encode_lower (c ∷ [])
+byte_digits byte = 92 ∷ 120 ∷ encode_lower (byte ∷ [])
 
 -- a printable byte unchanged, any other as `\x` and two digits
 abbrev pub escaped_byte : ℕ → List ℕ
-escaped_byte c = if is_printable_byte c then c ∷ [] else byte_digits c
+escaped_byte byte = if is_printable_byte byte then byte ∷ [] else byte_digits byte
 
 -- An argument or the name of a file as it is shown on standard error: each byte as it is escaped,
 -- or `''` if there is none.
@@ -37,8 +40,8 @@ shown_argument bytes = if length bytes == 0 then codes "''" else flat_map escape
 -- The general categories of characters that `--utf8` shows: letters, numbers, punctuation and
 -- symbols. The others are marks, separators, controls, format characters, surrogates, private use
 -- and unassigned.
-abbrev pub is_visible : GeneralCategory → Bool
-is_visible category =
+abbrev pub is_visible_category : GeneralCategory → Bool
+is_visible_category category =
     in_group Letter category || in_group Number category || in_group Punctuation category
     || in_group Symbol category
 
@@ -54,29 +57,32 @@ is_left_to_right bidi_class_variants.CommonSeparator = true
 is_left_to_right bidi_class_variants.OtherNeutral = true
 is_left_to_right _ = false
 
--- Visible characters by their category that are blank: fillers, which programs may ignore
--- (Default_Ignorable_Code_Point), BRAILLE PATTERN BLANK, MUSICAL SYMBOL NULL NOTEHEAD, and two
--- blanks of EGYPTIAN HIEROGLYPHS.
+-- Characters that are blank although their category is visible: fillers, which programs may ignore
+-- (Default_Ignorable_Code_Point), BRAILLE PATTERN BLANK, MUSICAL SYMBOL NULL NOTEHEAD, and EGYPTIAN
+-- HIEROGLYPH FULL BLANK and HALF BLANK.
 abbrev pub is_blank : ℕ → Bool
-is_blank c =
-    is_default_ignorable_code_point c || c == 0x2800 || c == 0x1d159 || c == 0x13441 || c == 0x13442
+is_blank character =
+    is_default_ignorable_code_point character || character == BRAILLE_BLANK
+    || character == NULL_NOTEHEAD || character == HIEROGLYPH_FULL_BLANK
+    || character == HIEROGLYPH_HALF_BLANK
 
 -- A character that `--utf8` shows: it is not ASCII, its general category is visible, it is written
 -- from left to right, and it is not blank. So none is a control, separator, format or combining
 -- character, unassigned, or written from right to left.
 unfoldable pub is_shown_character : ℕ → Bool
-is_shown_character c =
-    nat_le 0x80 c && (is_visible (general_category c) && (is_left_to_right (bidi_class c)
-    && not (is_blank c)))
+is_shown_character character =
+    nat_le 0x80 character && (is_visible_category (general_category character)
+    && (is_left_to_right (bidi_class character) && not (is_blank character)))
 
 -- The UTF-8 bytes of a character (its code point). They are unchanged if `is_shown_character`
 -- holds. Else each byte is escaped if it is not printable.
 abbrev pub shown_character : ℕ → List ℕ
-shown_character c = if is_shown_character c then encode_utf8 c
-    else flat_map escaped_byte (encode_utf8 c)
+shown_character character =
+    if is_shown_character character then encode_utf8 character
+    else flat_map escaped_byte (encode_utf8 character)
 
--- A name as it is shown: character by character if `utf8` is set and the bytes are valid UTF-8, or
--- else byte by byte.
+-- `shown_name utf8 bytes`: a name as it is shown: character by character if `utf8` is set and the
+-- bytes are valid UTF-8, or else byte by byte.
 abbrev pub shown_name : Bool → List ℕ → List ℕ
 shown_name utf8 bytes =
     if utf8 && is_utf8 bytes then flat_map shown_character (chars bytes)
@@ -84,31 +90,32 @@ shown_name utf8 bytes =
 
 -- a character from `!` (33) to `~` (126), or one that `--utf8` shows
 abbrev pub is_visible_character : ℕ → Bool
-is_visible_character c = (nat_le 33 c && nat_le c 126) || is_shown_character c
+is_visible_character character =
+    (nat_le 33 character && nat_le character 126) || is_shown_character character
 
 -- The text is the UTF-8 of visible characters. So it has no space, no control character (C0 or C1),
 -- and no format character such as those that control the direction of writing.
 abbrev pub IsVisibleText : List ℕ → Type 0
 IsVisibleText text =
-    (cs : List ℕ) × (text ≡ flat_map encode_utf8 cs)
-    × AllByRecursion (λ (c : ℕ). is_visible_character c ≡ true) cs
+    (characters : List ℕ) × (text ≡ flat_map encode_utf8 characters)
+    × AllByRecursion (λ (character : ℕ). is_visible_character character ≡ true) characters
 
 -- ---- the name that a shown text represents
 
 -- the value of a hexadecimal digit: `a` to `f` are 97 to 102, `0` to `9` are 48 to 57
 abbrev pub hex_digit_value : ℕ → ℕ
-hex_digit_value d = if nat_le 97 d then d - 87 else d - 48
+hex_digit_value digit = if nat_le 97 digit then digit - 97 + 10 else digit - 48
 
--- The bytes that a shown text represents, up to the first space (32). A backslash (92) is followed
--- by `x` and two hexadecimal digits, which represent one byte. Every other byte represents itself.
--- `n` is the number of bytes that are skipped first. Example: with `n` 0, the text `a\x20b c`
--- represents the three bytes `a b`.
+-- `unescaped_bytes skipped text`: the bytes that a shown text represents after the first `skipped`
+-- bytes, up to the first space (32). A backslash (92) is followed by `x` and two hexadecimal
+-- digits, which represent one byte. Every other byte represents itself. Example: with none skipped,
+-- the text `a\x20b c` represents the three bytes `a b`.
 unfoldable pub unescaped_bytes : ℕ → List ℕ → List ℕ
-unescaped_bytes n [] = []
-unescaped_bytes (suc n) (c ∷ text) = unescaped_bytes n text
-unescaped_bytes zero (c ∷ text) =
-    if c == 32 then []
-    else if c == 92
+unescaped_bytes skipped [] = []
+unescaped_bytes (suc skipped) (byte ∷ text) = unescaped_bytes skipped text
+unescaped_bytes zero (byte ∷ text) =
+    if byte == 32 then []
+    else if byte == 92
     then (16 * hex_digit_value (slice_index text 1) + hex_digit_value (slice_index text 2))
     ∷ unescaped_bytes 3 text
-    else c ∷ unescaped_bytes 0 text
+    else byte ∷ unescaped_bytes 0 text

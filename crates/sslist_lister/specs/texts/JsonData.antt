@@ -21,7 +21,7 @@ JsonMember = List ℕ × json.Json
 -- members, in order, as `Rattle.json` has them
 abbrev pub members_of : List JsonMember → json.Members
 members_of [] = json.no_members
-members_of (m ∷ later) = json.member m.0 m.1 (members_of later)
+members_of (first ∷ later) = json.member first.0 first.1 (members_of later)
 
 -- the object with these members, in order
 abbrev pub object_of : List JsonMember → json.Json
@@ -40,38 +40,41 @@ array_of items = json.array (items_of items)
 abbrev pub number_value : ℕ → json.Json
 number_value n = json.number (decimal n)
 
--- ---- members
+-- ---- members: each definition is a list of them, so that these lists can be concatenated
 
--- a member whose value is a string
+-- `text_member name text`: the member of this name whose value is a string
 unfoldable pub text_member : List ℕ → List ℕ → List JsonMember
 text_member name text = (name, json.string text) ∷ []
 
--- members whose values are numbers: for each row its name and its number
+-- members whose values are numbers: for each row its name (`.0`) and its number (`.1`)
 unfoldable pub number_members : List (List ℕ × ℕ) → List JsonMember
 number_members rows = map (λ row. (row.0, number_value row.1)) rows
 
--- a member whose value is a number, or no member for None
+-- `optional_member name number`: the member of this name whose value is the number, or no member
+-- for None
 unfoldable pub optional_member : List ℕ → Option ℕ → List JsonMember
 optional_member name None = []
 optional_member name (Some n) = (name, number_value n) ∷ []
 
--- a member whose value is `true` or `false`
+-- `flag_member name flag`: the member of this name whose value is `true` or `false`
 unfoldable pub flag_member : List ℕ → Bool → List JsonMember
 flag_member name flag = (name, json.boolean flag) ∷ []
 
--- a member whose value is an array of numbers
+-- `numbers_member name numbers`: the member of this name whose value is an array of the numbers
 unfoldable pub numbers_member : List ℕ → List ℕ → List JsonMember
 numbers_member name numbers = (name, array_of (map number_value numbers)) ∷ []
 
--- a member whose value is an array
+-- `array_member name items`: the member of this name whose value is the array of the items
 unfoldable pub array_member : List ℕ → List json.Json → List JsonMember
 array_member name items = (name, array_of items) ∷ []
 
--- a member whose value is the object with these members
+-- `object_member name members`: the member of this name whose value is the object with these
+-- members
 unfoldable pub object_member : List ℕ → List JsonMember → List JsonMember
 object_member name members = (name, object_of members) ∷ []
 
--- a member whose value is a string: a number in lowercase hexadecimal digits, without leading zeros
+-- `hex_member name n`: the member of this name whose value is a string: the number `n` in lowercase
+-- hexadecimal digits, without leading zeros (`digits 16 false`: base 16, not in uppercase)
 abbrev pub hex_member : List ℕ → ℕ → List JsonMember
 hex_member name n = text_member name (digits 16 false n)
 
@@ -80,7 +83,7 @@ hex_member name n = text_member name (digits 16 false n)
 abbrev pub cookie_member : List ℕ → List JsonMember
 cookie_member cookie = hex_member (codes "cookie") (little_number 8 cookie)
 
--- a member whose value is the text of an IP address
+-- `address_member name address`: the member of this name whose value is the text of the IP address
 abbrev pub address_member : List ℕ → IpAddr → List JsonMember
 address_member name address = text_member name (ip_text address)
 

@@ -6,23 +6,26 @@ use Rattle.json.specs.Tree.{json_tokens}
 use Rattle.json.specs.Written.{Written}
 use Rattle.sslist_lister.specs.texts.JsonData.{JsonMember}
 
--- the tokens of members of an object
+-- the tokens of members of an object: for each its name (`.0`) and its value (`.1`)
 unfoldable pub members_tokens : List JsonMember → List Token
-members_tokens members = flat_map (λ m. key m.0 ∷ json_tokens m.1) members
+members_tokens members = flat_map (λ member. key member.0 ∷ json_tokens member.1) members
 
 -- the tokens of items of an array
 unfoldable pub items_tokens : List Json → List Token
 items_tokens items = flat_map json_tokens items
 
--- Unless an allocation failed, what the buffer held before the first token is unchanged.
-abbrev pub KeepsTextBefore : {E : Type 0} → Result (Unit {0}) E → Written → Written → Type 0
-KeepsTextBefore r old new = OnOk r (new.before ≡ old.before)
+-- ---- the effect of a function with this result on a writer, with its states before and after
 
--- Unless an allocation failed, these tokens were appended.
+-- `KeepsPrefix result old new`: unless an allocation failed, the bytes that the buffer had before
+-- the writer's first token (`before`) are unchanged.
+abbrev pub KeepsPrefix : {E : Type 0} → Result (Unit {0}) E → Written → Written → Type 0
+KeepsPrefix result old new = OnOk result (new.before ≡ old.before)
+
+-- `AddsTokens result old new tokens`: unless an allocation failed, these tokens were appended.
 abbrev pub AddsTokens : {E : Type 0} → Result (Unit {0}) E → Written → Written → List Token → Type 0
-AddsTokens r old new tokens = OnOk r (new.tokens ≡ old.tokens ++ tokens)
+AddsTokens result old new tokens = OnOk result (new.tokens ≡ old.tokens ++ tokens)
 
--- Unless an allocation failed, these members were appended.
+-- `AddsMembers result old new members`: unless an allocation failed, these members were appended.
 abbrev pub AddsMembers : {E : Type 0} → Result (Unit {0}) E → Written → Written → List JsonMember
     → Type 0
-AddsMembers r old new members = AddsTokens r old new (members_tokens members)
+AddsMembers result old new members = AddsTokens result old new (members_tokens members)

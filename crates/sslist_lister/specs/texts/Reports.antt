@@ -12,27 +12,26 @@ use Rattle.sslist_lister.specs.declared.texts.list_error.ListError.TheVariants a
 
 -- ---- diagnostics of packets
 
--- `packet_line front packet text`: the line with this text about the packet with the number
--- `packet`
+-- `packet_line front number text`: the line with this text about the packet of this number
 abbrev pub packet_line : List ℕ → ℕ → List ℕ → List ℕ
-packet_line front packet text =
-    front ++ codes "packet " ++ decimal packet ++ codes ": " ++ text ++ 10 ∷ []
+packet_line front number text =
+    front ++ codes "packet " ++ decimal number ++ codes ": " ++ text ++ 10 ∷ []
 
--- the text about a truncated packet: how many of its bytes were captured, and its original length
+-- `truncation_text captured whole`: the text about a truncated packet: how many of its bytes were
+-- captured, and its original length
 abbrev pub truncation_text : ℕ → ℕ → List ℕ
 truncation_text captured whole =
     codes "truncated to " ++ decimal captured ++ codes " of " ++ decimal whole ++ codes " bytes"
 
--- `truncation_line front packet captured whole`: the line about the packet with the number
--- `packet`, of whose `whole` bytes only the first `captured` were captured. Nothing if it was not
--- truncated.
+-- `truncation_line front number captured whole`: the line about the packet of this number, of whose
+-- `whole` bytes only the first `captured` were captured. Nothing if it was not truncated.
 abbrev pub truncation_line : List ℕ → ℕ → ℕ → ℕ → List ℕ
-truncation_line front packet captured whole =
-    if nat_lt captured whole then packet_line front packet (truncation_text captured whole) else []
+truncation_line front number captured whole =
+    if nat_lt captured whole then packet_line front number (truncation_text captured whole) else []
 
--- the line about a packet that is shorter than the cooked header
+-- `short_line front number`: the line about a packet that is shorter than the cooked header
 abbrev pub short_line : List ℕ → ℕ → List ℕ
-short_line front packet = packet_line front packet (codes "fewer than 16 bytes")
+short_line front number = packet_line front number (codes "fewer than 16 bytes")
 
 -- ---- failures
 
@@ -51,30 +50,60 @@ list_error_text (errors.Packet packet error) =
 list_error_text (errors.Write error) = output_error_text error
 list_error_text errors.Memory = codes "out of memory"
 
--- the line that names a failure, or nothing if the failure is a closed output pipe
+-- `closing_line front error`: the line that names a failure, or nothing if the failure is a closed
+-- output pipe
 abbrev pub closing_line : List ℕ → ListError → List ℕ
 closing_line front (errors.Write Closed) = []
 closing_line front error = front ++ list_error_text error ++ 10 ∷ []
 
 -- ---- output on a writer: `held` and `held'` are the bytes written before and after, if known
 
--- If the last argument is true: the text was written, and no write failed. If it is false: a prefix
--- of the text was written, and then a write failed. `failed` states that a write failed.
+-- `ReportsText held held' failed text is_open`: if `is_open` is true, the text was written, and no
+-- write failed. Otherwise a prefix of the text was written, and then a write failed, as `failed`
+-- states.
 abbrev pub ReportsText : Option (List ℕ) → Option (List ℕ) → Type 0 → List ℕ → Bool → Type 0
 ReportsText held held' failed text true = Appends held held' text
 ReportsText held held' failed text false =
     (sent more : List ℕ) × (text ≡ sent ++ more) × Appends held held' sent × failed
 
--- a prefix of the text was written, perhaps all of it
+-- `WritesPrefix held held' text`: a prefix of the text was written, perhaps all of it
 abbrev pub WritesPrefix : Option (List ℕ) → Option (List ℕ) → List ℕ → Type 0
 WritesPrefix held held' text =
     (sent more : List ℕ) × (text ≡ sent ++ more) × Appends held held' sent
 
--- The effect of reporting one more text. Each state has the bytes written, whether a write failed,
--- and a flag that is true as long as none did. If the texts `before` had been reported when the
--- first state was reached, then `before ++ text` have been reported when the second state is.
+-- `ReportsMore held failed is_open held' failed' is_open' text`: reporting one more text leads from
+-- the first state to the second. A state is the bytes written (`held`), that a write failed
+-- (`failed`), and a flag that is true as long as none did (`is_open`). For all bytes `start` and
+-- texts `before`: if `before` was reported from `start` to the first state, then `before ++ text`
+-- is from `start` to the second.
 abbrev pub ReportsMore : Option (List ℕ) → Type 0 → Bool → Option (List ℕ) → Type 0 → Bool
     → List ℕ → Type 0
 ReportsMore held failed is_open held' failed' is_open' text =
     (start : Option (List ℕ)) → (before : List ℕ) → ReportsText start held failed before is_open
     → ReportsText start held' failed' (before ++ text) is_open'
+
+-- a state of standard error and of the flag that is true as long as no write failed
+pub record ErrorOutput : Type 1 where
+  -- the bytes written, if known
+  pub held : Option (List ℕ)
+  -- a write failed
+  pub failed : Type 0
+  -- no write failed until now
+  pub is_open : Bool
+
+-- `error_output held failed is_open`: the state with these bytes written and this flag. `failed
+-- error` states that a write failed with this error; the state contains that a write failed with
+-- some error.
+abbrev pub error_output : Option (List ℕ) → (WriteError → Type 0) → Bool → ErrorOutput
+error_output held failed is_open = record {
+  held = held;
+  failed = (error : WriteError) × failed error;
+  is_open = is_open;
+}
+
+-- `Reports before after text`: reporting this text led from the one state to the other
+-- (`ReportsMore`). While `is_open` holds, the text is written; or a prefix of it, and then a write
+-- fails, and `is_open` is cleared. After that nothing is written.
+abbrev pub Reports : ErrorOutput → ErrorOutput → List ℕ → Type 0
+Reports before after text =
+    ReportsMore before.held before.failed before.is_open after.held after.failed after.is_open text

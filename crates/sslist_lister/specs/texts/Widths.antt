@@ -5,16 +5,22 @@ use Rattle.std.specs.Str.{is_utf8}
 use Rattle.unicode_width.specs.Width.{str_width}
 
 -- `cell_width utf8 cell`: the number of columns of a cell. With `--utf8` (`utf8`) it is the width
--- of its characters as `unicode_width` counts it: 2 for a wide character. Else it is the number of
--- bytes, which are ASCII.
+-- of its characters as `unicode_width` counts it: 2 for a wide character (`false`: characters of
+-- ambiguous width are narrow). Else it is the number of bytes, which are ASCII.
 abbrev pub cell_width : Bool → List ℕ → ℕ
 cell_width utf8 cell =
     if utf8 && is_utf8 cell then str_width false (chars cell) else length cell
 
--- the spaces (32) after a cell: up to a width, and one more
-abbrev pub spaces_after : Bool → ℕ → List ℕ → List ℕ
-spaces_after utf8 width cell = replicate (width - cell_width utf8 cell) 32 ++ 32 ∷ []
+-- `column_padding width used`: the spaces (32) after the content of a column, which takes `used` of
+-- its columns: up to the width, and one more
+abbrev pub column_padding : ℕ → ℕ → List ℕ
+column_padding width used = replicate (width - used) 32 ++ 32 ∷ []
 
--- a column with a name: the cell, padded with spaces up to a width, and one more space
+-- `spaces_after utf8 width cell`: the spaces after a cell
+abbrev pub spaces_after : Bool → ℕ → List ℕ → List ℕ
+spaces_after utf8 width cell = column_padding width (cell_width utf8 cell)
+
+-- `name_column utf8 width cell`: a column with a name: the cell, padded with spaces up to a width,
+-- and one more space
 abbrev pub name_column : Bool → ℕ → List ℕ → List ℕ
 name_column utf8 width cell = cell ++ spaces_after utf8 width cell

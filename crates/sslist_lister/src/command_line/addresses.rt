@@ -42,8 +42,14 @@ fn first_bits(length: u8, address: IpAddr) -> u128
     ensures { result ≡ first_bits length address }
 {
     let number = address_number(address);
-    let rest = width(address).saturating_sub(u32::from(length));
-    if rest < 128 { number >> rest } else { 0 }
+    let later_bits = width(address).saturating_sub(u32::from(length));
+    // No first bits of an IPv6 address are left if all 128 bits are later ones, and such a shift
+    // would overflow.
+    if later_bits < u128::BITS {
+        number >> later_bits
+    } else {
+        0
+    }
 }
 
 /// Returns the bits of an address as a number, the first bit most significant.
@@ -59,16 +65,18 @@ fn address_number(address: IpAddr) -> u128
 /// Returns the number of bits of an address, by its version.
 fn width(address: IpAddr) -> u32
     ensures value { result ≡ width address }
+    // So a length that is at most this number fits a `u8` (`begins_with`).
     ensures bound { result ≤ 128 }
 {
     match address {
-        IpAddr::V4(_) => 32,
-        IpAddr::V6(_) => 128,
+        IpAddr::V4(_) => u32::BITS,
+        IpAddr::V6(_) => u128::BITS,
     }
 }
 
 /// Parses a condition on an address: `ADDRESS` for one that is equal, `ADDRESS/LENGTH` for one that
-/// begins with the first LENGTH bits of ADDRESS.
+/// begins with the first LENGTH bits of ADDRESS. Returns `None` for any other text, or if ADDRESS
+/// has fewer than LENGTH bits.
 pub(crate) fn address_condition(text: &[u8]) -> Option<AddressCondition>
     ensures { result ≡ address_condition text.now }
 {
@@ -81,16 +89,17 @@ pub(crate) fn address_condition(text: &[u8]) -> Option<AddressCondition>
     }
 }
 
-/// Returns the condition that an address begins with the first `length` bits of this one, if there
-/// are both.
+/// Returns the condition that an address begins with the first `length` bits of this one, by
+/// [`begins_with`]. Returns `None` if the address or the length is missing, or if the address has
+/// fewer bits.
 fn in_network(address: Option<IpAddr>, length: Option<u16>) -> Option<AddressCondition>
     ensures { result ≡ in_network address length }
 {
     begins_with(address?, u32::from(length?))
 }
 
-/// Returns the condition that an address begins with the first `length` bits of this one, if it has
-/// so many.
+/// Returns the condition that another address begins with the first `length` bits of `address`.
+/// Returns `None` if `address` has fewer bits.
 fn begins_with(address: IpAddr, length: u32) -> Option<AddressCondition>
     ensures { result ≡ begins_with address length }
 {
@@ -102,11 +111,12 @@ fn begins_with(address: IpAddr, length: u32) -> Option<AddressCondition>
     }
 }
 
-/// Parses an IPv4 or IPv6 address.
-#[tactic(auto, using(crate::specs::laws::AddressText::parsed_is_ip_in, crate::specs::laws::AddressText::ip_in_is_ip_text))]
+/// Parses an IPv4 or IPv6 address. Returns `None` if the text is neither.
+#[tactic(auto, using(crate::specs::laws::AddressText::ip_text_rules))]
 fn ip_in(text: &[u8]) -> Option<IpAddr>
     ensures value { result ≡ ip_in text.now }
-    // The address is the one that the text writes, by the grammar of std.
+    // For each address `a`: the result is `a` if and only if the text is a text of `a`, by the
+    // grammar of std (`IsIpText text a`).
     ensures spelled { (a : IpAddr) → (result ≡ Some a) ↔ IsIpText text.now a }
 {
     IpAddr::parse_ascii(text).ok()

@@ -1,18 +1,18 @@
 //! Arguments of the command line of a program that lists captures.
 
 ghost use Rattle.std.specs.Prelude.{◌≡◌, bytes_eq, find, option_map};
-ghost use Rattle.sslist_lister.specs.command_line.Choice.{address_argument, address_option};
-ghost use Rattle.sslist_lister.specs.command_line.Choice.{argument_at, ends_in_f, family_argument};
-ghost use Rattle.sslist_lister.specs.command_line.Choice.{family_named, first_other_letter};
-ghost use Rattle.sslist_lister.specs.command_line.Choice.{first_unknown_letter, has_letter_value};
+ghost use Rattle.sslist_lister.specs.command_line.Choice.{address_argument, argument_at, ends_in_f};
+ghost use Rattle.sslist_lister.specs.command_line.Choice.{family_argument, family_named};
+ghost use Rattle.sslist_lister.specs.command_line.Choice.{first_rejected_letter};
+ghost use Rattle.sslist_lister.specs.command_line.Choice.{first_unknown_letter};
 ghost use Rattle.sslist_lister.specs.command_line.Choice.{has_unexpected_value, is_file};
-ghost use Rattle.sslist_lister.specs.command_line.Choice.{letter_named, letter_rejection};
-ghost use Rattle.sslist_lister.specs.command_line.Choice.{letters_argument, listening_after};
-ghost use Rattle.sslist_lister.specs.command_line.Choice.{long_argument, long_rejection};
-ghost use Rattle.sslist_lister.specs.command_line.Choice.{misses_value, names_file, next_place};
-ghost use Rattle.sslist_lister.specs.command_line.Choice.{option_argument, port_argument};
-ghost use Rattle.sslist_lister.specs.command_line.Choice.{port_option, state_argument};
-ghost use Rattle.sslist_lister.specs.command_line.Choice.{valued_argument, with_argument};
+ghost use Rattle.sslist_lister.specs.command_line.Choice.{is_long_name_with_value, letter_named};
+ghost use Rattle.sslist_lister.specs.command_line.Choice.{letter_rejection, letters_argument};
+ghost use Rattle.sslist_lister.specs.command_line.Choice.{listening_after, long_argument};
+ghost use Rattle.sslist_lister.specs.command_line.Choice.{long_rejection, misses_value, names_file};
+ghost use Rattle.sslist_lister.specs.command_line.Choice.{next_place, option_argument};
+ghost use Rattle.sslist_lister.specs.command_line.Choice.{port_argument, state_argument};
+ghost use Rattle.sslist_lister.specs.command_line.Choice.{value_or_letters_argument, with_argument};
 ghost use Rattle.sslist_lister.specs.command_line.Choice.{with_details, with_end_address};
 ghost use Rattle.sslist_lister.specs.command_line.Choice.{with_end_port, with_family, with_letters};
 ghost use Rattle.sslist_lister.specs.command_line.Choice.{with_sockets, without_last_f};
@@ -23,7 +23,7 @@ use crate::command_line::filter::{PortCondition, SocketFilter, port_condition, s
 use crate::command_line::options::{AnyFamily, Family, Options};
 use crate::command_line::text::index_of;
 
-/// Letters that are options. The letter `f`, which needs the name of a family, is not among them.
+/// Letters that are options. The letter `f`, which needs the name of a family, is not in this list.
 const LETTERS: &[u8] = b"tuxM046oemiOHlna";
 
 /// The long names of letters, as in ss(8): each name and its letter.
@@ -102,100 +102,85 @@ pub(crate) enum Argument {
     Rejected(Rejection),
 }
 
-/// Parses an argument.
-pub(crate) fn argument_at(place: Place, word: &[u8]) -> Argument
-    ensures { result ≡ argument_at place word.now }
+/// Parses an argument at its place: as an option or the name of a file, as the name of a family, or
+/// as the name of a file.
+pub(crate) fn argument_at(place: Place, argument: &[u8]) -> Argument
+    ensures { result ≡ argument_at place argument.now }
 {
     match place {
-        Place::Any if is_file(word) => Argument::File,
-        Place::Any => option_argument(word),
-        Place::Family => family_argument(Rejection::UnknownFamily, word),
+        Place::Any if is_file(argument) => Argument::File,
+        Place::Any => option_argument(argument),
+        Place::Family => family_argument(Rejection::UnknownFamily, argument),
         Place::File => Argument::File,
     }
 }
 
 /// Returns whether an argument that may be an option is the name of a file: it does not begin with
 /// a hyphen, or is only a hyphen.
-fn is_file(word: &[u8]) -> bool
-    ensures { result ≡ is_file word.now }
+fn is_file(argument: &[u8]) -> bool
+    ensures { result ≡ is_file argument.now }
 {
-    word.len() < 2 || !word.starts_with(b"-")
+    argument.len() < 2 || !argument.starts_with(b"-")
 }
 
 /// Parses an option.
-fn option_argument(word: &[u8]) -> Argument
-    ensures { result ≡ option_argument word.now }
+fn option_argument(argument: &[u8]) -> Argument
+    ensures { result ≡ option_argument argument.now }
 {
-    if equal(word, "--") {
+    if equal(argument, "--") {
         Argument::EndOfOptions
-    } else if equal(word, "--help") || equal(word, "-h") {
+    } else if equal(argument, "--help") || equal(argument, "-h") {
         Argument::Help
-    } else if equal(word, "--version") || equal(word, "-V") {
+    } else if equal(argument, "--version") || equal(argument, "-V") {
         Argument::Version
-    } else if equal(word, "--utf8") {
+    } else if equal(argument, "--utf8") {
         Argument::Utf8
-    } else if equal(word, "--requests") {
+    } else if equal(argument, "--requests") {
         Argument::Requests
-    } else if equal(word, "--json") {
+    } else if equal(argument, "--json") {
         Argument::Json
-    } else if equal(word, "--vsock") {
+    } else if equal(argument, "--vsock") {
         Argument::Sockets(AnyFamily::Other(Family::Vsock))
-    } else if equal(word, "--xdp") {
+    } else if equal(argument, "--xdp") {
         Argument::Sockets(AnyFamily::Other(Family::Xdp))
     } else {
-        valued_argument(word)
+        value_or_letters_argument(argument)
     }
 }
 
 /// Returns whether an argument is equal to a text.
-pub(crate) fn equal(word: &[u8], text: &str) -> bool
-    ensures { result ≡ bytes_eq word.now text.now }
+fn equal(argument: &[u8], text: &str) -> bool
+    ensures { result ≡ bytes_eq argument.now text.now }
 {
-    word == text.as_bytes()
+    argument == text.as_bytes()
 }
 
-/// Parses an option that contains its value, consists of letters, or is the long name of a letter.
-fn valued_argument(word: &[u8]) -> Argument
-    ensures { result ≡ valued_argument word.now }
+/// Parses an option that contains its value, such as `--sport=80`. Any other argument is parsed as
+/// letters, or as the long name of a letter.
+fn value_or_letters_argument(argument: &[u8]) -> Argument
+    ensures { result ≡ value_or_letters_argument argument.now }
 {
-    if word.starts_with(b"--family=") {
-        family_argument(Rejection::UnknownFamilyValue, &word[9..])
-    } else if word.starts_with(b"--state=") {
-        state_argument(&word[8..])
+    if argument.starts_with(b"--family=") {
+        family_argument(
+            Rejection::UnknownFamilyValue,
+            &argument["--family=".len()..],
+        )
+    } else if argument.starts_with(b"--state=") {
+        state_argument(&argument["--state=".len()..])
+    } else if argument.starts_with(b"--sport=") {
+        port_argument(End::Local, &argument["--sport=".len()..])
+    } else if argument.starts_with(b"--dport=") {
+        port_argument(End::Remote, &argument["--dport=".len()..])
+    } else if argument.starts_with(b"--src=") {
+        address_argument(End::Local, &argument["--src=".len()..])
+    } else if argument.starts_with(b"--dst=") {
+        address_argument(End::Remote, &argument["--dst=".len()..])
     } else {
-        port_option(word)
+        letters_argument(argument)
     }
 }
 
-/// Parses an option that contains a condition on a port or an address, consists of letters, or is
-/// the long name of a letter.
-fn port_option(word: &[u8]) -> Argument
-    ensures { result ≡ port_option word.now }
-{
-    if word.starts_with(b"--sport=") {
-        port_argument(End::Local, &word[8..])
-    } else if word.starts_with(b"--dport=") {
-        port_argument(End::Remote, &word[8..])
-    } else {
-        address_option(word)
-    }
-}
-
-/// Parses an option that contains a condition on an address, consists of letters, or is the long
-/// name of a letter.
-fn address_option(word: &[u8]) -> Argument
-    ensures { result ≡ address_option word.now }
-{
-    if word.starts_with(b"--src=") {
-        address_argument(End::Local, &word[6..])
-    } else if word.starts_with(b"--dst=") {
-        address_argument(End::Remote, &word[6..])
-    } else {
-        letters_argument(word)
-    }
-}
-
-/// Parses the name of states.
+/// Parses the name of a state or of a group of states. Any other text is rejected.
 fn state_argument(name: &[u8]) -> Argument
     ensures { result ≡ state_argument name.now }
 {
@@ -205,7 +190,7 @@ fn state_argument(name: &[u8]) -> Argument
     }
 }
 
-/// Parses a condition on the port of an end.
+/// Parses a condition on the port of an end. Any other text is rejected.
 fn port_argument(end: End, text: &[u8]) -> Argument
     ensures { result ≡ port_argument end text.now }
 {
@@ -215,7 +200,7 @@ fn port_argument(end: End, text: &[u8]) -> Argument
     }
 }
 
-/// Parses a condition on the address of an end.
+/// Parses a condition on the address of an end. Any other text is rejected.
 fn address_argument(end: End, text: &[u8]) -> Argument
     ensures { result ≡ address_argument end text.now }
 {
@@ -225,32 +210,34 @@ fn address_argument(end: End, text: &[u8]) -> Argument
     }
 }
 
-/// Parses letters after a hyphen, or the long name of a letter.
-fn letters_argument(word: &[u8]) -> Argument
-    ensures { result ≡ letters_argument word.now }
+/// Parses letters after a hyphen, or the long name of a letter. Any other argument is rejected.
+fn letters_argument(argument: &[u8]) -> Argument
+    ensures { result ≡ letters_argument argument.now }
 {
-    if word.is_empty() || word.starts_with(b"--") {
-        return long_argument(word);
+    // An empty argument is the name of a file (`is_file`), and does not get here. Without this test
+    // the index below could be out of bounds.
+    if argument.is_empty() || argument.starts_with(b"--") {
+        return long_argument(argument);
     }
-    match first_other_letter(&word[1..]) {
+    match first_rejected_letter(&argument[1..]) {
         Some(letter) => Argument::Rejected(letter_rejection(letter)),
         None => Argument::Letters {
-            needs_family: ends_in_f(word),
+            needs_family: ends_in_f(argument),
         },
     }
 }
 
-/// Parses the long name of a letter. Any other word is rejected.
-fn long_argument(word: &[u8]) -> Argument
-    ensures { result ≡ long_argument word.now }
+/// Parses the long name of a letter. Any other argument is rejected.
+fn long_argument(argument: &[u8]) -> Argument
+    ensures { result ≡ long_argument argument.now }
 {
-    match letter_named(word) {
+    match letter_named(argument) {
         Some(letter) => Argument::Letter(letter),
-        None => Argument::Rejected(long_rejection(word)),
+        None => Argument::Rejected(long_rejection(argument)),
     }
 }
 
-/// Returns the letter with this long name.
+/// Returns the letter with this long name, or `None` if there is none.
 #[tactic(auto, unfolding(crate::specs::command_line::Choice::letter_named))]
 fn letter_named(name: &[u8]) -> Option<u8>
     ensures { result ≡ letter_named name.now }
@@ -260,6 +247,7 @@ fn letter_named(name: &[u8]) -> Option<u8>
 
 /// Returns the letter of the first row with this name.
 fn letter_in(rows: &[(&str, u8)], name: &[u8]) -> Option<u8>
+    // `row.0`: the name of a row. `row.1`: its letter.
     ensures { result ≡ option_map (λ row. row.1)
         (find (λ row. bytes_eq name.now row.0.now) rows.now) }
 {
@@ -272,59 +260,60 @@ fn letter_in(rows: &[(&str, u8)], name: &[u8]) -> Option<u8>
 }
 
 /// Returns the reason why a long option is rejected.
-fn long_rejection(word: &[u8]) -> Rejection
-    ensures { result ≡ long_rejection word.now }
+fn long_rejection(argument: &[u8]) -> Rejection
+    ensures { result ≡ long_rejection argument.now }
 {
-    if misses_value(word) {
+    if misses_value(argument) {
         Rejection::MissingValue
-    } else if has_unexpected_value(word) {
+    } else if has_unexpected_value(argument) {
         Rejection::UnexpectedValue
     } else {
         Rejection::UnknownOption
     }
 }
 
-/// Returns whether a word is an option that needs a value, without one.
-fn misses_value(word: &[u8]) -> bool
-    ensures { result ≡ misses_value word.now }
+/// Returns whether an argument is an option that needs a value, without one.
+fn misses_value(argument: &[u8]) -> bool
+    ensures { result ≡ misses_value argument.now }
 {
-    equal(word, "--family")
-        || equal(word, "--state")
-        || equal(word, "--sport")
-        || equal(word, "--dport")
-        || equal(word, "--src")
-        || equal(word, "--dst")
+    equal(argument, "--family")
+        || equal(argument, "--state")
+        || equal(argument, "--sport")
+        || equal(argument, "--dport")
+        || equal(argument, "--src")
+        || equal(argument, "--dst")
 }
 
-/// Returns whether a word is an option that takes no value, with one.
-fn has_unexpected_value(word: &[u8]) -> bool
-    ensures { result ≡ has_unexpected_value word.now }
+/// Returns whether an argument is an option that takes no value, with one.
+fn has_unexpected_value(argument: &[u8]) -> bool
+    ensures { result ≡ has_unexpected_value argument.now }
 {
-    word.starts_with(b"--help=")
-        || word.starts_with(b"--version=")
-        || word.starts_with(b"--utf8=")
-        || word.starts_with(b"--requests=")
-        || word.starts_with(b"--json=")
-        || word.starts_with(b"--vsock=")
-        || word.starts_with(b"--xdp=")
-        || has_letter_value(word)
+    argument.starts_with(b"--help=")
+        || argument.starts_with(b"--version=")
+        || argument.starts_with(b"--utf8=")
+        || argument.starts_with(b"--requests=")
+        || argument.starts_with(b"--json=")
+        || argument.starts_with(b"--vsock=")
+        || argument.starts_with(b"--xdp=")
+        || is_long_name_with_value(argument)
 }
 
-/// Returns whether a word is the long name of a letter, with a value.
-fn has_letter_value(word: &[u8]) -> bool
-    ensures { result ≡ has_letter_value word.now }
+/// Returns whether an argument is the long name of a letter, with an equals sign and a value.
+fn is_long_name_with_value(argument: &[u8]) -> bool
+    ensures { result ≡ is_long_name_with_value argument.now }
 {
-    match index_of(b'=', word) {
-        Some(index) => letter_named(&word[..index]).is_some(),
+    match index_of(b'=', argument) {
+        Some(index) => letter_named(&argument[..index]).is_some(),
         None => false,
     }
 }
 
-/// Returns the reason why letters are rejected. `letter` is the first of them that is not an option
-/// at its place.
+/// Returns the reason why letters are rejected. `letter` is the one that [`first_rejected_letter`]
+/// finds.
 fn letter_rejection(letter: u8) -> Rejection
     ensures { result ≡ letter_rejection letter }
 {
+    // `-f`, `-h` and `-V` are options, but not at this place.
     if letter == b'f' || letter == b'h' || letter == b'V' {
         Rejection::MisplacedLetter(letter)
     } else {
@@ -342,8 +331,8 @@ fn family_argument(rejection: Rejection, name: &[u8]) -> Argument
     }
 }
 
-/// Returns the family of this name, as the option `-f` of ss(8) has it. `packet` is another name of
-/// `link`.
+/// Returns the family of this name, as the option `-f` of ss(8) has it, or `None` if there is none.
+/// `packet` is another name of `link`.
 fn family_named(name: &[u8]) -> Option<AnyFamily>
     ensures { result ≡ family_named name.now }
 {
@@ -366,9 +355,10 @@ fn family_named(name: &[u8]) -> Option<AnyFamily>
     }
 }
 
-/// Returns the first letter that is not an option at its place. The last letter may also be `f`.
-fn first_other_letter(letters: &[u8]) -> Option<u8>
-    ensures { result ≡ first_other_letter letters.now }
+/// Returns the first letter because of which letters are rejected: it is not in [`LETTERS`], and is
+/// not an `f` at their end. Returns `None` if there is none.
+fn first_rejected_letter(letters: &[u8]) -> Option<u8>
+    ensures { result ≡ first_rejected_letter letters.now }
 {
     first_unknown_letter(without_last_f(letters))
 }
@@ -384,7 +374,7 @@ fn without_last_f(letters: &[u8]) -> &[u8]
     }
 }
 
-/// Returns the first letter that is not in `LETTERS`.
+/// Returns the first letter that is not in [`LETTERS`], or `None` if there is none.
 fn first_unknown_letter(letters: &[u8]) -> Option<u8>
     ensures { result ≡ first_unknown_letter letters.now }
 {
@@ -411,7 +401,8 @@ impl Argument {
         matches!(self, Argument::File)
     }
 
-    /// Returns the place of the next argument.
+    /// Returns the place of the next argument, after this one at `place`: the name of a family
+    /// after letters that end in `f`, the name of a file after `--` and from then on.
     pub(crate) fn next_place(self, place: Place) -> Place
         ensures { result ≡ next_place place self }
     {
@@ -424,11 +415,11 @@ impl Argument {
 }
 
 impl Options {
-    /// Sets the options of an argument, which consists of the bytes `word`.
-    pub(crate) fn add_argument(&mut self, argument: Argument, word: &[u8])
-        ensures { self.new ≡ with_argument self.old argument word.now }
+    /// Sets the options of an argument, which is parsed as `parsed`.
+    pub(crate) fn add_argument(&mut self, parsed: Argument, argument: &[u8])
+        ensures { self.new ≡ with_argument self.old parsed argument.now }
     {
-        match argument {
+        match parsed {
             Argument::Utf8 => self.utf8 = true,
             Argument::Requests => self.requests = true,
             Argument::Json => self.json = true,
@@ -436,8 +427,10 @@ impl Options {
             Argument::States(states) => self.filter.states |= states,
             Argument::Port(end, condition) => self.filter.set_port(end, condition),
             Argument::Address(end, condition) => self.filter.set_address(end, condition),
-            Argument::Letters { .. } if !word.is_empty() => self.add_letters(&word[1..]),
+            // The letters follow a hyphen, so the argument is never empty.
+            Argument::Letters { .. } if !argument.is_empty() => self.add_letters(&argument[1..]),
             Argument::Letter(letter) => self.add_letters(&[letter]),
+            // Other arguments set no option.
             _ => {}
         }
     }
@@ -514,8 +507,8 @@ impl SocketFilter {
     }
 }
 
-/// Returns whether only listening sockets are listed after these letters: the last one that is `l`
-/// or `a` decides.
+/// Returns whether only listening sockets are listed after these letters. The last letter that is
+/// `l` or `a` decides: `l` for yes, `a` for no. If there is no such letter, returns `before`.
 fn listening_after(before: bool, letters: &[u8]) -> bool
     ensures { result ≡ listening_after before letters.now }
 {

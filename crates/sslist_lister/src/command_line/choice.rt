@@ -55,6 +55,7 @@ pub enum Choice<'a> {
 /// missing, unexpected, unknown or invalid. If there is none, captures are listed with the options
 /// of all arguments. Names of files are not considered.
 pub fn choose(arguments: &[String]) -> Choice<'_>
+    // `IsChoice arguments choice`: the arguments, as lists of bytes, request `choice`.
     ensures { IsChoice (map string_bytes arguments.entry.now) result }
 {
     let mut options = Options::default();

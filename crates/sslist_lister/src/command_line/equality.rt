@@ -1,4 +1,5 @@
 //! Proof only: `==` and `clone` of options and what they select compare and copy the whole value.
+//! [`Exact`] says what the parts of each proof `exact` state.
 
 ghost use Rattle.std.proofs.Common.{rules};
 ghost use Rattle.sslist_lister.specs.laws.EqualFilter.{address_equal, filter_equal, port_equal};

@@ -9,7 +9,26 @@ ghost use Rattle.sslist_lister.specs.command_line.Filter.{state_bit, state_named
 
 use crate::command_line::addresses::{AddressCondition, meets_address};
 use crate::command_line::text::{decimal_u16, index_of};
+use sock_diag_records::constants::{
+    TCP_CLOSE, TCP_CLOSE_WAIT, TCP_CLOSING, TCP_ESTABLISHED, TCP_FIN_WAIT1, TCP_FIN_WAIT2,
+    TCP_LAST_ACK, TCP_LISTEN, TCP_SYN_RECV, TCP_SYN_SENT, TCP_TIME_WAIT,
+};
 use std::net::IpAddr;
+
+/// The states of the group `all` of ss(8), a bit for each.
+const ALL: u32 = u32::MAX;
+
+/// The states of the group `connected`.
+const CONNECTED: u32 = ALL & !(1 << TCP_CLOSE) & !(1 << TCP_LISTEN);
+
+/// The states of the group `synchronized`.
+const SYNCHRONIZED: u32 = CONNECTED & !(1 << TCP_SYN_SENT);
+
+/// The states of the group `bucket`.
+const BUCKET: u32 = 1 << TCP_SYN_RECV | 1 << TCP_TIME_WAIT;
+
+/// The states of the group `big`: all except those of `bucket`.
+const BIG: u32 = ALL & !BUCKET;
 
 /// Conditions on a socket, which is listed only if it meets all of them.
 #[derive(Clone, Copy, Debug, Default, PartialEq, Eq)]
@@ -79,7 +98,7 @@ fn meets_port(condition: Option<PortCondition>, port: u16) -> bool
     }
 }
 
-/// Returns the bit of a state. States from 31 on share one.
+/// Returns the bit of a state. All states from 31 on share bit 31.
 fn state_bit(state: u8) -> u32
     ensures { result ≡ state_bit state }
 {
@@ -87,7 +106,7 @@ fn state_bit(state: u8) -> u32
 }
 
 /// Returns the states with this name, a bit for each: a name that the filter `state` of ss(8) has,
-/// or a name of the column State, in upper or lower case.
+/// or a name of the column State, in upper or lower case. Returns `None` if there is none.
 pub(crate) fn states_named(name: &[u8]) -> Option<u32>
     ensures { result ≡ states_named name.now }
 {
@@ -104,32 +123,32 @@ fn is_name(name: &[u8], text: &str) -> bool
     name.eq_ignore_ascii_case(text.as_bytes())
 }
 
-/// Returns the state with this name.
+/// Returns the state with this name, or `None` if there is none.
 fn state_named(name: &[u8]) -> Option<u8>
     ensures { result ≡ state_named name.now }
 {
     if is_name(name, "established") || is_name(name, "estab") {
-        Some(1)
+        Some(TCP_ESTABLISHED)
     } else if is_name(name, "syn-sent") {
-        Some(2)
+        Some(TCP_SYN_SENT)
     } else if is_name(name, "syn-recv") || is_name(name, "syn-rcv") {
-        Some(3)
+        Some(TCP_SYN_RECV)
     } else if is_name(name, "fin-wait-1") {
-        Some(4)
+        Some(TCP_FIN_WAIT1)
     } else if is_name(name, "fin-wait-2") {
-        Some(5)
+        Some(TCP_FIN_WAIT2)
     } else if is_name(name, "time-wait") {
-        Some(6)
+        Some(TCP_TIME_WAIT)
     } else if is_closed_name(name) {
-        Some(7)
+        Some(TCP_CLOSE)
     } else if is_name(name, "close-wait") {
-        Some(8)
+        Some(TCP_CLOSE_WAIT)
     } else if is_name(name, "last-ack") {
-        Some(9)
+        Some(TCP_LAST_ACK)
     } else if is_name(name, "listening") || is_name(name, "listen") {
-        Some(10)
+        Some(TCP_LISTEN)
     } else if is_name(name, "closing") {
-        Some(11)
+        Some(TCP_CLOSING)
     } else {
         None
     }
@@ -145,27 +164,27 @@ fn is_closed_name(name: &[u8]) -> bool
         || is_name(name, "unconn")
 }
 
-/// Returns the states in the group of states with this name.
+/// Returns the states in the group of states with this name, or `None` if there is none.
 fn group_named(name: &[u8]) -> Option<u32>
     ensures { result ≡ group_named name.now }
 {
     if is_name(name, "all") {
-        Some(0xffff_ffff)
+        Some(ALL)
     } else if is_name(name, "connected") {
-        Some(0xffff_fb7f)
+        Some(CONNECTED)
     } else if is_name(name, "synchronized") {
-        Some(0xffff_fb7b)
+        Some(SYNCHRONIZED)
     } else if is_name(name, "bucket") {
-        Some(0x48)
+        Some(BUCKET)
     } else if is_name(name, "big") {
-        Some(0xffff_ffb7)
+        Some(BIG)
     } else {
         None
     }
 }
 
 /// Parses a condition on a port: `N` for the port N, `N-M` for a port from N to M, `N-` for one
-/// that is at least N, and `-M` for one that is at most M.
+/// that is at least N, and `-M` for one that is at most M. Returns `None` for any other text.
 pub(crate) fn port_condition(text: &[u8]) -> Option<PortCondition>
     ensures { result ≡ port_condition text.now }
 {
@@ -178,7 +197,7 @@ pub(crate) fn port_condition(text: &[u8]) -> Option<PortCondition>
     }
 }
 
-/// Parses a range of ports `N-M`, or the range `N` of one port.
+/// Parses a range of ports `N-M`, or the range `N` of one port. Returns `None` for any other text.
 fn closed_range(text: &[u8]) -> Option<PortCondition>
     ensures { result ≡ closed_range text.now }
 {
@@ -191,8 +210,8 @@ fn closed_range(text: &[u8]) -> Option<PortCondition>
     }
 }
 
-/// Returns the range from a lowest to a highest port, if there are both, and the highest one is not
-/// lower.
+/// Returns the range from a lowest to a highest port. Returns `None` if one of them is missing, or
+/// if the highest one is lower than the lowest one.
 fn port_range(lowest: Option<u16>, highest: Option<u16>) -> Option<PortCondition>
     ensures { result ≡ port_range lowest highest }
 {

@@ -1,7 +1,7 @@
 //! Selection of the sockets that are listed, and of the details that are shown for each.
 
 ghost use Rattle.std.specs.Prelude.{◌≡◌};
-ghost use Rattle.sslist_lister.specs.command_line.Options.{selects_family, is_detail_selected};
+ghost use Rattle.sslist_lister.specs.command_line.Options.{selects_family, selects_detail};
 ghost use Rattle.sslist_lister.specs.command_line.Options.{lists_family, lists_state};
 ghost use Rattle.sslist_lister.specs.command_line.Options.{lists_protocol, lists_unix};
 ghost use Rattle.sslist_lister.specs.command_line.Options.{lists_version, selects_inet_protocol};
@@ -9,6 +9,7 @@ ghost use Rattle.sslist_lister.specs.command_line.Options.{selects_other_family,
 ghost use Rattle.sslist_lister.specs.command_line.Options.{selects_sockets, shows_detail};
 
 use crate::command_line::filter::SocketFilter;
+use sock_diag_records::constants::{TCP_CLOSE, TCP_LISTEN};
 
 /// The number of TCP in a request, `IPPROTO_TCP` of linux/in.h.
 pub(crate) const IPPROTO_TCP: u32 = 6;
@@ -19,12 +20,6 @@ pub(crate) const IPPROTO_UDP: u32 = 17;
 /// The number of MPTCP in a request, `IPPROTO_MPTCP` of linux/in.h. It does not fit a byte, so it
 /// is in the attribute `INET_DIAG_REQ_PROTOCOL`.
 pub(crate) const IPPROTO_MPTCP: u32 = 262;
-
-/// State `TCP_CLOSE`, which ss(8) prints as `UNCONN`.
-const UNCONNECTED: u8 = 7;
-
-/// State `TCP_LISTEN`.
-const LISTENING: u8 = 10;
 
 /// The options of a command line.
 ///
@@ -124,12 +119,13 @@ impl Options {
     pub fn shows(self, detail: Detail) -> bool
         ensures { result ≡ shows_detail self detail }
     {
-        self.has_detail(detail) || !(self.timer || self.extended || self.memory || self.connection)
+        self.selects_detail(detail)
+            || !(self.timer || self.extended || self.memory || self.connection)
     }
 
     /// Returns whether the option of a group of details is set.
-    fn has_detail(self, detail: Detail) -> bool
-        ensures { result ≡ is_detail_selected self detail }
+    fn selects_detail(self, detail: Detail) -> bool
+        ensures { result ≡ selects_detail self detail }
     {
         match detail {
             Detail::Timer => self.timer,
@@ -139,21 +135,21 @@ impl Options {
         }
     }
 
-    /// Returns whether a UNIX socket in this state is listed: if `-x` is set, or if no option that
-    /// selects sockets is set, of any family; and if sockets in this state are listed, and there is
-    /// no condition on a port or an address.
+    /// Returns whether a UNIX socket in this state is listed. Three conditions must hold: `-x` is
+    /// set, or no option that selects sockets is; sockets in this state are listed; and there is no
+    /// condition on a port or an address of an IPv4 or IPv6 socket.
     pub fn lists_unix(self, state: u8) -> bool
         ensures { result ≡ lists_unix self state }
     {
-        (self.unix || !self.selects())
+        (self.unix || !self.selects_sockets())
             && self.lists_state(state)
             && !self.filter.has_endpoint_condition()
     }
 
-    /// Returns whether IPv4 and IPv6 sockets of a protocol, a number `IPPROTO_..`, are listed: if
-    /// the option of this protocol is set; or if no option of a protocol is, and one of these
-    /// families is selected or no option that selects sockets is set. If the protocol is not known
-    /// (`None`), any of the options of TCP, UDP and MPTCP counts.
+    /// Returns whether IPv4 and IPv6 sockets of a protocol, a number `IPPROTO_..`, are listed. They
+    /// are if the option of this protocol is set. If the option of no protocol is set, they also
+    /// are if `-4` or `-6` is set, or if the option of no other family is. If the protocol is not
+    /// known (`None`), any of the options of TCP, UDP and MPTCP counts.
     pub fn lists_protocol(self, protocol: Option<u32>) -> bool
         ensures { result ≡ lists_protocol self protocol }
     {
@@ -162,7 +158,8 @@ impl Options {
                 && (self.inet || self.inet6 || !self.selects_other_family()))
     }
 
-    /// Returns whether the option of a protocol is set.
+    /// Returns whether the option of a protocol is set, or, if the protocol is not known (`None`),
+    /// any of the options of TCP, UDP and MPTCP.
     fn selects_protocol(self, protocol: Option<u32>) -> bool
         ensures { result ≡ selects_protocol self protocol }
     {
@@ -175,8 +172,8 @@ impl Options {
         }
     }
 
-    /// Returns whether IPv6 sockets are listed, or else IPv4 sockets: if the option of this family
-    /// is set, or if neither of the two is.
+    /// Returns whether IPv6 sockets are listed, or IPv4 sockets if `is_ipv6` is false. They are if
+    /// the option of this version is set, or if the option of the other one is not.
     pub fn lists_version(self, is_ipv6: bool) -> bool
         ensures { result ≡ lists_version self is_ipv6 }
     {
@@ -187,30 +184,30 @@ impl Options {
         }
     }
 
-    /// Returns whether sockets in a state are listed: in the states of `--state`, or if there is no
-    /// such option in any state, but with `-l` only in `LISTEN` and `UNCONN`.
+    /// Returns whether sockets in a state are listed. If there is an option `--state`, its states
+    /// are listed. Else all states are, or with `-l` only `TCP_LISTEN` and `TCP_CLOSE` (`UNCONN`).
     pub fn lists_state(self, state: u8) -> bool
         ensures { result ≡ lists_state self state }
     {
         if self.filter.states != 0 {
             return self.filter.has_state(state);
         }
-        !self.listening || state == LISTENING || state == UNCONNECTED
+        !self.listening || state == TCP_LISTEN || state == TCP_CLOSE
     }
 
-    /// Returns whether a socket of a family in this state is listed: if the option of this family
-    /// is set, or if no option that selects sockets is set, of any family; and if sockets in this
-    /// state are listed, and there is no condition on a port or an address.
+    /// Returns whether a socket of a family in this state is listed. Three conditions must hold:
+    /// the option of the family is set, or no option that selects sockets is; sockets in this state
+    /// are listed; and there is no condition on a port or an address of an IPv4 or IPv6 socket.
     pub fn lists_family(self, family: Family, state: u8) -> bool
         ensures { result ≡ lists_family self family state }
     {
-        (self.has_family(family) || !self.selects())
+        (self.selects_family(family) || !self.selects_sockets())
             && self.lists_state(state)
             && !self.filter.has_endpoint_condition()
     }
 
     /// Returns whether the option of a family is set.
-    fn has_family(self, family: Family) -> bool
+    fn selects_family(self, family: Family) -> bool
         ensures { result ≡ selects_family self family }
     {
         match family {
@@ -222,7 +219,7 @@ impl Options {
     }
 
     /// Returns whether an option that selects sockets is set.
-    fn selects(self) -> bool
+    fn selects_sockets(self) -> bool
         ensures { result ≡ selects_sockets self }
     {
         self.selects_inet_protocol() || self.inet || self.inet6 || self.selects_other_family()

@@ -3,9 +3,10 @@
 ghost use Rattle.std.specs.Prelude.{◌≡◌, ◌<◌, IfSome, length};
 ghost use Rattle.sslist_lister.specs.command_line.Text.{index_of, decimal_u16, with_digit};
 
-/// Returns the index of the first byte that is equal to `byte`.
+/// Returns the index of the first byte that is equal to `byte`, or `None` if there is none.
 pub(crate) fn index_of(byte: u8, text: &[u8]) -> Option<usize>
     ensures value { result ≡ index_of byte text.now }
+    // So the text can be split before and after this byte.
     ensures bound { IfSome result (λ index. index < length text.now) }
 {
     for (index, &other) in text.iter().enumerate() {
@@ -16,7 +17,8 @@ pub(crate) fn index_of(byte: u8, text: &[u8]) -> Option<usize>
     None
 }
 
-/// Parses a number of at most 65535 in decimal. Zeros may precede it.
+/// Parses a number in decimal. Zeros may precede it. Returns `None` if it exceeds 65535, if a byte
+/// is not a digit, or if there is none.
 pub(crate) fn decimal_u16(digits: &[u8]) -> Option<u16>
     ensures { result ≡ decimal_u16 digits.now }
 {
@@ -39,7 +41,7 @@ fn with_digit(number: u16, digit: u8) -> Option<u16>
         return None;
     }
     let longer = u32::from(number) * 10 + u32::from(digit - b'0');
-    if longer > 65535 {
+    if longer > u32::from(u16::MAX) {
         None
     } else {
         Some(longer as u16)

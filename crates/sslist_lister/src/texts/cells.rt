@@ -2,36 +2,55 @@
 //! content of the text is not specified.
 
 ghost use Rattle.sslist_lister.specs.texts.Cells.{state_name};
-ghost use Rattle.std.specs.Prelude.{◌≡◌, ◌++◌, ◌∷◌, [], ◌-◌, ◌≤◌, decimal, false, replicate};
-ghost use Rattle.std.specs.Prelude.{vec_len, OnOk};
+ghost use Rattle.std.specs.Prelude.{◌≡◌, ◌++◌, ◌-◌, ◌≤◌, decimal, false, vec_len, OnOk};
 ghost use Rattle.std.specs.Fmt.{digits};
 ghost use Rattle.sslist_lister.specs.texts.Cells.{column, endpoint, first_columns};
 ghost use Rattle.sslist_lister.specs.texts.Cells.{bracketed_address};
 ghost use Rattle.sslist_lister.specs.texts.Cells.{number_cell, number_or_star, port_text};
 ghost use Rattle.sslist_lister.specs.texts.CellsModel.{cells_model};
-ghost use Rattle.sslist_lister.specs.texts.Escapes.{byte_digits, escaped_byte};
+ghost use Rattle.sslist_lister.specs.texts.Escapes.{byte_digits, escaped_byte, is_printable_byte};
+ghost use Rattle.sslist_lister.specs.texts.Widths.{column_padding};
 
 use itoa::Buffer;
+use sock_diag_records::constants::{
+    TCP_CLOSE, TCP_CLOSE_WAIT, TCP_CLOSING, TCP_ESTABLISHED, TCP_FIN_WAIT1, TCP_FIN_WAIT2,
+    TCP_LAST_ACK, TCP_LISTEN, TCP_SYN_RECV, TCP_SYN_SENT, TCP_TIME_WAIT,
+};
 use std::alloc::AllocError;
 use std::io::Write;
 use std::net::IpAddr;
+
+/// Width in bytes of the column Netid.
+const NETID_WIDTH: usize = 5;
+
+/// Width in bytes of the column State.
+const STATE_WIDTH: usize = 10;
+
+/// Width in bytes of the columns Recv-Q and Send-Q.
+const QUEUE_WIDTH: usize = 6;
+
+/// Width in bytes of the column Inode.
+const INODE_WIDTH: usize = 10;
+
+/// Width in bytes of the column Uid.
+const UID_WIDTH: usize = 5;
 
 /// Returns the name of a socket state, as ss(8) prints it: `UNKNOWN` for 0 and from 12 on.
 pub(crate) fn name_of_state(state: u8) -> &'static str
     ensures { result.now ≡ state_name state }
 {
     match state {
-        1 => "ESTAB",
-        2 => "SYN-SENT",
-        3 => "SYN-RECV",
-        4 => "FIN-WAIT-1",
-        5 => "FIN-WAIT-2",
-        6 => "TIME-WAIT",
-        7 => "UNCONN",
-        8 => "CLOSE-WAIT",
-        9 => "LAST-ACK",
-        10 => "LISTEN",
-        11 => "CLOSING",
+        TCP_ESTABLISHED => "ESTAB",
+        TCP_SYN_SENT => "SYN-SENT",
+        TCP_SYN_RECV => "SYN-RECV",
+        TCP_FIN_WAIT1 => "FIN-WAIT-1",
+        TCP_FIN_WAIT2 => "FIN-WAIT-2",
+        TCP_TIME_WAIT => "TIME-WAIT",
+        TCP_CLOSE => "UNCONN",
+        TCP_CLOSE_WAIT => "CLOSE-WAIT",
+        TCP_LAST_ACK => "LAST-ACK",
+        TCP_LISTEN => "LISTEN",
+        TCP_CLOSING => "CLOSING",
         _ => "UNKNOWN",
     }
 }
@@ -46,10 +65,12 @@ pub(crate) fn push_number(text: &mut Vec<u8>, number: u64) -> Result<(), AllocEr
 
 /// Appends a number in lowercase hexadecimal digits, without leading zeros.
 pub(crate) fn push_hex(text: &mut Vec<u8>, number: u64) -> Result<(), AllocError>
+    // `digits 16 false number`: the digits in base 16, not in uppercase.
     ensures { OnOk result (text.new.items ≡ text.old.items ++ digits 16 false number) }
 {
     match write!(text, "{number:x}") {
         Ok(()) => Ok(()),
+        // A write to a `Vec` fails only if an allocation failed.
         Err(_) => Err(AllocError),
     }
 }
@@ -58,10 +79,12 @@ pub(crate) fn push_hex(text: &mut Vec<u8>, number: u64) -> Result<(), AllocError
 /// and one more space. A longer column is not cut. `start` must be at most the length of the text.
 pub(crate) fn end_column(text: &mut Vec<u8>, start: usize, width: usize) -> Result<(), AllocError>
     requires { start ≤ vec_len text.old }
+    // `column_padding width used`: the spaces after the `used` bytes that the column has already.
     ensures { OnOk result (text.new.items
-        ≡ text.old.items ++ replicate (width - (vec_len text.old - start)) 32 ++ 32 ∷ []) }
+        ≡ text.old.items ++ column_padding width (vec_len text.old - start)) }
 {
     let Some(end) = start.checked_add(width) else {
+        // A text of such a length cannot be allocated.
         return Err(AllocError);
     };
     text.resize(end.max(text.len()), b' ')?;
@@ -116,19 +139,19 @@ pub struct Cells {
     pub uid: Option<u32>,
 }
 
-/// Appends the columns before the two addresses, each padded with spaces to its width and followed
-/// by one more space; longer content is not truncated. Netid (width 5); State (10), its name as in
-/// ss(8); Recv-Q (6), Send-Q (6), Inode (10) and Uid (5), in decimal, or `-` for `None`.
+/// Appends the columns before the two addresses, each as by [`push_column`]: Netid; State, its name
+/// as in ss(8); Recv-Q, Send-Q, Inode and Uid, in decimal, or `-` for `None`.
 pub(crate) fn push_first_columns(text: &mut Vec<u8>, cells: &Cells) -> Result<(), AllocError>
+    // `cells_model`: the cells, with the text of `kind` as a list of bytes.
     ensures { OnOk result (text.new.items ≡ text.old.items
         ++ first_columns (cells_model cells.now)) }
 {
-    push_column(text, 5, cells.kind)?;
-    push_column(text, 10, name_of_state(cells.state).as_bytes())?;
-    push_number_column(text, 6, cells.receive_queue)?;
-    push_number_column(text, 6, cells.send_queue)?;
-    push_number_column(text, 10, Some(cells.inode))?;
-    push_number_column(text, 5, cells.uid)
+    push_column(text, NETID_WIDTH, cells.kind)?;
+    push_column(text, STATE_WIDTH, name_of_state(cells.state).as_bytes())?;
+    push_number_column(text, QUEUE_WIDTH, cells.receive_queue)?;
+    push_number_column(text, QUEUE_WIDTH, cells.send_queue)?;
+    push_number_column(text, INODE_WIDTH, Some(cells.inode))?;
+    push_number_column(text, UID_WIDTH, cells.uid)
 }
 
 /// Appends a byte unchanged if it is from `!` to `~` and not a backslash. Otherwise appends `\x`
@@ -136,10 +159,17 @@ pub(crate) fn push_first_columns(text: &mut Vec<u8>, cells: &Cells) -> Result<()
 pub(crate) fn push_escaped_byte(text: &mut Vec<u8>, byte: u8) -> Result<(), AllocError>
     ensures { OnOk result (text.new.items ≡ text.old.items ++ escaped_byte byte) }
 {
-    if (b'!'..=b'~').contains(&byte) && byte != b'\\' {
+    if is_printable(byte) {
         return Ok(text.push(byte)?);
     }
     push_digits(text, byte)
+}
+
+/// Returns whether a byte is shown unchanged: it is from `!` to `~` and not a backslash.
+pub(crate) fn is_printable(byte: u8) -> bool
+    ensures { result ≡ is_printable_byte byte }
+{
+    (b'!'..=b'~').contains(&byte) && byte != b'\\'
 }
 
 /// Appends `\x` and the two hexadecimal digits of a byte.
@@ -148,6 +178,7 @@ pub(crate) fn push_digits(text: &mut Vec<u8>, byte: u8) -> Result<(), AllocError
 {
     let mut digits = [0u8; 2];
     if hex::encode_to_slice(&[byte], &mut digits).is_err() {
+        // The two digits of a byte fit the buffer.
         unreachable!();
     }
     text.extend_from_slice(b"\\x")?;
@@ -210,6 +241,7 @@ fn push_host(text: &mut Vec<u8>, address: IpAddr) -> Result<(), AllocError>
     };
     match written {
         Ok(()) => Ok(()),
+        // A write to a `Vec` fails only if an allocation failed.
         Err(_) => Err(AllocError),
     }
 }

@@ -1,5 +1,6 @@
 //! Members of JSON objects. A function of this module appends to a writer. If it fails, an
-//! allocation failed, and the content of the writer is not specified.
+//! allocation failed, and the content of the writer is not specified. The clauses `prefix` state
+//! that the bytes before the first token of the writer are unchanged.
 
 ghost use Rattle.std.specs.Prelude.{◌≡◌, ◌∷◌, [], ◌++◌, OnOk, map, false, codes, decimal, flat_map};
 ghost use Rattle.std.specs.Fmt.{digits};
@@ -10,7 +11,7 @@ ghost use Rattle.sslist_lister.specs.texts.JsonData.{flag_member, hex_member};
 ghost use Rattle.sslist_lister.specs.texts.JsonData.{number_members};
 ghost use Rattle.sslist_lister.specs.texts.JsonData.{numbers_member, object_member};
 ghost use Rattle.sslist_lister.specs.texts.JsonData.{optional_member, text_member};
-ghost use Rattle.sslist_lister.specs.texts.JsonWriting.{AddsMembers, AddsTokens, KeepsTextBefore};
+ghost use Rattle.sslist_lister.specs.texts.JsonWriting.{AddsMembers, AddsTokens, KeepsPrefix};
 
 use byteorder::{ByteOrder, LittleEndian};
 use json::Writer;
@@ -19,7 +20,7 @@ use std::net::IpAddr;
 
 /// Writes the name of a member whose value is an object, and begins the object.
 pub(crate) fn begin_member(writer: &mut Writer, name: &str) -> Result<(), AllocError>
-    ensures before { KeepsTextBefore result writer.old writer.new }
+    ensures prefix { KeepsPrefix result writer.old writer.new }
     ensures tokens { AddsTokens result writer.old writer.new (key name.now ∷ begin_object ∷ []) }
 {
     writer.key(name)?;
@@ -27,9 +28,9 @@ pub(crate) fn begin_member(writer: &mut Writer, name: &str) -> Result<(), AllocE
 }
 
 /// Writes a member whose value is a string.
-#[tactic(auto, unfolding(crate::specs::texts::JsonData::text_member, crate::specs::texts::JsonWriting::members_tokens))]
+#[tactic(auto, using(crate::proofs::JsonWriting::plain_member_rules))]
 pub(crate) fn write_text(writer: &mut Writer, name: &str, text: &str) -> Result<(), AllocError>
-    ensures before { KeepsTextBefore result writer.old writer.new }
+    ensures prefix { KeepsPrefix result writer.old writer.new }
     ensures members { AddsMembers result writer.old writer.new (text_member name.now text.now) }
 {
     writer.key(name)?;
@@ -38,7 +39,8 @@ pub(crate) fn write_text(writer: &mut Writer, name: &str, text: &str) -> Result<
 
 /// Writes members whose values are numbers: a name and a number for each row.
 pub(crate) fn write_numbers(writer: &mut Writer, rows: &[(&str, u64)]) -> Result<(), AllocError>
-    ensures before { KeepsTextBefore result writer.old writer.new }
+    ensures prefix { KeepsPrefix result writer.old writer.new }
+    // `row.0`: the name of a row. `row.1`: its number.
     ensures members { AddsMembers result writer.old writer.new
         (number_members (map (λ row. (row.0.now, row.1)) rows.now)) }
 {
@@ -47,7 +49,8 @@ pub(crate) fn write_numbers(writer: &mut Writer, rows: &[(&str, u64)]) -> Result
 
 /// Writes the tokens of each row: a name and a number.
 fn write_rows(writer: &mut Writer, rows: &[(&str, u64)]) -> Result<(), AllocError>
-    ensures before { KeepsTextBefore result writer.old writer.new }
+    ensures prefix { KeepsPrefix result writer.old writer.new }
+    // `row.0`: the name of a row. `row.1`: its number.
     ensures tokens { AddsTokens result writer.old writer.new
         (flat_map (λ row. key row.0.now ∷ number (decimal row.1) ∷ []) rows.now) }
 {
@@ -59,13 +62,13 @@ fn write_rows(writer: &mut Writer, rows: &[(&str, u64)]) -> Result<(), AllocErro
 }
 
 /// Writes a member whose value is a number. Writes nothing for `None`.
-#[tactic(auto, unfolding(crate::specs::texts::JsonData::optional_member, crate::specs::texts::JsonWriting::members_tokens))]
+#[tactic(auto, using(crate::proofs::JsonWriting::plain_member_rules))]
 pub(crate) fn write_optional(
     writer: &mut Writer,
     name: &str,
     value: Option<u64>,
 ) -> Result<(), AllocError>
-    ensures before { KeepsTextBefore result writer.old writer.new }
+    ensures prefix { KeepsPrefix result writer.old writer.new }
     ensures members { AddsMembers result writer.old writer.new (optional_member name.now value) }
 {
     let Some(value) = value else {
@@ -76,9 +79,9 @@ pub(crate) fn write_optional(
 }
 
 /// Writes a member whose value is `true` or `false`.
-#[tactic(auto, unfolding(crate::specs::texts::JsonData::flag_member, crate::specs::texts::JsonWriting::members_tokens))]
+#[tactic(auto, using(crate::proofs::JsonWriting::plain_member_rules))]
 pub(crate) fn write_flag(writer: &mut Writer, name: &str, flag: bool) -> Result<(), AllocError>
-    ensures before { KeepsTextBefore result writer.old writer.new }
+    ensures prefix { KeepsPrefix result writer.old writer.new }
     ensures members { AddsMembers result writer.old writer.new (flag_member name.now flag) }
 {
     writer.key(name)?;
@@ -92,20 +95,21 @@ pub(crate) fn write_hex(
     name: &str,
     value: u64,
 ) -> Result<(), AllocError>
-    ensures before { KeepsTextBefore result writer.old writer.new }
+    ensures prefix { KeepsPrefix result writer.old writer.new }
     ensures members { AddsMembers result writer.old writer.new (hex_member name.now value) }
 {
     let text = format!(in alloc; "{value:x}")?;
     write_text(writer, name, text.as_str())
 }
 
-/// Writes the member `cookie`.
+/// Writes the member `cookie`: the eight bytes as a little-endian number, in lowercase hexadecimal
+/// digits.
 pub(crate) fn write_cookie(
     alloc: Global,
     writer: &mut Writer,
     cookie: &[u8; 8],
 ) -> Result<(), AllocError>
-    ensures before { KeepsTextBefore result writer.old writer.new }
+    ensures prefix { KeepsPrefix result writer.old writer.new }
     ensures members { AddsMembers result writer.old writer.new (cookie_member cookie.now) }
 {
     write_hex(alloc, writer, "cookie", LittleEndian::read_u64(cookie))
@@ -118,7 +122,7 @@ pub(crate) fn write_address(
     name: &str,
     address: IpAddr,
 ) -> Result<(), AllocError>
-    ensures before { KeepsTextBefore result writer.old writer.new }
+    ensures prefix { KeepsPrefix result writer.old writer.new }
     ensures members { AddsMembers result writer.old writer.new (address_member name.now address) }
 {
     let text = format!(in alloc; "{address}")?;
@@ -127,7 +131,7 @@ pub(crate) fn write_address(
 
 /// Writes bytes that the owner of a socket chose: under `name` if they are valid UTF-8, or else
 /// their hexadecimal digits under `hex_name`.
-#[tactic(auto, using(crate::proofs::JsonWriting::utf8_member, crate::proofs::JsonWriting::other_member))]
+#[tactic(auto, using(crate::proofs::JsonWriting::bytes_member_rules))]
 pub(crate) fn write_bytes(
     alloc: Global,
     writer: &mut Writer,
@@ -135,7 +139,7 @@ pub(crate) fn write_bytes(
     hex_name: &str,
     bytes: &[u8],
 ) -> Result<(), AllocError>
-    ensures before { KeepsTextBefore result writer.old writer.new }
+    ensures prefix { KeepsPrefix result writer.old writer.new }
     ensures members { AddsMembers result writer.old writer.new
         (bytes_member name.now hex_name.now bytes.now) }
 {

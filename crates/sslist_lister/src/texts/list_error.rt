@@ -39,6 +39,8 @@ pub enum ListError {
 impl ListError {
     /// Returns the text of the error, without the number of the packet.
     pub(crate) fn text(&self) -> ErrorText
+        // `packet_number_prefix error`: `packet N: ` if the error is about a packet, or else
+        // nothing. Together with the result it is the text of the error, `list_error_text`.
         ensures { packet_number_prefix self.now ++ error_text_bytes result
             ≡ list_error_text self.now }
     {
@@ -87,6 +89,7 @@ impl fmt::Display for ListError {
 impl Error for ListError {}
 
 impl From<WriteError> for ListError {
+    // `e`: the result.
     ghost from_gives = { λ error e. e ≡ Write error };
 
     fn from(error: WriteError) -> ListError {
@@ -95,6 +98,7 @@ impl From<WriteError> for ListError {
 }
 
 impl From<AllocError> for ListError {
+    // `e`: the result.
     ghost from_gives = { λ _ e. e ≡ Memory };
 
     fn from(_e: AllocError) -> ListError {
@@ -108,10 +112,13 @@ pub(crate) fn read_header<R: Source>(
     alloc: Global,
     input: &mut R,
 ) -> Result<CaptureReader, ListError>
-    // R.left: the remaining bytes, if known.
+    // `bytes`: the bytes that were read, with which a capture starts. `R.left`: the remaining
+    // bytes, if known. `Consumes left left' bytes`: these bytes were read. `state_of reader`: the
+    // state after them.
     ensures read { IfOk result (λ reader. (bytes : List ℕ) × IsCaptureStart bytes (state_of reader)
         × Consumes (R.left input.old) (R.left input.new) bytes) }
-    // R.failed: a read has failed with this error. part: the bytes that were read.
+    // `error`: why no capture was opened. `part`: the bytes that were read. `R.failed`: a read
+    // failed with this error.
     ensures stopped { IfErr result (λ e. (error : CaptureError) × (e ≡ ListError.Header error)
         × (part : List ℕ)
         × Consumes (R.left input.old) (R.left input.new) part
@@ -132,14 +139,17 @@ pub(crate) fn read_packet<R: Source>(
     number: u64,
     packet: &mut Vec<u8>,
 ) -> Result<Option<PacketHeader>, ListError>
-    // R.left: the remaining bytes, if known. bytes: the bytes that were read.
+    // `bytes`: the bytes that were read. `R.left`: the remaining bytes, if known. If no packet
+    // follows, all bytes were read (`IsAtEnd`), and `bytes` has no packet (`IsCaptureEnd`). Else
+    // `bytes` leads over one packet, with this header and with the bytes in `packet`.
     ensures read { IfOk result (λ found. (bytes : List ℕ)
         × Consumes (R.left input.old) (R.left input.new) bytes
         × MatchOption found
         (IsAtEnd (R.left input.new) × IsCaptureEnd (state_of reader.old) bytes)
         (λ header. ReadsPacket (state_of reader.old) bytes
         (captured_packet packet.new.items header) (state_of reader.new))) }
-    // R.failed: a read has failed with this error. part: the bytes that were read.
+    // `error`: why no packet was read. `part`: the bytes that were read. `R.failed`: a read failed
+    // with this error.
     ensures stopped { IfErr result (λ e. (error : CaptureError)
         × (e ≡ ListError.Packet number error) × (part : List ℕ)
         × Consumes (R.left input.old) (R.left input.new) part

@@ -4,14 +4,26 @@
 ghost use Rattle.std.specs.Prelude.{◌≡◌, ◌++◌, ℕ, List, IfOk, OnOk, chars, flat_map, string_bytes};
 ghost use Rattle.sslist_lister.specs.texts.Escapes.{unescaped_bytes, shown_character, escaped_byte};
 ghost use Rattle.sslist_lister.specs.texts.Escapes.{is_blank, is_left_to_right, is_shown_character};
-ghost use Rattle.sslist_lister.specs.texts.Escapes.{is_visible, shown_argument, shown_name};
-ghost use Rattle.sslist_lister.specs.texts.Escapes.{IsVisibleText};
+ghost use Rattle.sslist_lister.specs.texts.Escapes.{is_visible_category, shown_argument};
+ghost use Rattle.sslist_lister.specs.texts.Escapes.{shown_name, IsVisibleText};
 
-use crate::texts::cells::push_escaped_byte;
+use crate::texts::cells::{is_printable, push_escaped_byte};
 use std::alloc::{AllocError, Global};
 use unicode::properties::{
     BidiClass, GeneralCategory, GeneralCategoryGroup, is_default_ignorable_code_point,
 };
+
+/// BRAILLE PATTERN BLANK.
+const BRAILLE_BLANK: char = '\u{2800}';
+
+/// MUSICAL SYMBOL NULL NOTEHEAD.
+const NULL_NOTEHEAD: char = '\u{1d159}';
+
+/// EGYPTIAN HIEROGLYPH FULL BLANK.
+const HIEROGLYPH_FULL_BLANK: char = '\u{13441}';
+
+/// EGYPTIAN HIEROGLYPH HALF BLANK.
+const HIEROGLYPH_HALF_BLANK: char = '\u{13442}';
 
 /// Appends a name so that it cannot break a line or a column. A byte from `!` to `~` except the
 /// backslash is appended unchanged, any other byte as `\x` and two digits. If `utf8` is set and the
@@ -19,12 +31,12 @@ use unicode::properties::{
 pub(crate) fn push_shown(text: &mut Vec<u8>, utf8: bool, bytes: &[u8]) -> Result<(), AllocError>
     ensures shown { OnOk result (text.new.items ≡ text.old.items ++ shown_name utf8 bytes.now) }
     // The bytes can be read back from what is shown, by `unescaped_bytes`. So two different names
-    // are never shown alike. behind: the text that follows. If it begins with a space, nothing of
-    // it is read.
-    ensures unescapes { (behind : List ℕ)
-        → (unescaped_bytes 0 (shown_name utf8 bytes.now ++ behind)
-        ≡ bytes.now ++ unescaped_bytes 0 behind) }
-    // It has neither a space nor a character that controls a terminal.
+    // are never shown alike. `later` is any text that follows what is shown. If it begins with a
+    // space, nothing of it is read. `0`: no byte is skipped.
+    ensures unescapes { (later : List ℕ)
+        → (unescaped_bytes 0 (shown_name utf8 bytes.now ++ later)
+        ≡ bytes.now ++ unescaped_bytes 0 later) }
+    // What is shown has neither a space nor a character that controls a terminal.
     ensures visible { IsVisibleText (shown_name utf8 bytes.now) }
 {
     if !utf8 {
@@ -61,20 +73,21 @@ fn push_char(text: &mut Vec<u8>, c: char) -> Result<(), AllocError>
 }
 
 /// Returns whether a character is shown although it is not ASCII: a letter, number, punctuation or
-/// symbol that is written from left to right and is not blank.
+/// symbol that is not blank, and is written from left to right or takes the direction of its
+/// neighbors.
 #[tactic(auto, unfolding(crate::specs::texts::Escapes::is_shown_character))]
 fn is_shown(c: char) -> bool
     ensures { result ≡ is_shown_character c }
 {
     !c.is_ascii()
-        && is_visible(GeneralCategory::for_char(c))
+        && is_visible_category(GeneralCategory::for_char(c))
         && is_left_to_right(BidiClass::for_char(c))
         && !is_blank(c)
 }
 
 /// Returns whether characters of a general category are visible.
-fn is_visible(category: GeneralCategory) -> bool
-    ensures { result ≡ is_visible category }
+fn is_visible_category(category: GeneralCategory) -> bool
+    ensures { result ≡ is_visible_category category }
 {
     GeneralCategoryGroup::Letter.contains(category)
         || GeneralCategoryGroup::Number.contains(category)
@@ -103,10 +116,10 @@ fn is_blank(c: char) -> bool
     ensures { result ≡ is_blank c }
 {
     is_default_ignorable_code_point(c)
-        || c == '\u{2800}'
-        || c == '\u{1d159}'
-        || c == '\u{13441}'
-        || c == '\u{13442}'
+        || c == BRAILLE_BLANK
+        || c == NULL_NOTEHEAD
+        || c == HIEROGLYPH_FULL_BLANK
+        || c == HIEROGLYPH_HALF_BLANK
 }
 
 /// Appends each byte as [`push_escaped_byte`] does.
@@ -129,16 +142,16 @@ pub fn escaped(alloc: Global, bytes: &[u8]) -> Result<String, AllocError>
     }
     let mut shown = String::new(alloc);
     for byte in bytes {
-        push_escaped_char(alloc, &mut shown, *byte)?;
+        push_byte_to_string(alloc, &mut shown, *byte)?;
     }
     Ok(shown)
 }
 
-/// Appends a byte as [`push_escaped_byte`] does.
-fn push_escaped_char(alloc: Global, shown: &mut String, byte: u8) -> Result<(), AllocError>
+/// Appends a byte to a `String` as [`push_escaped_byte`] does to a `Vec`.
+fn push_byte_to_string(alloc: Global, shown: &mut String, byte: u8) -> Result<(), AllocError>
     ensures { OnOk result (string_bytes shown.new ≡ string_bytes shown.old ++ escaped_byte byte) }
 {
-    if (b'!'..=b'~').contains(&byte) && byte != b'\\' {
+    if is_printable(byte) {
         return shown.push(byte.into());
     }
     shown.push_str("\\x")?;

@@ -41,43 +41,45 @@ pub(crate) fn push_truncation(
     Ok(false)
 }
 
-/// Appends the diagnostic of a truncated packet: `length` of its `whole_length` bytes were
-/// captured.
+/// Appends the diagnostic of the truncated packet of this number: `length` of its `whole_length`
+/// bytes were captured. `lines` and `front` are unchanged.
 fn push_truncation_line(
     written: &mut PacketOutput<'_>,
-    packet: u64,
+    number: u64,
     length: usize,
     whole_length: u32,
 ) -> Result<(), AllocError>
     ensures lines { OnOk result (written.new.lines.items ≡ written.old.lines.items) }
     ensures diagnostics { OnOk result (written.new.diagnostics.items ≡ written.old.diagnostics.items
-        ++ packet_line written.old.front.now packet (truncation_text length whole_length)) }
+        ++ packet_line written.old.front.now number (truncation_text length whole_length)) }
     ensures front { written.new.front ≡ written.old.front }
 {
     let front = written.front;
     match writeln!(
         written.diagnostics,
-        "{front}packet {packet}: truncated to {length} of {whole_length} bytes"
+        "{front}packet {number}: truncated to {length} of {whole_length} bytes"
     ) {
         Ok(()) => Ok(()),
+        // A write to a `Vec` fails only if an allocation failed.
         Err(_) => Err(AllocError),
     }
 }
 
 /// Appends a line to `diagnostics`: the packet of this number is shorter than the 16 bytes of the
 /// cooked header. `lines` and `front` are unchanged.
-pub(crate) fn push_short(written: &mut PacketOutput<'_>, packet: u64) -> Result<(), AllocError>
+pub(crate) fn push_short(written: &mut PacketOutput<'_>, number: u64) -> Result<(), AllocError>
     ensures lines { OnOk result (written.new.lines.items ≡ written.old.lines.items) }
     ensures diagnostics { OnOk result (written.new.diagnostics.items ≡ written.old.diagnostics.items
-        ++ short_line written.old.front.now packet) }
+        ++ short_line written.old.front.now number) }
     ensures front { written.new.front ≡ written.old.front }
 {
     let front = written.front;
     match writeln!(
         written.diagnostics,
-        "{front}packet {packet}: fewer than 16 bytes"
+        "{front}packet {number}: fewer than 16 bytes"
     ) {
         Ok(()) => Ok(()),
+        // A write to a `Vec` fails only if an allocation failed.
         Err(_) => Err(AllocError),
     }
 }

@@ -11,13 +11,14 @@ use crate::texts::cells::{push_hex, push_number};
 use byteorder::{ByteOrder, LittleEndian};
 use std::alloc::AllocError;
 
-/// `RCV_SHUTDOWN`, the bit of a shutdown state for receiving.
-const SHUT_RECEIVING: u64 = 1;
+/// Bit of a shutdown state (`sk_shutdown` of the kernel): receiving is shut down.
+const RCV_SHUTDOWN: u64 = 1;
 
-/// `SEND_SHUTDOWN`, the bit of a shutdown state for sending.
-const SHUT_SENDING: u64 = 2;
+/// Bit of a shutdown state: sending is shut down.
+const SEND_SHUTDOWN: u64 = 2;
 
-/// The timer fields of `inet_diag_msg`, the header of a reply about an IPv4 or IPv6 socket.
+/// The timer fields of `inet_diag_msg`, the header of a reply about an IPv4 or IPv6 socket, as in
+/// the bytes. The parsed header has only those that belong to its kind of timer.
 #[derive(Clone, Copy, PartialEq, Eq)]
 pub(crate) struct TimerFields {
     /// Kind of the timer (`idiag_timer`). 0 if no timer runs.
@@ -76,7 +77,7 @@ fn push_timer(text: &mut Vec<u8>, timer: &TimerFields) -> Result<(), AllocError>
     Ok(text.push(b')')?)
 }
 
-/// Returns the name of a kind of timer, as ss(8) prints it.
+/// Returns the name of a kind of timer (`idiag_timer`, sock_diag(7)), as ss(8) prints it.
 fn name_of_timer(class: u8) -> &'static [u8]
     ensures { result.now ≡ timer_name class }
 {
@@ -106,19 +107,19 @@ pub(crate) fn push_shown_cookie(
 }
 
 /// Appends a space and the directions that are not shut down, as ss(8) does: `<->` if none is shut
-/// down. `<` is `-` if `state` has the bit 1 (`RCV_SHUTDOWN`), and `>` is `-` if it has the bit 2
-/// (`SEND_SHUTDOWN`).
+/// down. `<` is `-` if `state` has the bit [`RCV_SHUTDOWN`], and `>` is `-` if it has the bit
+/// [`SEND_SHUTDOWN`].
 pub(crate) fn push_directions(text: &mut Vec<u8>, state: u64) -> Result<(), AllocError>
     ensures { OnOk result (text.new.items ≡ text.old.items ++ directions state) }
 {
     text.push(b' ')?;
-    text.push(if state & SHUT_RECEIVING == 0 {
+    text.push(if state & RCV_SHUTDOWN == 0 {
         b'<'
     } else {
         b'-'
     })?;
     text.push(b'-')?;
-    Ok(text.push(if state & SHUT_SENDING == 0 {
+    Ok(text.push(if state & SEND_SHUTDOWN == 0 {
         b'>'
     } else {
         b'-'
@@ -129,15 +130,15 @@ pub(crate) fn push_directions(text: &mut Vec<u8>, state: u64) -> Result<(), Allo
 /// comma: ` wscale:(7,9)`.
 pub(crate) fn push_pair(
     text: &mut Vec<u8>,
-    word: &[u8],
+    name: &[u8],
     first: u64,
     second: u64,
 ) -> Result<(), AllocError>
     ensures { OnOk result (text.new.items ≡ text.old.items
-        ++ pair_detail word.now first second) }
+        ++ pair_detail name.now first second) }
 {
     text.push(b' ')?;
-    text.extend_from_slice(word)?;
+    text.extend_from_slice(name)?;
     text.extend_from_slice(b":(")?;
     push_number(text, first)?;
     text.push(b',')?;
@@ -145,16 +146,17 @@ pub(crate) fn push_pair(
     Ok(text.push(b')')?)
 }
 
-/// Appends a space, a name, a colon, `0x` and a number in lowercase hexadecimal digits.
+/// Appends a space, a name, a colon, `0x` and a number in lowercase hexadecimal digits. Example:
+/// ` states:0x480`.
 pub(crate) fn push_hex_detail(
     text: &mut Vec<u8>,
-    word: &[u8],
+    name: &[u8],
     number: u64,
 ) -> Result<(), AllocError>
-    ensures { OnOk result (text.new.items ≡ text.old.items ++ hex_detail word.now number) }
+    ensures { OnOk result (text.new.items ≡ text.old.items ++ hex_detail name.now number) }
 {
     text.push(b' ')?;
-    text.extend_from_slice(word)?;
+    text.extend_from_slice(name)?;
     text.extend_from_slice(b":0x")?;
     push_hex(text, number)
 }

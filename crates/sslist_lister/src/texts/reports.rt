@@ -1,12 +1,16 @@
-//! Output on standard error: diagnostics, and the line that names a failure.
+//! Output on standard error: diagnostics, and the line that names a failure. In each contract,
+//! `Reports before after text` states that the call reported this text, as [`report`] does.
+//! `before` and `after` are the states of `errors` and `is_open`, by `error_output held failed
+//! is_open`: `E.held sink` are the bytes written on a sink, if known, and `E.failed sink error`
+//! states that a write on it failed with this error.
 
 ghost use Rattle.std.specs.Prelude.{◌≡◌, ◌++◌, ◌∷◌, [], codes, decimal};
 ghost use Rattle.byteorder.specs.Endian.{big_bytes};
 ghost use Rattle.hex.specs.Hex.{encode_lower};
-ghost use Rattle.sslist_lister.specs.texts.Reports.{ReportsMore, closing_line, list_error_text};
+ghost use Rattle.sslist_lister.specs.texts.Reports.{Reports, closing_line, error_output};
+ghost use Rattle.sslist_lister.specs.texts.Reports.{list_error_text};
 ghost use Rattle.sslist_lister.specs.private.Report.{packet_number_prefix};
 ghost use Rattle.program_streams.specs.ErrorText.{error_text_bytes};
-ghost use Rattle.program_streams.specs.declared.streams.WriteError.{WriteError};
 
 use crate::texts::list_error::ListError;
 use itoa::Buffer;
@@ -16,9 +20,8 @@ use program_streams::{ErrorText, Sink, hex_digits, send};
 /// nothing more is written there. Then a prefix of the text was written.
 pub(crate) fn report<E: Sink>(errors: &mut E, is_open: &mut bool, text: &[u8])
     // If some texts were reported before the call, these texts and `text` are reported after it.
-    // E.held: the bytes written, if known. The type after it: a write failed.
-    ensures { ReportsMore (E.held errors.old) ((e : WriteError) × E.failed errors.old e) is_open.old
-        (E.held errors.new) ((e : WriteError) × E.failed errors.new e) is_open.new text.now }
+    ensures { Reports (error_output (E.held errors.old) (E.failed errors.old) is_open.old)
+        (error_output (E.held errors.new) (E.failed errors.new) is_open.new) text.now }
 {
     if *is_open {
         match send(errors, text) {
@@ -36,8 +39,9 @@ pub(crate) fn report_failure<E: Sink>(
     front: &str,
     failure: &ListError,
 )
-    ensures { ReportsMore (E.held errors.old) ((e : WriteError) × E.failed errors.old e) is_open.old
-        (E.held errors.new) ((e : WriteError) × E.failed errors.new e) is_open.new
+    // `closing_line front failure`: the line, or nothing for a closed output pipe.
+    ensures { Reports (error_output (E.held errors.old) (E.failed errors.old) is_open.old)
+        (error_output (E.held errors.new) (E.failed errors.new) is_open.new)
         (closing_line front.now failure.now) }
 {
     if !failure.is_closed_pipe() {
@@ -47,21 +51,22 @@ pub(crate) fn report_failure<E: Sink>(
 
 /// Writes a line with the text of a failure, by [`report`].
 fn report_line<E: Sink>(errors: &mut E, is_open: &mut bool, front: &str, failure: &ListError)
-    ensures { ReportsMore (E.held errors.old) ((e : WriteError) × E.failed errors.old e) is_open.old
-        (E.held errors.new) ((e : WriteError) × E.failed errors.new e) is_open.new
+    // 10 is a line feed.
+    ensures { Reports (error_output (E.held errors.old) (E.failed errors.old) is_open.old)
+        (error_output (E.held errors.new) (E.failed errors.new) is_open.new)
         (front.now ++ list_error_text failure.now ++ 10 ∷ []) }
 {
     report(errors, is_open, front.as_bytes());
-    report_place(errors, is_open, failure);
+    report_subject(errors, is_open, failure);
     report_text(errors, is_open, failure.text());
     report(errors, is_open, b"\n");
 }
 
-/// Writes the number of the packet that a failure is about, by [`report`]. Writes nothing if it is
-/// not about a packet.
-fn report_place<E: Sink>(errors: &mut E, is_open: &mut bool, failure: &ListError)
-    ensures { ReportsMore (E.held errors.old) ((e : WriteError) × E.failed errors.old e) is_open.old
-        (E.held errors.new) ((e : WriteError) × E.failed errors.new e) is_open.new
+/// Writes the prefix with the number of the packet that a failure is about, by [`report`]. Writes
+/// nothing if it is not about a packet.
+fn report_subject<E: Sink>(errors: &mut E, is_open: &mut bool, failure: &ListError)
+    ensures { Reports (error_output (E.held errors.old) (E.failed errors.old) is_open.old)
+        (error_output (E.held errors.new) (E.failed errors.new) is_open.new)
         (packet_number_prefix failure.now) }
 {
     match failure {
@@ -71,20 +76,20 @@ fn report_place<E: Sink>(errors: &mut E, is_open: &mut bool, failure: &ListError
 }
 
 /// Writes the number of a packet as the prefix of an error, by [`report`].
-fn report_packet<E: Sink>(errors: &mut E, is_open: &mut bool, packet: u64)
-    ensures { ReportsMore (E.held errors.old) ((e : WriteError) × E.failed errors.old e) is_open.old
-        (E.held errors.new) ((e : WriteError) × E.failed errors.new e) is_open.new
-        (codes "packet " ++ decimal packet ++ codes ": ") }
+fn report_packet<E: Sink>(errors: &mut E, is_open: &mut bool, number: u64)
+    ensures { Reports (error_output (E.held errors.old) (E.failed errors.old) is_open.old)
+        (error_output (E.held errors.new) (E.failed errors.new) is_open.new)
+        (codes "packet " ++ decimal number ++ codes ": ") }
 {
     report(errors, is_open, b"packet ");
-    report_number(errors, is_open, packet);
+    report_number(errors, is_open, number);
     report(errors, is_open, b": ");
 }
 
 /// Writes the text of an error, by [`report`].
 fn report_text<E: Sink>(errors: &mut E, is_open: &mut bool, text: ErrorText)
-    ensures { ReportsMore (E.held errors.old) ((e : WriteError) × E.failed errors.old e) is_open.old
-        (E.held errors.new) ((e : WriteError) × E.failed errors.new e) is_open.new
+    ensures { Reports (error_output (E.held errors.old) (E.failed errors.old) is_open.old)
+        (error_output (E.held errors.new) (E.failed errors.new) is_open.new)
         (error_text_bytes text) }
 {
     match text {
@@ -103,8 +108,8 @@ fn report_text<E: Sink>(errors: &mut E, is_open: &mut bool, text: ErrorText)
 
 /// Writes a number in decimal, by [`report`].
 fn report_number<E: Sink>(errors: &mut E, is_open: &mut bool, number: u64)
-    ensures { ReportsMore (E.held errors.old) ((e : WriteError) × E.failed errors.old e) is_open.old
-        (E.held errors.new) ((e : WriteError) × E.failed errors.new e) is_open.new
+    ensures { Reports (error_output (E.held errors.old) (E.failed errors.old) is_open.old)
+        (error_output (E.held errors.new) (E.failed errors.new) is_open.new)
         (decimal number) }
 {
     let mut buffer = Buffer::new();
@@ -113,8 +118,9 @@ fn report_number<E: Sink>(errors: &mut E, is_open: &mut bool, number: u64)
 
 /// Writes a number in eight hexadecimal digits, by [`report`].
 fn report_hex<E: Sink>(errors: &mut E, is_open: &mut bool, number: u32)
-    ensures { ReportsMore (E.held errors.old) ((e : WriteError) × E.failed errors.old e) is_open.old
-        (E.held errors.new) ((e : WriteError) × E.failed errors.new e) is_open.new
+    // The four bytes of the number, big-endian, in lowercase digits.
+    ensures { Reports (error_output (E.held errors.old) (E.failed errors.old) is_open.old)
+        (error_output (E.held errors.new) (E.failed errors.new) is_open.new)
         (encode_lower (big_bytes 4 number)) }
 {
     report(errors, is_open, &hex_digits(number));

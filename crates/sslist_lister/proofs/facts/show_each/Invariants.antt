@@ -1,5 +1,5 @@
-use Rattle.std.proofs.Common.{◌≡◌, ◌++◌, drop, flat_map, option_map}
-use Rattle.sslist_lister.specs.Facts.{number_row}
+use Rattle.std.proofs.Common.{◌≡◌, ◌++◌, drop, flat_map}
+use Rattle.sslist_lister.specs.Facts.{number_row_facts, number_row_of}
 use Rattle.sslist_lister.proofs.facts.show_each.Given as goal
 
 -- the text before is unchanged, and the items so far, followed by those of the remaining rows, are
@@ -7,9 +7,9 @@ use Rattle.sslist_lister.proofs.facts.show_each.Given as goal
 abbrev pub invariant-loop-format : goal.invariant-loop-format
 invariant-loop-format g l =
     let sink = g.S.FactSink in
-    (sink.kept l.sink ≡ sink.kept l.fn.sink) × (sink.content l.sink
-    ++ flat_map (λ row. sink.items (number_row
-    (row.0, row.1.now, option_map (λ m. m.now) row.2, row.3))) (drop l.format-index l.rows)
-    ≡ sink.content l.fn.sink
-    ++ flat_map (λ row. sink.items (number_row
-    (row.0, row.1.now, option_map (λ m. m.now) row.2, row.3))) l.rows)
+    ((sink.content l.sink).text_before ≡ (sink.content l.fn.sink).text_before)
+    × ((sink.content l.sink).shown
+    ++ flat_map (λ row. sink.items (number_row_facts (number_row_of row)))
+    (drop l.format-index l.rows)
+    ≡ (sink.content l.fn.sink).shown
+    ++ flat_map (λ row. sink.items (number_row_facts (number_row_of row))) l.rows)

@@ -48,7 +48,7 @@ returns-in-Err-clause-lists c =
       messages = inv.passed;
       end = Some c.in-Err.error;
       cut = all_read _ _ inv.passed (Some c.in-Err.error) inv.read (stop.0, stop.1);
-      lines = c.in_ok-push_end-in-Err.ensures.lines ∙ inv.lines;
+      lines = c.in_ok-push_framing_error-in-Err.ensures.lines ∙ inv.lines;
       clean = search rules;
     }
 
@@ -66,7 +66,7 @@ returns-in-Err-clause-diagnosed c =
         append_assoc,
         inv.diagnosed,
         inv.counted,
-        rw (counted, inv.front) at c.in_ok-push_end-in-Err.ensures.diagnostics,
+        rw (counted, inv.front) at c.in_ok-push_framing_error-in-Err.ensures.diagnostics,
       );
     }
 

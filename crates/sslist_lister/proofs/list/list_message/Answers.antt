@@ -5,6 +5,6 @@ pub returns-clause-diagnosed : goal.returns-clause-diagnosed
 returns-clause-diagnosed c =
     let first = c.in_ok-push_optional_diagnostic.ensures in
     appended_texts_concatenate _ _ _ _ _
-    (rw c.interruption_diagnostic-interrupted.ensures at first.diagnostics)
+    (rw c.interrupted_diagnostic-interrupted.ensures at first.diagnostics)
     (rw (first.front, c.in_ok-diagnostic.ensures.diagnostic)
     at c.in_ok-push_explained_diagnostic.ensures.diagnostics)

@@ -5,8 +5,8 @@ use Rattle.sslist_lister.proofs.md5_keys.push_keys.Goals as goal
 
 pub loop-key-preserved : goal.loop-key-preserved
 loop-key-preserved c =
-    let rest = c.loop-key.rest.now in
-    let long : 100 ≤ length rest = search rules in
-    let is : c.in-Some.key ≡ key_at rest = search rules in
-    keys_pushed _ _ _ _ rest c.loop-key.separator c.in-Some.key long is
+    let remaining = c.loop-key.remaining.now in
+    let long : 100 ≤ length remaining = search rules in
+    let is : c.in-Some.key ≡ key_at remaining = search rules in
+    keys_pushed _ _ _ _ remaining c.loop-key.separator c.in-Some.key long is
     c.in_ok-push.ensures.items c.in_ok-push_key.ensures c.loop-key.invariant

@@ -9,9 +9,9 @@ use Rattle.sslist_lister.proofs.md5_keys.write_keys.Given as goal
 abbrev pub invariant-loop-key : goal.invariant-loop-key
 invariant-loop-key l =
     (l.writer.before ≡ l.fn.writer.before) × (l.writer.tokens
-    ++ flat_map (λ k. json_tokens (md5_key_value k)) (md5_keys l.rest)
+    ++ flat_map (λ k. json_tokens (md5_key_value k)) (md5_keys l.remaining)
     ≡ l.fn.writer.tokens
     ++ flat_map (λ k. json_tokens (md5_key_value k)) (md5_keys l.fn.value))
 
 abbrev pub decreases-loop-key : goal.decreases-loop-key
-decreases-loop-key l = length l.rest
+decreases-loop-key l = length l.remaining

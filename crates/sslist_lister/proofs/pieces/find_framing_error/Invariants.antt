@@ -1,12 +1,12 @@
 use Rattle.std.proofs.Common.{◌≡◌, length}
 use Rattle.sslist_lister.specs.Pieces.{framing_error_of, attributes_or_error}
-use Rattle.sslist_lister.specs.Pieces.{attributes_or_error_left}
+use Rattle.sslist_lister.specs.Pieces.{pieces_left}
 use Rattle.sslist_lister.proofs.pieces.find_framing_error.Given as goal
 
 -- the error among the remaining pieces is the error among all pieces
 abbrev pub invariant-loop-piece : goal.invariant-loop-piece
-invariant-loop-piece l = framing_error_of (attributes_or_error_left l.walk)
+invariant-loop-piece l = framing_error_of (pieces_left l.walk)
     ≡ framing_error_of (attributes_or_error 0 l.bytes)
 
 abbrev pub decreases-loop-piece : goal.decreases-loop-piece
-decreases-loop-piece l = length (attributes_or_error_left l.walk)
+decreases-loop-piece l = length (pieces_left l.walk)

@@ -132,8 +132,8 @@ packets-preserved g c =
       front = rw c.in_ok-is_listed.ensures.front inv.front;
     }
 
-pub returns-in_default-clause-table : goal.returns-in_default-clause-table
-returns-in_default-clause-table g c =
+pub returns-in_default-clause-ended : goal.returns-in_default-clause-ended
+returns-in_default-clause-ended g c =
     let last = c.in_ok-header.ensures.read in
     let end = none_read _ _ _ c.in_default.not-Some last.2 in
     let inv = c.packets.invariant in record {
@@ -152,14 +152,14 @@ returns-in_default-clause-table g c =
       reported = inv.reported;
     }
 
-pub returns-in_err-reader-clause-failed : goal.returns-in_err-reader-clause-failed
-returns-in_err-reader-clause-failed g c =
+pub returns-in_err-reader-clause-ended : goal.returns-in_err-reader-clause-ended
+returns-in_err-reader-clause-ended g c =
     let p = err_from_is_err_and c.from_residual.result c.from_residual.ensures.1 in
     rw (p.1, p.2) (fails_at_header _ _ _ _ _ _ (ReportsMore _ _ _ _ _ _) _ _ (reports_nothing _ _ _)
     c.in_err-reader.ensures.stopped)
 
-pub returns-in_err-send-clause-failed : goal.returns-in_err-send-clause-failed
-returns-in_err-send-clause-failed g c =
+pub returns-in_err-send-clause-ended : goal.returns-in_err-send-clause-ended
+returns-in_err-send-clause-ended g c =
     let p = err_from_is_err_and c.from_residual-in_err-send.result
     c.from_residual-in_err-send.ensures.1 in
     let (failed, sent, rest, split, appended) = c.in_err-send.ensures.stopped in
@@ -167,8 +167,8 @@ returns-in_err-send-clause-failed g c =
     rw (p.1, p.2) (fails_at_heading _ _ _ header is _ _ _ _ _
     (ReportsMore _ _ _ _ _ _) (reports_nothing _ _ _) read sent rest split appended)
 
-pub returns-in_err-header-clause-failed : goal.returns-in_err-header-clause-failed
-returns-in_err-header-clause-failed g c =
+pub returns-in_err-header-clause-ended : goal.returns-in_err-header-clause-ended
+returns-in_err-header-clause-ended g c =
     let p = err_from_is_err_and c.from_residual-in_err-header.result
     c.from_residual-in_err-header.ensures.1 in
     let (header, is, read) = c.in_ok-reader.ensures.read in
@@ -183,8 +183,8 @@ returns-in_err-header-clause-cause g c =
     c.from_residual-in_err-header.ensures.1 in
     rw (p.1, p.2) (no_write _ _ _ _ c.in_err-header.ensures.stopped.1)
 
-pub returns-in_err-flush-clause-failed : goal.returns-in_err-flush-clause-failed
-returns-in_err-flush-clause-failed g c =
+pub returns-in_err-flush-clause-ended : goal.returns-in_err-flush-clause-ended
+returns-in_err-flush-clause-ended g c =
     let p = err_from_is_err_and c.from_residual-in_err-flush.result
     c.from_residual-in_err-flush.ensures.1 in
     let (header, is, read) = c.in_ok-reader.ensures.read in
@@ -195,8 +195,8 @@ returns-in_err-flush-clause-failed g c =
     c.in_ok-send.ensures.written (ReportsMore _ _ _ _ _ _) inv.reported _ _
     last.0 end.1 last.1 c.in_err-flush.ensures.bytes)
 
-pub returns-in_err-is_listed-clause-failed : goal.returns-in_err-is_listed-clause-failed
-returns-in_err-is_listed-clause-failed g c =
+pub returns-in_err-is_listed-clause-ended : goal.returns-in_err-is_listed-clause-ended
+returns-in_err-is_listed-clause-ended g c =
     let p = err_from_is_err_and c.from_residual-in_err-is_listed.result
     c.from_residual-in_err-is_listed.ensures.1 in
     let (header, is, read) = c.in_ok-reader.ensures.read in
@@ -206,8 +206,8 @@ returns-in_err-is_listed-clause-failed g c =
     c.in_ok-send.ensures.written (ReportsMore _ _ _ _ _ _) inv.reported _ _ _ got.0 _
     _ p.2 got.2 got.1)
 
-pub returns-in_err-send-2-clause-failed : goal.returns-in_err-send-2-clause-failed
-returns-in_err-send-2-clause-failed g c =
+pub returns-in_err-send-2-clause-ended : goal.returns-in_err-send-2-clause-ended
+returns-in_err-send-2-clause-ended g c =
     let p = err_from_is_err_and c.from_residual-in_err-send-2.result
     c.from_residual-in_err-send-2.ensures.1 in
     let (header, is, read) = c.in_ok-reader.ensures.read in
@@ -230,8 +230,8 @@ returns-in_err-send-2-clause-failed g c =
     (sym c.as_slice-in-packets.ensures.value ∙ split)
     appended)
 
-pub returns-clause-failed : goal.returns-clause-failed
-returns-clause-failed g c =
+pub returns-clause-ended : goal.returns-clause-ended
+returns-clause-ended g c =
     let (header, is, read) = c.in_ok-reader.ensures.read in
     let inv = c.packets.invariant in
     fails_past_numbers _ _ _ header is _ _ _ _ _ _ _ _ _ _ _ inv.listed read

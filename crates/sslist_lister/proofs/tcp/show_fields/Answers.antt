@@ -1,5 +1,4 @@
-use Rattle.std.proofs.Common.{option_map}
-use Rattle.sslist_lister.specs.Tcp.{field_facts, row_facts}
+use Rattle.sslist_lister.specs.Tcp.{field_facts, field_row_of, row_facts}
 use Rattle.sslist_lister.proofs.FactItems.{items_of_mapped}
 use Rattle.sslist_lister.proofs.tcp.show_fields.Goals as goal
 
@@ -8,6 +7,5 @@ unfolding field_facts
 returns g c =
     let laws = g.met.S.FactSink in
     rw (items_of_mapped g.S.FactSink.items laws.items_of_none laws.items_of_both
-    (row_facts c.args.bytes.now)
-    (λ row. (row.0, row.1, row.2, row.3.now, option_map (λ m. m.now) row.4)) c.args.rows.now)
+    (row_facts c.args.bytes.now) field_row_of c.args.rows.now)
     c.show_rows.ensures

@@ -8,7 +8,7 @@ pub returns : goal.returns
 unfolding mptcp_info
 returns g c =
     on_ok_weaker c.end.result
-    (shown_group g.S.FactSink.kept g.S.FactSink.content _ _ _ _ _ _ _ _ c.in_ok-begin.ensures
+    (shown_group g.S.FactSink.content _ _ _ _ _ _ _ _ c.in_ok-begin.ensures
     (rw c.mptcp_rows.ensures at c.in_ok-show_fields.ensures)
     (g.met.S.FactSink.items_of_group [] [] (codes "info")
     (field_facts c.args.bytes.now mptcp_rows)))

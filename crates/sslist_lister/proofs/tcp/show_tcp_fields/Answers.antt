@@ -9,6 +9,6 @@ returns g c =
     let sink = g.S.FactSink in
     rw (← c.tcp_state_rows.ensures, ← c.tcp_metric_rows.ensures, ← c.tcp_rate_rows.ensures)
     (on_ok_weaker c.show_fields-3.result
-    (shown_three sink.kept sink.content sink.items g.met.S.FactSink.items_of_both _ _ _ _ _ _ _
+    (shown_three sink.content g.met.S.FactSink.items_of_both _ _ _ _ _ _ _
     c.in_ok-show_fields.ensures c.in_ok-show_fields-2.ensures)
     c.show_fields-3.ensures)

@@ -8,7 +8,7 @@ pub returns : goal.returns
 unfolding tcp_info
 returns g c =
     on_ok_weaker c.end.result
-    (shown_group g.S.FactSink.kept g.S.FactSink.content _ _ _ _ _ _ _ _ c.in_ok-begin.ensures
+    (shown_group g.S.FactSink.content _ _ _ _ _ _ _ _ c.in_ok-begin.ensures
     c.in_ok-show_tcp_fields.ensures
     (g.met.S.FactSink.items_of_group [] [] (codes "info") (tcp_fields c.args.bytes.now)))
     c.end.ensures

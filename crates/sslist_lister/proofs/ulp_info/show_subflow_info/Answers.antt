@@ -7,7 +7,7 @@ use Rattle.sslist_lister.proofs.ulp_info.show_subflow_info.Goals as goal
 pub returns : goal.returns
 returns g c =
     on_ok_weaker c.end.result
-    (shown_group g.S.FactSink.kept g.S.FactSink.content _ _ _ _ _ _ _ _ c.in_ok-begin.ensures
+    (shown_group g.S.FactSink.content _ _ _ _ _ _ _ _ c.in_ok-begin.ensures
     c.in_ok-show_subflow_parts.ensures
     (g.met.S.FactSink.items_of_group [] [] (codes "mptcp")
     (subflow_facts c.args.bytes.now)))

@@ -1,6 +1,6 @@
-use Rattle.std.proofs.Common.{◌∙◌, ap, option_map, sym}
+use Rattle.std.proofs.Common.{◌∙◌, ap, sym}
 use Rattle.sslist_lister.specs.Facts.{facts_of_each}
-use Rattle.sslist_lister.specs.UlpInfo.{ulp_row}
+use Rattle.sslist_lister.specs.UlpInfo.{ulp_row, ulp_row_of}
 use Rattle.sslist_lister.proofs.FactItems.{items_of_mapped}
 use Rattle.sslist_lister.proofs.ulp_info.show_subflow_numbers.Goals as goal
 
@@ -11,6 +11,5 @@ returns g c =
     rw (ap (λ rows. items (facts_of_each (ulp_row c.args.bytes.now) rows))
     (sym c.list_subflow_rows.ensures)
     ∙ items_of_mapped items laws.items_of_none laws.items_of_both (ulp_row c.args.bytes.now)
-    (λ row. (row.0, row.1.now, option_map (λ m. m.now) row.2, row.3))
-    c.list_subflow_rows.result.now)
+    ulp_row_of c.list_subflow_rows.result.now)
     c.show_rows.ensures

@@ -1,6 +1,5 @@
-use Rattle.std.proofs.Common.{refl, rules, ap, sym, ℕ, List, map, string_bytes, option_map}
-use Rattle.sslist_lister.specs.command_line.Choice.{options_after}
-use Rattle.sslist_lister.specs.declared.command_line.arguments.Argument.{Argument}
+use Rattle.std.proofs.Common.{refl, rules, ap, sym, map, string_bytes, option_map}
+use Rattle.sslist_lister.specs.command_line.Choice.{ParsedArgument, options_after}
 use Rattle.sslist_lister.specs.declared.command_line.arguments.Place.TheVariants as place
 use Rattle.sslist_lister.specs.declared.command_line.options.Options.{Options}
 use Rattle.sslist_lister.proofs.Choosing.{argument_is_added, first_deciding_argument_found}
@@ -21,14 +20,14 @@ returns-in-Help c =
     let kind = rw c.as_bytes.ensures.value at c.argument_at-parsed.ensures in
     let found = first_deciding_argument_found string_bytes _ _ _ _ _ _ _ c.loop-argument.invariant
     c.loop-argument-test.true c.argument-item.is refl kind (rw c.in-Help.is refl) in
-    rw c.in-Help.is at (ap (option_map (λ (a : Argument × List ℕ). a.0)) found)
+    rw c.in-Help.is at (ap (option_map (λ (a : ParsedArgument). a.parsed)) found)
 
 pub returns-in-Version : goal.returns-in-Version
 returns-in-Version c =
     let kind = rw c.as_bytes.ensures.value at c.argument_at-parsed.ensures in
     let found = first_deciding_argument_found string_bytes _ _ _ _ _ _ _ c.loop-argument.invariant
     c.loop-argument-test.true c.argument-item.is refl kind (rw c.in-Version.is refl) in
-    rw c.in-Version.is at (ap (option_map (λ (a : Argument × List ℕ). a.0)) found)
+    rw c.in-Version.is at (ap (option_map (λ (a : ParsedArgument). a.parsed)) found)
 
 pub returns-in-Rejected : goal.returns-in-Rejected
 returns-in-Rejected c =

@@ -26,17 +26,17 @@ returns-in-Err-clause-shown c =
 
 pub returns-then-not-utf8-clause-unescapes : goal.returns-then-not-utf8-clause-unescapes
 returns-then-not-utf8-clause-unescapes c =
-    λ behind. unescaped_shown_name c.args.utf8 c.args.bytes.now behind
+    λ later. unescaped_shown_name c.args.utf8 c.args.bytes.now later
     (λ i. omega (arith, c.type_inv.bytes i))
 
 pub returns-in-Ok-clause-unescapes : goal.returns-in-Ok-clause-unescapes
 returns-in-Ok-clause-unescapes c =
-    λ behind. unescaped_shown_name c.args.utf8 c.args.bytes.now behind
+    λ later. unescaped_shown_name c.args.utf8 c.args.bytes.now later
     (λ i. omega (arith, c.type_inv.bytes i))
 
 pub returns-in-Err-clause-unescapes : goal.returns-in-Err-clause-unescapes
 returns-in-Err-clause-unescapes c =
-    λ behind. unescaped_shown_name c.args.utf8 c.args.bytes.now behind
+    λ later. unescaped_shown_name c.args.utf8 c.args.bytes.now later
     (λ i. omega (arith, c.type_inv.bytes i))
 
 pub returns-then-not-utf8-clause-visible : goal.returns-then-not-utf8-clause-visible
