@@ -104,10 +104,10 @@ __attribute__((used)) static uint32_t (*const sockdiag_linked_abi)(void) = sockd
 #endif
 
 /*
- * Returns 1 if a header of this version is compatible with the library, else 0: if the first number
- * of both versions is equal, and the second one of the header is not greater. A newer header may
- * declare calls that the library lacks. sockdiag_is_compatible passes the version of the header
- * that the program was compiled with.
+ * Returns 1 if a header of this version is compatible with the library, else 0. It is compatible if
+ * the first numbers of both versions are equal, and the second number of the header is not greater
+ * than that of the library. A newer header may declare calls that the library lacks.
+ * sockdiag_is_compatible passes the version of the header that the program was compiled with.
  */
 uint32_t sockdiag_is_compatible_with(uint32_t version);
 
@@ -691,12 +691,12 @@ uint32_t sockdiag_inet_get_details(const uint8_t *payload, size_t length,
                                    struct sockdiag_inet_details *details);
 
 /*
- * Stores the inode of a socket that connected to a UNIX socket, and was not yet accepted: the one
- * at this index of the first UNIX_DIAG_ICONS of a reply, which is the payload of a netlink message.
- * The first connection has index 0. Returns 1. Returns 0 if the reply is rejected, or has no
- * connection at this index; then the inode is unchanged. The inode is 0 if the socket was closed
- * since. The other end of such a connection, which accept(2) will return, has no inode yet, and the
- * kernel does not list it.
+ * Stores the inode of a socket that connected to a UNIX socket, and was not yet accepted: the inode
+ * at this index of the first UNIX_DIAG_ICONS of a reply. The first connection has index 0. The
+ * bytes are the payload of the netlink message. Returns 1. Returns 0 if the reply is rejected, or
+ * has no connection at this index; then the inode is unchanged. The inode is 0 if the socket was
+ * closed since. The other end of such a connection, which accept(2) will return, has no inode yet,
+ * and the kernel does not list it.
  *
  * Each call checks the whole reply. To read all connections, find UNIX_DIAG_ICONS once by
  * sockdiag_next_attribute, and step through its value by sockdiag_next_pending.
@@ -1077,7 +1077,8 @@ struct sockdiag_mptcp_info {
  * and its bytes have no meaning in info.
  *
  * The values of attributes are not checked. So this call also works for a value that is rejected
- * with SOCKDIAG_BUFFER_TOO_SMALL, as a lenient call reports it for each value of MPTCP.
+ * with SOCKDIAG_BUFFER_TOO_SMALL, as a lenient call reports it for each value of MPTCP. Attributes
+ * after a framing error are not found.
  */
 size_t sockdiag_inet_get_mptcp_info(const uint8_t *payload, size_t length,
                                     struct sockdiag_mptcp_info *info);
@@ -1177,9 +1178,9 @@ struct sockdiag_rejections {
  * has a field in the details, and the first error of each kind, in one pass over the attributes.
  * What follows a framing error is not parsed. The bytes are the payload of the netlink message.
  * Returns 0, and sets all fields of the details and of the rejections; or the code of the error of
- * the header, and then both are unchanged. The previous contents of both are not read. What is not
- * rejected is as sockdiag_unix_get_details describes it. The family, the first byte, is not
- * checked: use it to choose the call.
+ * the header, and then both are unchanged. The previous contents of both are not read. The fields
+ * are set as sockdiag_unix_get_details sets them. The family, the first byte, is not checked: use
+ * it to choose the call.
  *
  * Use this call to list sockets: a value that this library does not accept, such as the
  * UNIX_DIAG_MEMINFO of an old kernel, hides only itself, and not its socket.
@@ -1190,12 +1191,11 @@ uint32_t sockdiag_unix_get_lenient_details(const uint8_t *payload, size_t length
 
 /*
  * Returns the header of a reply about an IPv4 or IPv6 socket, the first valid attribute of each
- * kind that has a field in the details, which are those with a text or a number, and the first
- * error of each kind, in one pass over the attributes. What follows a framing error is not parsed.
- * The bytes are the payload of the netlink message. Returns 0, and sets all fields of the details
- * and of the rejections; or the code of the error of the header, and then both are unchanged. The
- * previous contents of both are not read. What is not rejected is as sockdiag_inet_get_details
- * describes it.
+ * kind that has a field in the details (a text or a number), and the first error of each kind, in
+ * one pass over the attributes. What follows a framing error is not parsed. The bytes are the
+ * payload of the netlink message. Returns 0, and sets all fields of the details and of the
+ * rejections; or the code of the error of the header, and then both are unchanged. The previous
+ * contents of both are not read. The fields are set as sockdiag_inet_get_details sets them.
  *
  * Use this call to list sockets: a value that this library does not accept, such as the
  * INET_DIAG_INFO of an old kernel or of MPTCP, hides only itself, and not its socket.
@@ -1587,13 +1587,15 @@ struct sockdiag_attribute {
 };
 
 /*
- * Stores the attribute at the cursor, and advances the cursor past it and its padding. In a checked
- * reply, starting at the end of its header, the return value is 1 for each attribute, in order, and
- * then 0.
+ * Stores the attribute at the cursor, and advances the cursor past it and its padding. The value of
+ * the attribute is not checked. Returns one of:
+ * - 1 if an attribute was stored;
+ * - 0 if no bytes are left, and then nothing is written;
+ * - the code of the framing error at the cursor, 7 to 9; then the attribute is unchanged, and no
+ *   bytes are left.
  *
- * Returns 1; or 0 if no bytes are left, and then nothing is written; or the code of the framing
- * error there, 7 to 9, and then the attribute is unchanged and nothing is left. The value is not
- * checked.
+ * In a checked reply, starting at the end of its header, the return value is 1 for each attribute,
+ * in order, and then 0.
  */
 uint32_t sockdiag_next_attribute(const uint8_t *bytes, size_t length,
                                  struct sockdiag_cursor *cursor,
@@ -1627,8 +1629,8 @@ struct sockdiag_message {
  * - 0 if no bytes are left, and then nothing is written;
  * - the code of the first error of the payload of a message of any other type; the message is set,
  *   and the iteration may continue;
- * - the code of the framing error there, 16 to 18, and then the message is unchanged and nothing is
- *   left.
+ * - the code of the framing error at the cursor, 16 to 18; then the message is unchanged, and no
+ *   bytes are left.
  *
  * The end of a dump, NLMSG_DONE, does not end the iteration. The answer to a request without
  * NLM_F_DUMP is one message, and has no such end. Kernels put whole messages into a datagram: a
@@ -1638,11 +1640,13 @@ uint32_t sockdiag_next_message(const uint8_t *datagram, size_t length,
                                struct sockdiag_cursor *cursor, struct sockdiag_message *message);
 
 /*
- * Stores the message at the cursor, and advances the cursor past it and its padding. Returns 1,
- * whatever the type and the payload of the message; or 0 if no bytes are left, and then nothing is
- * written; or the code of the framing error there, 16 to 18, and then the message is unchanged and
- * nothing is left. Then the rest of the datagram is lost, and with it possibly the end of the dump:
- * request the dump again, on another socket, instead of waiting for its end.
+ * Stores the message at the cursor, and advances the cursor past it and its padding. Returns one
+ * of:
+ * - 1 if a message was stored, whatever its type and its payload;
+ * - 0 if no bytes are left, and then nothing is written;
+ * - the code of the framing error at the cursor, 16 to 18; then the message is unchanged, and no
+ *   bytes are left. The rest of the datagram is lost, and with it possibly the end of the dump:
+ *   request the dump again, on another socket, instead of waiting for its end.
  *
  * The payload is not checked. So a reply that is passed to sockdiag_unix_get_details or a similar
  * call is checked only once. A reply that such a call rejects does not end a dump: continue with
@@ -1672,20 +1676,24 @@ uint32_t sockdiag_get_error_number(const uint8_t *payload, size_t length, int32_
  * with the same bytes and this cursor. The kernel sends them to a socket with the option
  * NETLINK_EXT_ACK.
  *
- * Returns 1; if there are no attributes, since the flags lack NLM_F_ACK_TLVS, nothing is left after
- * the cursor. Returns 0, and then the cursor is unchanged, if the message has another type; if an
- * NLMSG_DONE has fewer than 4 bytes; or if an NLMSG_ERROR has fewer than 20 bytes, or does not
- * contain the whole request although it should.
+ * Returns 1 if the cursor was set. If the flags lack NLM_F_ACK_TLVS, there are no attributes, and
+ * no bytes are left after the cursor. Returns 0 if the cursor is unchanged, for one of these
+ * reasons:
+ * - The message has another type.
+ * - An NLMSG_DONE has fewer than 4 bytes.
+ * - An NLMSG_ERROR has fewer than 20 bytes, or does not contain the whole request although it
+ *   should.
  */
 uint32_t sockdiag_find_error_attributes(const uint8_t *payload, size_t length,
                                         uint16_t message_type, uint16_t flags,
                                         struct sockdiag_cursor *cursor);
 
 /*
- * Returns 1 if the message answers a request, else 0: it has the sequence number of the request,
- * and the port id of the socket that sent it, which getsockname(2) returns in nl_pid. Skip any
- * other message. It may be a late answer to an earlier request. The message does not show who sent
- * it: connect the socket to port id 0 by connect(2), and only the kernel can send to it.
+ * Returns 1 if the message has this sequence number and this port id, else 0. Pass the sequence
+ * number of a request, and the port id of the socket that sent it, which getsockname(2) returns in
+ * nl_pid: the result is 1 if the message answers the request. Skip any other message. It may be a
+ * late answer to an earlier request. The message does not show who sent it: connect the socket to
+ * port id 0 by connect(2), and only the kernel can send to it.
  */
 uint32_t sockdiag_is_answer(const struct sockdiag_message *message, uint32_t sequence_number,
                             uint32_t port_number);
@@ -1701,9 +1709,9 @@ uint32_t sockdiag_is_answer(const struct sockdiag_message *message, uint32_t seq
 uint32_t sockdiag_is_interrupted(const struct sockdiag_message *message);
 
 /*
- * Returns 1 if no more messages of the answer follow, else 0: the message is an NLMSG_DONE or an
- * NLMSG_ERROR. sockdiag_get_error_number returns whether it reports success. An NLMSG_OVERRUN does
- * not end the answer, but data was lost.
+ * Returns 1 if the message is an NLMSG_DONE or an NLMSG_ERROR, else 0. After such a message no more
+ * messages of the answer follow. sockdiag_get_error_number returns whether it reports success. An
+ * NLMSG_OVERRUN does not end the answer, but data was lost.
  */
 uint32_t sockdiag_ends_answer(const struct sockdiag_message *message);
 
@@ -1921,9 +1929,10 @@ struct sockdiag_error_details {
     uint32_t record_name;        /* Record that has too few bytes, one of SOCKDIAG_RECORD_..
                                     (SOCKDIAG_BUFFER_TOO_SMALL). SOCKDIAG_RECORD_MEM_INFO is also
                                     the memory of a netlink, packet or XDP socket. */
-    uint32_t family;             /* Address family that is not supported or not known, or that a
-                                    record of SOCKDIAG_RECORD_FAMILY_REQUEST, .._RESPONSE_HEADER
-                                    or .._ATTRIBUTE belongs to. */
+    uint32_t family;             /* Address family that is not supported
+                                    (SOCKDIAG_UNSUPPORTED_FAMILY) or not known
+                                    (SOCKDIAG_UNKNOWN_FAMILY). If record_name is one of
+                                    SOCKDIAG_RECORD_FAMILY_.., the family of the record. */
     uint32_t message_type;       /* Message type (SOCKDIAG_UNKNOWN_MESSAGE_TYPE). */
     struct sockdiag_number kind; /* Kind of the attribute whose value has a wrong length
                                     (SOCKDIAG_WRONG_LENGTH), or too few bytes for its record
@@ -1939,78 +1948,87 @@ struct sockdiag_error_details {
 };
 
 /*
- * Stores the error of a reply about a UNIX socket that sockdiag_unix_get_details or
- * sockdiag_check_unix_reply rejects, with its fields. The bytes are the payload of the netlink
- * message. Returns its code; or 0 if the reply is accepted, and then the error is unchanged.
+ * Stores the first error of a reply about a UNIX socket, with its fields: the error with which
+ * sockdiag_unix_get_details and sockdiag_check_unix_reply reject the reply. The bytes are the
+ * payload of the netlink message. Returns the code of the error; or 0 if the reply is accepted, and
+ * then the error is unchanged.
  */
 uint32_t sockdiag_unix_explain(const uint8_t *payload, size_t length,
                                struct sockdiag_error_details *error);
 
 /*
- * Stores the error of a reply about an IPv4 or IPv6 socket that sockdiag_inet_get_details or
- * sockdiag_check_inet_reply rejects, with its fields. The bytes are the payload of the netlink
- * message. Returns its code; or 0 if the reply is accepted, and then the error is unchanged.
+ * Stores the first error of a reply about an IPv4 or IPv6 socket, with its fields: the error with
+ * which sockdiag_inet_get_details and sockdiag_check_inet_reply reject the reply. The bytes are the
+ * payload of the netlink message. Returns the code of the error; or 0 if the reply is accepted, and
+ * then the error is unchanged.
  */
 uint32_t sockdiag_inet_explain(const uint8_t *payload, size_t length,
                                struct sockdiag_error_details *error);
 
 /*
- * Stores the error of a reply about a netlink socket that sockdiag_netlink_get_details rejects,
- * with its fields. Returns its code; or 0 if the reply is accepted, and then the error is
- * unchanged.
+ * Stores the first error of a reply about a netlink socket, with its fields: the error with which
+ * sockdiag_netlink_get_details rejects the reply. Returns the code of the error; or 0 if the reply
+ * is accepted, and then the error is unchanged.
  */
 uint32_t sockdiag_netlink_explain(const uint8_t *payload, size_t length,
                                   struct sockdiag_error_details *error);
 
 /*
- * Stores the error of a reply about a packet socket that sockdiag_packet_get_details rejects, with
- * its fields. Returns its code; or 0 if the reply is accepted, and then the error is unchanged.
+ * Stores the first error of a reply about a packet socket, with its fields: the error with which
+ * sockdiag_packet_get_details rejects the reply. Returns the code of the error; or 0 if the reply
+ * is accepted, and then the error is unchanged.
  */
 uint32_t sockdiag_packet_explain(const uint8_t *payload, size_t length,
                                  struct sockdiag_error_details *error);
 
 /*
- * Stores the error of a reply about a vsock socket that sockdiag_vsock_get_details rejects, with
- * its fields. Returns its code; or 0 if the reply is accepted, and then the error is unchanged.
+ * Stores the first error of a reply about a vsock socket, with its fields: the error with which
+ * sockdiag_vsock_get_details rejects the reply. Returns the code of the error; or 0 if the reply is
+ * accepted, and then the error is unchanged.
  */
 uint32_t sockdiag_vsock_explain(const uint8_t *payload, size_t length,
                                 struct sockdiag_error_details *error);
 
 /*
- * Stores the error of a reply about an XDP socket that sockdiag_xdp_get_details rejects, with its
- * fields. Returns its code; or 0 if the reply is accepted, and then the error is unchanged.
+ * Stores the first error of a reply about an XDP socket, with its fields: the error with which
+ * sockdiag_xdp_get_details rejects the reply. Returns the code of the error; or 0 if the reply is
+ * accepted, and then the error is unchanged.
  */
 uint32_t sockdiag_xdp_explain(const uint8_t *payload, size_t length,
                               struct sockdiag_error_details *error);
 
 /*
- * Stores the error with which sockdiag_next_message rejects the payload of a message of this type,
- * with its fields. Returns its code; or 0 if the payload is accepted, and then the error is
- * unchanged. Only pass types other than the four NLMSG_.. types, whose payload is not checked.
+ * Stores the first error of the payload of a message of this type, with its fields: the error with
+ * which sockdiag_next_message rejects the payload. Returns the code of the error; or 0 if the
+ * payload is accepted, and then the error is unchanged. Do not pass one of the four NLMSG_.. types:
+ * sockdiag_next_message does not check their payload.
  */
 uint32_t sockdiag_message_explain(const uint8_t *payload, size_t length, uint16_t message_type,
                                   struct sockdiag_error_details *error);
 
 /*
- * Stores the framing error with which sockdiag_next_message and sockdiag_next_any_message reject
- * these bytes, which start at the cursor, with its fields. Returns its code; or 0 if the bytes
- * begin with a message, and then the error is unchanged.
+ * Stores the framing error with which sockdiag_next_message and sockdiag_next_any_message reject a
+ * datagram at the cursor, with its fields. The bytes are those of the datagram from the cursor on.
+ * Returns the code of the error; or 0 if the bytes begin with a message, and then the error is
+ * unchanged.
  */
 uint32_t sockdiag_framing_explain(const uint8_t *bytes, size_t length,
                                   struct sockdiag_error_details *error);
 
 /*
- * Stores the error of the attribute of a UNIX socket at the start of the bytes, which are a part of
- * a reply, with its fields: its framing error, or the error of its value. Returns its code; or 0 if
- * the attribute is accepted or there are no bytes, and then the error is unchanged.
+ * Stores the error of an attribute of a UNIX socket, with its fields: its framing error, or the
+ * error of its value. The bytes are a part of a reply, and begin with the attribute. Returns the
+ * code of the error; or 0 if the attribute is accepted or there are no bytes, and then the error is
+ * unchanged.
  */
 uint32_t sockdiag_unix_explain_attribute(const uint8_t *bytes, size_t length,
                                          struct sockdiag_error_details *error);
 
 /*
- * Stores the error of the attribute of an IPv4 or IPv6 socket at the start of the bytes, which are
- * a part of a reply, with its fields: its framing error, or the error of its value. Returns its
- * code; or 0 if the attribute is accepted or there are no bytes, and then the error is unchanged.
+ * Stores the error of an attribute of an IPv4 or IPv6 socket, with its fields: its framing error,
+ * or the error of its value. The bytes are a part of a reply, and begin with the attribute. Returns
+ * the code of the error; or 0 if the attribute is accepted or there are no bytes, and then the
+ * error is unchanged.
  */
 uint32_t sockdiag_inet_explain_attribute(const uint8_t *bytes, size_t length,
                                          struct sockdiag_error_details *error);
@@ -2199,21 +2217,21 @@ struct sockdiag_outcome {
 };
 
 /*
- * Writes a request for IPv4 or IPv6 sockets at the start of the buffer; bytes after it are
- * unchanged. It is a netlink message of 72 bytes, or of 80 if the protocol is above 255, followed
- * by the attributes and zeros up to a multiple of 4, all of which its length field counts. Such an
- * attribute is the bytecode of a filter, INET_DIAG_REQ_BYTECODE of linux/inet_diag.h, which the
- * kernel runs on each socket. The bytes have to be a sequence of complete attributes. Their values
- * are not checked. A kernel answers with -EINVAL if a jump of the filter leads into the middle of
- * an operation, or more than 4 bytes past the end, and with -EPERM if the filter has an
- * INET_DIAG_BC_MARK_COND and the caller lacks CAP_NET_ADMIN.
+ * Writes a request for IPv4 or IPv6 sockets, followed by attributes, at the start of the buffer;
+ * bytes after them are unchanged. The request has 72 bytes, or 80 if the protocol is above 255. The
+ * attributes are followed by zeros up to a multiple of 4. The length field of the message counts
+ * all of these bytes. Such an attribute is the bytecode of a filter, INET_DIAG_REQ_BYTECODE of
+ * linux/inet_diag.h, which the kernel runs on each socket. The bytes have to be a sequence of
+ * complete attributes. Their values are not checked. A kernel answers with -EINVAL if a jump of the
+ * filter leads into the middle of an operation, or more than 4 bytes past the end, and with -EPERM
+ * if the filter has an INET_DIAG_BC_MARK_COND and the caller lacks CAP_NET_ADMIN.
  *
  * Returns the number of bytes that were written, which is also stored in outcome.needed. Returns 0
  * if nothing was written, for the first of these reasons that applies:
  * - The framing of the attributes is invalid. outcome.error is the code of the first error, 7 to 9;
  *   in all other cases it is 0. outcome.needed is 0.
- * - The family is neither AF_INET nor AF_INET6, or the whole has more than 4,294,967,295 bytes, too
- *   many for a length field. outcome.needed is 0.
+ * - The family is neither AF_INET nor AF_INET6, or the message has more than 4,294,967,295 bytes,
+ *   so that its length does not fit its length field. outcome.needed is 0.
  * - The buffer is shorter than needed. outcome.needed is the number of bytes that it has to have.
  *
  * outcome is set in any case.

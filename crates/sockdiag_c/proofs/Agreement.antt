@@ -12,8 +12,10 @@ use Rattle.netlink_core.specs.declared.error.DecodeError.{DecodeError}
 use Rattle.netlink_core.proofs.Iterating.{StartsWithAttribute-nonempty, attribute_prefix_of_start}
 use Rattle.netlink_core.proofs.Iterating.{error_of_first_attribute, error_of_rest}
 use Rattle.sock_diag_replies.specs.UnixGetters.{first_content_of}
-use Rattle.sockdiag_c.specs.Family.{AgreesWithCodec, ArePartsOf, CallsAgree, Describes, DetailsAre}
-use Rattle.sockdiag_c.specs.Family.{EndsWith, Family, IsCodeOf, IsFirstError, Parts, first_error}
+use Rattle.sockdiag_c.specs.Family.{AgreesWithCodec, ArePartsOf, CallsAgree, HasHeaderAndValuesOf}
+use Rattle.sockdiag_c.specs.Family.{AreDetailsOf}
+use Rattle.sockdiag_c.specs.Family.{SplitsWithError, Family, IsCodeOf, IsFirstError, ReplyParts}
+use Rattle.sockdiag_c.specs.Family.{first_error}
 use Rattle.sockdiag_c.specs.Family.{first_present, optional_code, value_error}
 use Rattle.sockdiag_c.specs.declared.lenient.Rejections.{Rejections}
 use Rattle.sockdiag_c.proofs.Rows.{code_is_not_zero, first_attribute}
@@ -22,11 +24,11 @@ some_injective : {A : Type 0} {x y : A} → Some x ≡ Some y → x ≡ y
 some_injective is = cc
 
 module _ {D : Type 0} (family : Family D) where
-  agrees_by_error : (payload : List ℕ) (d : D) (r : Rejections) (parts : Parts family.Header)
+  agrees_by_error : (payload : List ℕ) (d : D) (r : Rejections) (parts : ReplyParts family.Header)
       (o : Option DecodeError)
-      → ArePartsOf family payload parts → Describes family d parts
+      → ArePartsOf family payload parts → HasHeaderAndValuesOf family d parts
       → first_error family parts ≡ o → r.first ≡ optional_code o
-      → (r.first ≡ 0 → DetailsAre family payload d)
+      → (r.first ≡ 0 → AreDetailsOf family payload d)
       × (r.first ≢ 0 → IsCodeOf (IsFirstError family payload) r.first)
   agrees_by_error payload d r parts None are describes is code =
       (λ zero. (parts, are, is, describes), λ some. absurd (some code))
@@ -99,7 +101,7 @@ module _ {V : Type 0} (decode : Attribute → Result V DecodeError)
   -- the first error is the error of the bytes
   pub error_of_bytes : (bytes : List ℕ) (attributes : List Attribute) (end : Option DecodeError)
       (e : DecodeError)
-      → EndsWith attributes end bytes
+      → SplitsWithError attributes end bytes
       → first_present (first_content_of error_of attributes) end ≡ Some e
       → HasAttributeError decode bytes e
   error_of_bytes bytes [] None e ends is = absurd cc
@@ -155,7 +157,7 @@ module _ {D : Type 0} (family : Family D) (R : ResponseSpec)
             (
               parts.attributes,
               subst (λ (n : ℕ). SplitsIntoAttributes (drop n payload) parts.attributes []) size
-                  (subst (λ (o : Option DecodeError). EndsWith parts.attributes o
+                  (subst (λ (o : Option DecodeError). SplitsWithError parts.attributes o
                   (drop family.header_size payload)) none.1 found.1.1),
               more.1,
             ),

@@ -14,7 +14,8 @@ pub checked : {A V T : Type 0} (parses : V → Type 0) (rejects : DecodeError �
     → IfOk r (λ a. parses (model a)) → IfErr r rejects
     → MatchResult r (λ a. IsOkAnd found (Made a)) (λ e. found ≡ Err e)
     → MatchResult found (λ t. (answer ≡ 0) × (new ≡ t)) (λ e. (answer ≡ error_code e) × (new ≡ old))
-    → IsCheckResult parses rejects part old new answer
+    → IsCheckResult {V = V} {T = T} (record { parses = parses; rejects = rejects; found = part })
+    (record { old = old; new = new; returned = answer })
 checked parses rejects model part Made made (Ok a) (Ok t) old new answer value error how stored =
     inl (stored.0, (model a, value, stored.1 ∙ made a t how))
 checked parses rejects model part Made made (Ok a) (Err e) old new answer value error how stored =

@@ -1,13 +1,13 @@
 -- The bytes that are written for a reply are the canonical form of all equivalent replies.
-use Rattle.std.proofs.Common.{◌≡◌, ℕ, inl, inr, List, refl}
-use Rattle.std.proofs.Common.{arith}
+use Rattle.std.proofs.Common.{◌≡◌, ◌<◌, ℕ, inl, inr, List, refl}
+use Rattle.std.proofs.Common.{arith, take}
 use Rattle.std.specs.Prelude.{◌↔◌}
 use Rattle.std.proofs.lemmas.List.{take_at}
 use Rattle.netlink_core.specs.Bytes.{IsBytes}
 use Rattle.netlink_core.specs.Codec.{Codec, KeepsCodecLaws}
 use Rattle.netlink_core.specs.Response.{ResponseSpec, ReplyValue, response_bytes, response_codec}
 use Rattle.sockdiag_c.specs.declared.rewriting.Outcome.{Outcome}
-use Rattle.sockdiag_c.specs.Rewriting.{IsCanonical, WritesValue}
+use Rattle.sockdiag_c.specs.Rewriting.{IsCanonicalForm, WritesValue}
 
 module _ {Param : Type 0} (C : Codec Param) (laws : KeepsCodecLaws C) where
   -- an accepted input has one value
@@ -32,8 +32,9 @@ pub written_is_canonical : (R : ResponseSpec) → KeepsCodecLaws (response_codec
     → (payload old new : List ℕ) (v : ReplyValue R) (outcome : Outcome) (answer : ℕ)
     → IsBytes payload
     → (response_codec R).parses payload tt v
-    → WritesValue ((response_codec R).is_writable v) (response_bytes R v) old new outcome answer
-    → IsCanonical R payload new answer
+    → WritesValue ((response_codec R).is_writable v) (response_bytes R v)
+    (record { old = old; new = new; outcome = outcome; returned = answer })
+    → 0 < answer → IsCanonicalForm R payload (take answer new)
 written_is_canonical R laws payload old new v outcome answer tb r (inl h) some d w td s fw =
     grind (arith, take_at, equal_bytes_iff_equivalent (response_codec R) laws payload d)
 written_is_canonical R laws payload old new v outcome answer tb r (inr (inl h)) some d w td s

@@ -6,6 +6,7 @@ use Rattle.std.specs.Prelude.{ℤ, IfSome, IsSome, MatchOption, option_map}
 use Rattle.sock_diag_extras.specs.Acknowledgement.{ack_attribute_bytes_from}
 use Rattle.sock_diag_extras.specs.Models.{ack_attributes, ack_number}
 use Rattle.sock_diag_extras.specs.declared.acknowledgement.AckView.{AckView}
+use Rattle.sockdiag_c.specs.Answers.{SetsTargetIf}
 use Rattle.sockdiag_c.specs.ErrorAttributes.{PointsAt}
 use Rattle.sockdiag_c.specs.declared.walks.Cursor.{Cursor}
 
@@ -35,7 +36,8 @@ pub pointed : (P : Type 0) (found : Option AckView) (payload attributes : List �
     → (IsSome found ↔ P)
     → IfSome found (λ ack. ack_attributes ack ≡ attributes)
     → drop (length payload - length attributes) payload ≡ attributes
-    → PointsAt P attributes payload old new answer
+    → SetsTargetIf P (PointsAt attributes payload)
+    (record { old = old; new = new; returned = answer })
 pointed P (Some ack) payload attributes old new answer how whether is suffix =
     inl (
       whether.0 refl,

@@ -12,7 +12,7 @@ pub explained : {A V : Type 0} (parses : V → Type 0) (rejects : DecodeError �
     → MatchResult r (λ _. (answer ≡ 0) × (new ≡ old))
     (λ e. (answer ≡ error_code e) × (new ≡ error_details_of e))
     → IfOk r (λ a. parses (model a)) → IfErr r rejects
-    → IsExplained parses rejects old new answer
+    → IsExplained parses rejects (record { old = old; new = new; returned = answer })
 explained parses rejects model (Ok a) old new answer how value error =
     inl ((model a, value), how.0, how.1)
 explained parses rejects model (Err e) old new answer how value error =

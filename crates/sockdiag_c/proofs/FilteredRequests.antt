@@ -7,7 +7,8 @@ use Rattle.sock_diag_records.specs.InetRequest.{inet_request}
 use Rattle.sock_diag_records.specs.laws.InetRequest.{inet_request_length}
 use Rattle.sockdiag_c.specs.declared.requests.InetRequest.{InetRequest}
 use Rattle.sockdiag_c.specs.Requests.{bytes_after_record, request_with_attributes}
-use Rattle.sockdiag_c.specs.Requests.{inet_request_from_c, protocol_attribute, with_padding}
+use Rattle.sockdiag_c.specs.Requests.{inet_request_from_c, length_with_attributes}
+use Rattle.sockdiag_c.specs.Requests.{protocol_attribute, with_padding}
 
 -- the bytes with their padding
 pub padded_length : (attributes : List ℕ)
@@ -27,7 +28,7 @@ bytes_after_record_length r attributes =
     )
 
 pub request_length_with_attributes : (r : InetRequest) (attributes : List ℕ)
-    → length (request_with_attributes r attributes) ≡ 72 + length (bytes_after_record r attributes)
+    → length (request_with_attributes r attributes) ≡ length_with_attributes r attributes
 request_length_with_attributes r attributes =
     grind (
       arith,

@@ -10,7 +10,7 @@ use Rattle.sock_diag_records.specs.InetRequest.{inet_request}
 use Rattle.sock_diag_records.specs.laws.InetRequest.{inet_request_length}
 use Rattle.sockdiag_c.specs.declared.requests.InetRequest.{InetRequest}
 use Rattle.sockdiag_c.specs.Requests.{WritesMessage, request_header_of, inet_message}
-use Rattle.sockdiag_c.specs.Requests.{inet_request_from_c, protocol_attribute}
+use Rattle.sockdiag_c.specs.Requests.{inet_message_length, inet_request_from_c, protocol_attribute}
 
 -- a protocol below 256 needs no attribute
 pub no_attribute : (p : ℕ) → p < 256 → [] ≡ protocol_attribute p
@@ -27,7 +27,9 @@ pub message_written : (t : ℕ) (r : InetRequest) (it : inet.InetRequest)
     → WritesMessage (16 + length (record_bytes inet_request it) + length attribute)
     (header_bytes (request_header_of (16 + length (record_bytes inet_request it) + length attribute)
     t r.header)
-    ++ record_bytes inet_request it ++ attribute) old new answer
-    → WritesMessage (72 + length (protocol_attribute r.protocol)) (inet_message t r) old new answer
+    ++ record_bytes inet_request it ++ attribute)
+    (record { old = old; new = new; returned = answer })
+    → WritesMessage (inet_message_length r.protocol) (inet_message t r)
+    (record { old = old; new = new; returned = answer })
 message_written t r it attribute old new answer is found given =
     grind (arith, inet_request_length it)

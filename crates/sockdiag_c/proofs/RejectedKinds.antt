@@ -10,7 +10,7 @@ use Rattle.netlink_core.specs.AttributeSet.{AttributeSet, AttributeValue, decode
 use Rattle.netlink_core.specs.AttributeSet.{kind_numbers}
 use Rattle.sock_diag_attributes.specs.InetAttributes.{inet_attribute_set}
 use Rattle.sock_diag_attributes.specs.UnixAttributes.{unix_attribute_set}
-use Rattle.sockdiag_c.specs.Family.{Row, first_present, value_error, value_of}
+use Rattle.sockdiag_c.specs.Family.{StructRow, first_present, value_error, value_of}
 use Rattle.sockdiag_c.specs.InetDetails.{inet_rows}
 use Rattle.sockdiag_c.specs.UnixDetails.{unix_rows}
 use Rattle.sockdiag_c.proofs.Rows.{NoValues}
@@ -63,7 +63,7 @@ kind_is_below parse k n a below e is =
     grind arith
 
 -- each row rejects only attributes of kinds below n
-abbrev pub KindsAreBelow : {D : Type 0} → ℕ → List (Row D) → Attribute → Type 0
+abbrev pub KindsAreBelow : {D : Type 0} → ℕ → List (StructRow D) → Attribute → Type 0
 KindsAreBelow n [] a = ⊤
 KindsAreBelow n (row ∷ others) a =
     ((e : DecodeError) → result_err (row.read a) ≡ Some e → attribute_kind a < n)
@@ -75,7 +75,7 @@ either_error : (o p : Option DecodeError) (P : Type 0) → ((e : DecodeError) �
 either_error None p P first later e is = later e is
 either_error (Some f) p P first later e is = first f refl
 
-pub rejected_by_rows_is_below : {D : Type 0} (n : ℕ) (rows : List (Row D)) (a : Attribute)
+pub rejected_by_rows_is_below : {D : Type 0} (n : ℕ) (rows : List (StructRow D)) (a : Attribute)
     → KindsAreBelow n rows a
     → (e : DecodeError) → value_error rows a ≡ Some e → attribute_kind a < n
 rejected_by_rows_is_below n [] a below e is = absurd cc

@@ -9,7 +9,8 @@ use Rattle.netlink_core.specs.Attribute.{attribute_kind}
 use Rattle.netlink_core.specs.Errors.{error_code}
 use Rattle.netlink_core.specs.declared.error.DecodeError.{DecodeError}
 use Rattle.sock_diag_replies.specs.UnixGetters.{first_content_of}
-use Rattle.sockdiag_c.specs.Family.{ArePartsOf, EndsWith, Family, HasValues, Parts, Row}
+use Rattle.sockdiag_c.specs.Family.{ArePartsOf, SplitsWithError, Family, HasValues, ReplyParts}
+use Rattle.sockdiag_c.specs.Family.{StructRow}
 use Rattle.sockdiag_c.specs.Family.{error_of_kind, first_present, value_error, value_in}
 use Rattle.sock_diag_values.specs.declared.inet.mem_info.MemInfo.{MemInfo}
 use Rattle.sockdiag_c.specs.Details.{memory_struct}
@@ -56,9 +57,9 @@ module _ {A B : Type 0} where
 
 module _ {D : Type 0} where
   -- the values after one more attribute
-  pub values_after : (rows : List (Row D)) (old new : D) (attributes : List Attribute)
+  pub values_after : (rows : List (StructRow D)) (old new : D) (attributes : List Attribute)
       (a : Attribute)
-      → AddsValues rows a old new → HasValues rows old attributes
+      → AddsValues rows a (record { old = old; new = new }) → HasValues rows old attributes
       → HasValues rows new (attributes ++ a ∷ [])
   values_after [] old new attributes a adds has = tt
   values_after (row ∷ others) old new attributes a (adds, more) (has, later) = (
@@ -127,25 +128,26 @@ stored Holds (Err e) old new answer how holds zero =
 
 -- the bytes have the attributes so far, and then those of the bytes left
 pub record AttributesSoFar (bytes left : List ℕ) (so_far : List Attribute) : Type 0 where
-  pub extend : (later : List Attribute) (end : Option DecodeError) → EndsWith later end left
-      → EndsWith (so_far ++ later) end bytes
+  pub extend : (later : List Attribute) (end : Option DecodeError) → SplitsWithError later end left
+      → SplitsWithError (so_far ++ later) end bytes
 
 pub no_attributes_yet : (bytes left : List ℕ) → left ≡ bytes → AttributesSoFar bytes left []
 no_attributes_yet bytes left same = record {
-  extend = λ later end h. subst (λ (b : List ℕ). EndsWith later end b) same h;
+  extend = λ later end h. subst (λ (b : List ℕ). SplitsWithError later end b) same h;
 }
 
 first_and_others : (bytes left : List ℕ) (a : Attribute) (later : List Attribute)
     (end : Option DecodeError)
-    → StartsWithAttribute bytes a left → EndsWith later end left → EndsWith (a ∷ later) end bytes
+    → StartsWithAttribute bytes a left → SplitsWithError later end left
+    → SplitsWithError (a ∷ later) end bytes
 first_and_others bytes left a later None start cut = (left, start, cut)
 first_and_others bytes left a later (Some e) start (rest, cut, some, error) =
     (rest, (left, start, cut), some, error)
 
 -- the first attribute is at the start of the bytes, and the others follow it
 pub first_attribute : (bytes : List ℕ) (a : Attribute) (others : List Attribute)
-    (end : Option DecodeError) → EndsWith (a ∷ others) end bytes
-    → (left : List ℕ) × StartsWithAttribute bytes a left × EndsWith others end left
+    (end : Option DecodeError) → SplitsWithError (a ∷ others) end bytes
+    → (left : List ℕ) × StartsWithAttribute bytes a left × SplitsWithError others end left
 first_attribute bytes a others None (left, start, cut) = (left, start, cut)
 first_attribute bytes a others (Some e) (rest, (left, start, cut), some, error) =
     (left, start, (rest, cut, some, error))
@@ -155,34 +157,34 @@ pub one_more_attribute : (bytes left rest : List ℕ) (a : Attribute) (so_far : 
     → AttributesSoFar bytes rest (so_far ++ a ∷ [])
 one_more_attribute bytes left rest a so_far start collected = record {
   extend = λ later end h.
-      subst (λ (all : List Attribute). EndsWith all end bytes)
+      subst (λ (all : List Attribute). SplitsWithError all end bytes)
       (sym (append_assoc so_far (a ∷ []) later))
       (collected.extend (a ∷ later) end (first_and_others left rest a later end start h));
 }
 
 pub all_attributes : (bytes left : List ℕ) (so_far : List Attribute) → left ≡ []
-    → AttributesSoFar bytes left so_far → EndsWith so_far None bytes
+    → AttributesSoFar bytes left so_far → SplitsWithError so_far None bytes
 all_attributes bytes left so_far none collected =
-    subst (λ (all : List Attribute). EndsWith all None bytes) (append-nil so_far)
+    subst (λ (all : List Attribute). SplitsWithError all None bytes) (append-nil so_far)
     (collected.extend [] None none)
 
 pub until_framing_error : (bytes left : List ℕ) (so_far : List Attribute) (e : DecodeError)
     → left ≢ [] → IsFramingError left e → AttributesSoFar bytes left so_far
-    → EndsWith so_far (Some e) bytes
+    → SplitsWithError so_far (Some e) bytes
 until_framing_error bytes left so_far e some error collected =
-    subst (λ (all : List Attribute). EndsWith all (Some e) bytes) (append-nil so_far)
+    subst (λ (all : List Attribute). SplitsWithError all (Some e) bytes) (append-nil so_far)
     (collected.extend [] (Some e) (left, refl, some, error))
 
 -- ---- an attribute without values
 
 -- no row has a value in the attribute
-abbrev pub NoValues : {D : Type 0} → List (Row D) → Attribute → Type 0
+abbrev pub NoValues : {D : Type 0} → List (StructRow D) → Attribute → Type 0
 NoValues [] a = ⊤
 NoValues (row ∷ others) a = (value_in row a ≡ None) × NoValues others a
 
 -- it changes nothing
-pub unchanged : {D : Type 0} (rows : List (Row D)) (a : Attribute) (d : D) → NoValues rows a
-    → AddsValues rows a d d
+pub unchanged : {D : Type 0} (rows : List (StructRow D)) (a : Attribute) (d : D) → NoValues rows a
+    → AddsValues rows a (record { old = d; new = d })
 unchanged [] a d none = tt
 unchanged (row ∷ others) a d (none, more) = (
   λ o has. has ∙ ap row.contents (sym (ap (first_present o) none ∙ or_none o)),
@@ -199,11 +201,11 @@ memory_set (Some x) old new m unset was is =
 
 -- the parts of a reply, after its header was parsed into a struct
 pub are_parts : {D : Type 0} (family : Family D) (payload rest : List ℕ) (d : D)
-    (parts : Parts family.Header)
+    (parts : ReplyParts family.Header)
     → family.parse_header payload ≡ Ok (family.header d) → rest ≡ drop family.header_size payload
-    → EndsWith parts.attributes parts.framing_error rest → parts.header ≡ family.header d
+    → SplitsWithError parts.attributes parts.framing_error rest → parts.header ≡ family.header d
     → ArePartsOf family payload parts
 are_parts family payload rest d parts header same ends is = (
   header ∙ ap Ok (sym is),
-  subst (λ (b : List ℕ). EndsWith parts.attributes parts.framing_error b) same ends,
+  subst (λ (b : List ℕ). SplitsWithError parts.attributes parts.framing_error b) same ends,
 )

@@ -17,9 +17,10 @@ use Rattle.netlink_core.proofs.Iterating.{attribute_prefix_of_start}
 use Rattle.sockdiag_c.specs.declared.walks.AttributeRange.{AttributeRange}
 use Rattle.sockdiag_c.specs.declared.walks.Cursor.{Cursor}
 use Rattle.sockdiag_c.specs.declared.walks.MessageRange.{MessageRange}
-use Rattle.sockdiag_c.specs.Walks.{IsPayloadCheckResult, NextAttribute, attribute_in, header_in}
-use Rattle.sockdiag_c.specs.Walks.{NextUncheckedMessage, StoresMessage}
-use Rattle.sockdiag_c.specs.Walks.{bytes_after_cursor}
+use Rattle.sockdiag_c.specs.Walks.{IsPayloadCheckResult, StepsOverAttribute, attribute_in}
+use Rattle.sockdiag_c.specs.Walks.{header_in}
+use Rattle.sockdiag_c.specs.Walks.{IterationStep, StepsOverUncheckedMessage, StoresMessage}
+use Rattle.sockdiag_c.specs.Walks.{bytes_after_step, bytes_before_step}
 
 -- the value of the attribute at an offset is four bytes after the offset
 attribute_read : (bytes rest : List ℕ) (offset : ℕ) (a : Attribute)
@@ -100,32 +101,46 @@ control_payload_is_accepted payload t low high = control_payload payload t (grin
 
 -- a step that returns 1 stores a message
 pub message_stored : (bytes : List ℕ) (old new : Cursor) (was now : MessageRange) (answer : ℕ)
-    → NextUncheckedMessage bytes old new was now answer → answer ≡ 1
-    → StoresMessage bytes old new now
+    → StepsOverUncheckedMessage (record {
+      bytes = bytes;
+      old_cursor = old;
+      new_cursor = new;
+      old_item = was;
+      new_item = now;
+      returned = answer;
+    }) → answer ≡ 1
+    → StoresMessage (record {
+      bytes = bytes;
+      old_cursor = old;
+      new_cursor = new;
+      old_item = was;
+      new_item = now;
+      returned = answer;
+    })
 message_stored bytes old new was now answer step one =
     grind arith
 
 -- ---- steps over bytes that are split into attributes
 
 -- a step returns the first attribute
-pub step_at_attribute : (bytes : List ℕ) (old new : Cursor) (was now : AttributeRange) (answer : ℕ)
+pub step_at_attribute : (step : IterationStep AttributeRange)
     (first : Attribute) (later : List Attribute)
-    → SplitsIntoAttributes (bytes_after_cursor bytes old) (first ∷ later) []
-    → NextAttribute bytes old new was now answer
-    → (answer ≡ 1) × (attribute_in bytes now ≡ first)
-    × SplitsIntoAttributes (bytes_after_cursor bytes new) later []
-step_at_attribute bytes old new was now answer first later h k =
+    → SplitsIntoAttributes (bytes_before_step step) (first ∷ later) []
+    → StepsOverAttribute step
+    → (step.returned ≡ 1) × (attribute_in step.bytes step.new_item ≡ first)
+    × SplitsIntoAttributes (bytes_after_step step) later []
+step_at_attribute step first later h k =
     grind (
       arith,
-      one_first_attribute (bytes_after_cursor bytes old) h.0 (bytes_after_cursor bytes new) first
-          (attribute_in bytes now) h.1,
-      prefix_or_error_apart (bytes_after_cursor bytes old) first,
-      attribute_prefix_of_start (bytes_after_cursor bytes old) h.0 first h.1,
+      one_first_attribute (bytes_before_step step) h.0 (bytes_after_step step) first
+          (attribute_in step.bytes step.new_item) h.1,
+      prefix_or_error_apart (bytes_before_step step) first,
+      attribute_prefix_of_start (bytes_before_step step) h.0 first h.1,
     )
 
 -- if no attribute is left, the iteration ends
-pub step_at_end : (bytes : List ℕ) (old new : Cursor) (was now : AttributeRange) (answer : ℕ)
-    → SplitsIntoAttributes (bytes_after_cursor bytes old) [] []
-    → NextAttribute bytes old new was now answer → answer ≡ 0
-step_at_end bytes old new was now answer none h =
+pub step_at_end : (step : IterationStep AttributeRange)
+    → SplitsIntoAttributes (bytes_before_step step) [] []
+    → StepsOverAttribute step → step.returned ≡ 0
+step_at_end step none h =
     grind arith

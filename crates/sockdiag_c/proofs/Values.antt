@@ -12,7 +12,7 @@ use Rattle.netlink_core.specs.laws.Prefix.{prefix_or_error_apart}
 use Rattle.netlink_core.proofs.Splitting.{one_first_attribute}
 use Rattle.netlink_core.proofs.Iterating.{StartsWithAttribute-nonempty, attribute_prefix_of_start}
 use Rattle.sock_diag_replies.specs.UnixGetters.{first_content_of}
-use Rattle.sockdiag_c.specs.TcpInfo.{AreAttributesIn, first_of_type, padded_or_truncated}
+use Rattle.sockdiag_c.specs.TcpInfo.{AreAttributesIn, first_value_of_type, padded_or_truncated}
 use Rattle.sockdiag_c.specs.TcpInfo.{value_of_type}
 use Rattle.sockdiag_c.proofs.Rows.{first_attribute}
 
@@ -80,30 +80,30 @@ found_after_skipped k bytes rest after a start found other = record {
 
 -- the first attribute has the type, and its value is found
 first_value_is : (k : ℕ) (a : Attribute) (more : List Attribute) → attribute_kind a ≡ k
-    → a.value ≡ first_of_type k (a ∷ more)
+    → a.value ≡ first_value_of_type k (a ∷ more)
 first_value_is k a more is = rw is (search rules)
 
 pub found_here : (k : ℕ) (bytes rest after : List ℕ) (a : Attribute)
     → StartsWithAttribute rest a after
     → FoundAfter k bytes rest → attribute_kind a ≡ k
     → (attributes : List Attribute) → AreAttributesIn bytes attributes
-    → a.value ≡ first_of_type k attributes
+    → a.value ≡ first_value_of_type k attributes
 found_here k bytes rest after a start found is attributes stand =
     let f = found.behind attributes stand in
     let first = attribute_at_start_is_first rest after a start f.0 f.1 in
-    first_value_is k a first.0 is ∙ ap (first_of_type k) (sym first.1)
+    first_value_is k a first.0 is ∙ ap (first_value_of_type k) (sym first.1)
     ∙ ap (λ (o : Option (List ℕ)). unwrap_or o []) (sym f.2)
 
 -- if no attribute is left, no value is found
 no_value_is_found : (k : ℕ) (bytes rest : List ℕ) → FoundAfter k bytes rest
     → ((a : Attribute) (after : List ℕ) → StartsWithAttribute rest a after → ⊥)
     → (attributes : List Attribute) → AreAttributesIn bytes attributes
-    → [] ≡ first_of_type k attributes
+    → [] ≡ first_value_of_type k attributes
 no_value_is_found k bytes rest found alone attributes stand =
     let f = found.behind attributes stand in
     none f.0 f.1 ∙ ap (λ (o : Option (List ℕ)). unwrap_or o []) (sym f.2)
   where
-    none : (later : List Attribute) → AreAttributesIn rest later → [] ≡ first_of_type k later
+    none : (later : List Attribute) → AreAttributesIn rest later → [] ≡ first_value_of_type k later
     none [] left = refl
     none (a ∷ more) left =
         let first = first_attribute_is_at_start rest a more left in
@@ -111,7 +111,7 @@ no_value_is_found k bytes rest found alone attributes stand =
 
 pub found_nowhere : (k : ℕ) (bytes rest : List ℕ) → FoundAfter k bytes rest → rest ≡ []
     → (attributes : List Attribute) → AreAttributesIn bytes attributes
-    → [] ≡ first_of_type k attributes
+    → [] ≡ first_value_of_type k attributes
 found_nowhere k bytes rest found none =
     grind (arith, no_value_is_found k bytes rest found)
 
@@ -119,6 +119,6 @@ pub framing_error_is_found : (k : ℕ) (bytes rest : List ℕ) (e : DecodeError)
     → FoundAfter k bytes rest
     → IsFramingError rest e
     → (attributes : List Attribute) → AreAttributesIn bytes attributes
-    → [] ≡ first_of_type k attributes
+    → [] ≡ first_value_of_type k attributes
 framing_error_is_found k bytes rest e found error =
     grind (arith, common_steps, no_value_is_found, prefix_or_error_apart, attribute_prefix_of_start)

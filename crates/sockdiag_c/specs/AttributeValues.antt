@@ -1,22 +1,15 @@
--- Getters over the value of one attribute, and steps over a value that is an array.
+-- Steps over the value of an attribute that is an array.
 use Rattle.std.specs.Prelude.{◌≡◌, ◌<◌, ◌≤◌, ℕ, ◌+◌, ◌⊎◌, List, length}
-use Rattle.sockdiag_c.specs.declared.walks.Cursor.{Cursor}
-use Rattle.sockdiag_c.specs.Walks.{bytes_after_cursor}
+use Rattle.sockdiag_c.specs.Walks.{IterationStep, bytes_before_step}
 
--- IsStoredIf P item old new answer: `answer` is the return value; `old` and `new` are the target
--- before and after the call. If `P` holds, `item` is stored and the return value is 1. Otherwise
--- the target is unchanged and the return value is 0.
-abbrev pub IsStoredIf : {T : Type 0} → Type 0 → T → T → T → ℕ → Type 0
-IsStoredIf P item old new answer =
-    (P × (answer ≡ 1) × (new ≡ item)) ⊎ ((¬ P) × (answer ≡ 0) × (new ≡ old))
-
--- NextItem size parses bytes old new was now answer: `old` and `new` are the cursor before and
--- after a step, `was` and `now` the item. If `size` bytes or more are left, the item that they
--- begin with (`parses`) is stored, the cursor is advanced by `size`, and the return value is 1.
--- Otherwise nothing changes and the return value is 0.
-abbrev pub NextItem : {T : Type 0} → ℕ → (List ℕ → T) → List ℕ → Cursor → Cursor → T → T → ℕ
-    → Type 0
-NextItem size parses bytes old new was now answer =
-    ((size ≤ length (bytes_after_cursor bytes old)) × (answer ≡ 1)
-    × (now ≡ parses (bytes_after_cursor bytes old)) × (new ≡ record { offset = old.offset + size }))
-    ⊎ ((length (bytes_after_cursor bytes old) < size) × (answer ≡ 0) × (now ≡ was) × (new ≡ old))
+-- StepsOverItem size parse step: the step of an iteration over items of `size` bytes; `parse bytes`
+-- is the item at the start of the bytes. If `size` bytes or more are left, the item at the cursor
+-- is stored, the cursor is advanced by `size`, and the return value is 1. Otherwise nothing is
+-- stored, the cursor is unchanged, and the return value is 0.
+abbrev pub StepsOverItem : {T : Type 0} → ℕ → (List ℕ → T) → IterationStep T → Type 0
+StepsOverItem size parse step =
+    ((size ≤ length (bytes_before_step step)) × (step.returned ≡ 1)
+    × (step.new_item ≡ parse (bytes_before_step step))
+    × (step.new_cursor ≡ record { offset = step.old_cursor.offset + size }))
+    ⊎ ((length (bytes_before_step step) < size) × (step.returned ≡ 0)
+    × (step.new_item ≡ step.old_item) × (step.new_cursor ≡ step.old_cursor))

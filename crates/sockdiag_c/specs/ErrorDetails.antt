@@ -7,10 +7,11 @@ use Rattle.netlink_core.specs.declared.error.DecodeError.TheVariants as error
 use Rattle.netlink_core.specs.declared.error.RecordName.{RecordName}
 use Rattle.netlink_core.specs.declared.error.RecordName.TheVariants as record_name
 use Rattle.netlink_core.specs.Errors.{error_code}
+use Rattle.sockdiag_c.specs.Answers.{Call}
 use Rattle.sockdiag_c.specs.Details.{optional_number}
 use Rattle.sockdiag_c.specs.declared.error_details.ErrorDetails.{ErrorDetails}
 
--- `record_code name`: the number of a record, `SOCKDIAG_RECORD_..`
+-- `record_code name`: the number `SOCKDIAG_RECORD_..` of the record with this name
 abbrev pub record_code : RecordName → ℕ
 record_code record_name.SocketId = 1
 record_code record_name.InetRequest = 2
@@ -26,22 +27,24 @@ record_code (record_name.FamilyRequest family) = 11
 record_code (record_name.FamilyResponseHeader family) = 12
 record_code (record_name.FamilyAttribute family kind) = 13
 
--- `record_family name`: the family of a record of another family; 0 for all others
+-- `record_family name`: the address family that the name of a record contains; 0 if it contains
+-- none
 abbrev pub record_family : RecordName → ℕ
 record_family (record_name.FamilyRequest family) = family
 record_family (record_name.FamilyResponseHeader family) = family
 record_family (record_name.FamilyAttribute family kind) = family
 record_family name = 0
 
--- `record_kind name`: the kind of an attribute of another family; None for all others
+-- `record_kind name`: the kind of attribute that the name of a record contains; None if it contains
+-- none
 abbrev pub record_kind : RecordName → Option ℕ
 record_kind (record_name.FamilyAttribute family kind) = Some kind
 record_kind name = None
 
--- `no_details code`: the struct for an error with this code and without fields
-abbrev pub no_details : ℕ → ErrorDetails
-no_details code = record {
-  code = code;
+-- `struct sockdiag_error_details` with all members 0
+abbrev pub no_error_details : ErrorDetails
+no_error_details = record {
+  code = 0;
   record_name = 0;
   family = 0;
   message_type = 0;
@@ -52,53 +55,62 @@ no_details code = record {
   index = 0;
 }
 
--- `error_details_of e`: the struct for the error `e`: each field of the error is in the member with
--- its name. The number of bytes left is in `got`, too. A member that the error does not have is 0.
-abbrev pub error_details_of : DecodeError → ErrorDetails
-error_details_of (error.BufferTooSmall which got need) = record (no_details 2) {
+-- `error_fields e`: the struct with the fields of the error `e`, each in the member with its name.
+-- All other members are 0, also `code`. Two fields of errors have other members: `left`, the number
+-- of bytes left, is in `got`; and `which`, the record, is in `record_name`, `family` and `kind`.
+-- The last line is for all errors without fields.
+abbrev pub error_fields : DecodeError → ErrorDetails
+error_fields (error.BufferTooSmall which got need) = record no_error_details {
   record_name = record_code which;
   family = record_family which;
   kind = optional_number (record_kind which);
   got = got;
   need = need;
 }
-error_details_of (error.UnsupportedFamily family) = record (no_details 3) { family = family }
-error_details_of (error.MessageTooShort got) = record (no_details 4) { got = got }
-error_details_of (error.UnknownFamily family) = record (no_details 5) { family = family }
-error_details_of (error.UnknownMessageType message_type) =
-    record (no_details 6) { message_type = message_type }
-error_details_of (error.AttributeHeaderCut left) = record (no_details 7) { got = left }
-error_details_of (error.AttributeLengthUnder4 length) = record (no_details 8) { length = length }
-error_details_of (error.AttributeLengthPast length left) =
-    record (no_details 9) { length = length; got = left }
-error_details_of (error.WrongLength kind got need) =
-    record (no_details 10) { kind = optional_number kind; got = got; need = need }
-error_details_of (error.NotMultipleOfFour got) = record (no_details 11) { got = got }
-error_details_of (error.NameInnerZero index) = record (no_details 14) { index = index }
-error_details_of (error.EnvelopeCut got) = record (no_details 16) { got = got }
-error_details_of (error.EnvelopeLengthUnder16 length) = record (no_details 17) { length = length }
-error_details_of (error.EnvelopeLengthPast length got) =
-    record (no_details 18) { length = length; got = got }
-error_details_of e = no_details (error_code e)
+error_fields (error.UnsupportedFamily family) = record no_error_details { family = family }
+error_fields (error.MessageTooShort got) = record no_error_details { got = got }
+error_fields (error.UnknownFamily family) = record no_error_details { family = family }
+error_fields (error.UnknownMessageType message_type) =
+    record no_error_details { message_type = message_type }
+error_fields (error.AttributeHeaderCut left) = record no_error_details { got = left }
+error_fields (error.AttributeLengthUnder4 length) = record no_error_details { length = length }
+error_fields (error.AttributeLengthPast length left) =
+    record no_error_details { length = length; got = left }
+error_fields (error.WrongLength kind got need) =
+    record no_error_details { kind = optional_number kind; got = got; need = need }
+error_fields (error.NotMultipleOfFour got) = record no_error_details { got = got }
+error_fields (error.NameInnerZero index) = record no_error_details { index = index }
+error_fields (error.EnvelopeCut got) = record no_error_details { got = got }
+error_fields (error.EnvelopeLengthUnder16 length) = record no_error_details { length = length }
+error_fields (error.EnvelopeLengthPast length got) =
+    record no_error_details { length = length; got = got }
+error_fields e = no_error_details
 
--- IsExplained parses rejects old new answer: `answer` is the return value; `old` and `new` are the
--- error struct before and after the call. Either the bytes have a value (`parses`), the return
--- value is 0 and the struct is unchanged. Or they have the first error `e` (`rejects`): the return
--- value is its code, and the struct has its fields.
-abbrev pub IsExplained : {V : Type 0} → (V → Type 0) → (DecodeError → Type 0) → ErrorDetails
-    → ErrorDetails → ℕ → Type 0
-IsExplained {V} parses rejects old new answer =
-    (((v : V) × parses v) × (answer ≡ 0) × (new ≡ old))
-    ⊎ ((e : DecodeError) × rejects e × (answer ≡ error_code e) × (new ≡ error_details_of e))
+-- `error_details_of e`: the struct for the error `e`, with its code and its fields
+abbrev pub error_details_of : DecodeError → ErrorDetails
+error_details_of e = record (error_fields e) { code = error_code e }
 
--- IsItemExplained F bytes old new answer: either there are no bytes; the return value is 0 and the
--- struct is unchanged. Or `item` is the first lenient item of the bytes, by the attribute set `F`:
--- if it is a value, the return value is 0 and the struct is unchanged; if it is a rejection, the
--- return value is the code of its error, and the struct has the fields of this error.
-abbrev pub IsItemExplained : AttributeSet → List ℕ → ErrorDetails → ErrorDetails → ℕ → Type 0
-IsItemExplained F bytes old new answer =
-    ((bytes ≡ []) × (answer ≡ 0) × (new ≡ old))
+-- IsExplained parses rejects call: either the bytes have a value (`parses v` holds for some `v`),
+-- the return value is 0, and nothing is stored. Or they have a first error `e` (`rejects e`), the
+-- return value is its code, and its code and its fields are stored.
+abbrev pub IsExplained : {V : Type 0} → (V → Type 0) → (DecodeError → Type 0) → Call ErrorDetails
+    → Type 0
+IsExplained {V} parses rejects call =
+    (((v : V) × parses v) × (call.returned ≡ 0) × (call.new ≡ call.old))
+    ⊎ ((e : DecodeError) × rejects e × (call.returned ≡ error_code e)
+    × (call.new ≡ error_details_of e))
+
+-- IsItemExplained F bytes call: by the first item of the bytes, for the attribute set `F`, one of:
+-- - There are no bytes (`[]`), or the first item is a valid attribute. The return value is 0, and
+--   nothing is stored.
+-- - The first item is a rejection, of an attribute or of the framing. The return value is the code
+--   of its error, and this code and the fields of the error are stored.
+-- `later` are the bytes after the item.
+abbrev pub IsItemExplained : AttributeSet → List ℕ → Call ErrorDetails → Type 0
+IsItemExplained F bytes call =
+    ((bytes ≡ []) × (call.returned ≡ 0) × (call.new ≡ call.old))
     ⊎ ((item : Result (AttributeValue F) RejectionModel) × (later : List ℕ)
     × StartsWithLenientItem F bytes item later
-    × MatchResult item (λ _. (answer ≡ 0) × (new ≡ old))
-    (λ r. (answer ≡ error_code r.error) × (new ≡ error_details_of r.error)))
+    × MatchResult item (λ _. (call.returned ≡ 0) × (call.new ≡ call.old))
+    (λ rejection. (call.returned ≡ error_code rejection.error)
+    × (call.new ≡ error_details_of rejection.error)))

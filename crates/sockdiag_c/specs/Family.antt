@@ -17,7 +17,7 @@ use Rattle.sockdiag_c.specs.declared.lenient.TheConstants.{REJECTION_KINDS}
 -- ---- the table of a family
 
 -- One row of a table: a value of an attribute, and the fields that have it in the struct `D`.
-pub record Row (D : Type 0) : Type 1 where
+pub record StructRow (D : Type 0) : Type 1 where
   -- the type of the value
   pub Value : Type 0
   -- read a: `Ok (Some x)` if the attribute `a` has the value `x`, `Ok None` if it is of another
@@ -40,18 +40,21 @@ pub record Family (D : Type 0) : Type 1 where
   pub header_size : ℕ
   -- header d: the header in the struct `d`
   pub header : D → Header
-  -- the values of attributes. A kind without a row is not checked.
-  pub rows : List (Row D)
+  -- one row for each field, or for each record with its field `has_..`. An attribute of a kind that
+  -- no row reads is not checked.
+  pub rows : List (StructRow D)
 
--- value_of parse kind a: the value that `parse` returns for the bytes of the attribute `a`, if it
--- has this kind, whatever its two flag bits
+-- value_of parse kind a: what the row for this kind reads from the attribute `a`. If `a` has this
+-- kind, whatever its two flag bits: the value that `parse` returns for its bytes, or the error. If
+-- `a` has another kind: `Ok None`.
 abbrev pub value_of : {A : Type 0} → (List ℕ → Result A DecodeError) → ℕ → Attribute
     → Result (Option A) DecodeError
 value_of parse kind a =
     if attribute_kind a == kind then map_ok Some (parse a.value) else Ok None
 
--- part_of F kind part a: `part` of the value, if the attribute `a` has this kind. `F` is the set of
--- the attribute types of the family; if it rejects the attribute, whatever its kind, the error.
+-- part_of F kind part a: what a row reads from the attribute `a` by `F`, the set of the attribute
+-- types of the family. If `a` has this kind and the value `v`: `part v`, the part of it that the
+-- row stores. If `a` has another kind: `Ok None`. If `F` rejects `a`, whatever its kind: the error.
 abbrev pub part_of : {A : Type 0} → (F : AttributeSet) → (kind : ℕ) → (ValueOfKind F kind → A)
     → Attribute
     → Result (Option A) DecodeError
@@ -60,25 +63,25 @@ part_of F kind part a =
 
 -- ---- the values of attributes
 
--- the first option if it has a value, else the second
+-- first_present o p: `o` if it is a `Some`, else `p`
 abbrev pub first_present : {A : Type 0} → Option A → Option A → Option A
-first_present (Some x) o = Some x
-first_present None o = o
+first_present (Some x) p = Some x
+first_present None p = p
 
--- value_in row a: the value of the attribute `a` for this row; None if it is of another kind or
--- rejected
-abbrev pub value_in : {D : Type 0} (row : Row D) → Attribute → Option row.Value
+-- value_in row a: the value of the attribute `a` for this row; None if `a` has another kind, or is
+-- rejected. `option_and_then (λ o. o)` makes one option of the two.
+abbrev pub value_in : {D : Type 0} (row : StructRow D) → Attribute → Option row.Value
 value_in row a = option_and_then (λ o. o) (result_ok (row.read a))
 
--- value_error rows a: the error of the attribute `a`: the first that a row has for it, or None if
--- it is accepted
-abbrev pub value_error : {D : Type 0} → List (Row D) → Attribute → Option DecodeError
+-- value_error rows a: the error of the attribute `a`: the first error with which a row rejects it.
+-- None if no row does.
+abbrev pub value_error : {D : Type 0} → List (StructRow D) → Attribute → Option DecodeError
 value_error [] a = None
 value_error (row ∷ others) a = first_present (result_err (row.read a)) (value_error others a)
 
--- HasValues rows d attributes: for each row the struct `d` has the first value in these
--- attributes, or zeros if none of them has a value for this row
-abbrev pub HasValues : {D : Type 0} → List (Row D) → D → List Attribute → Type 0
+-- HasValues rows d attributes: for each row, the struct `d` has the value of the first of these
+-- attributes that has one for the row. If none of them has one, the fields of the row are zeros.
+abbrev pub HasValues : {D : Type 0} → List (StructRow D) → D → List Attribute → Type 0
 HasValues [] d attributes = ⊤
 HasValues (row ∷ others) d attributes =
     (row.fields d ≡ row.contents (first_content_of (value_in row) attributes))
@@ -86,60 +89,68 @@ HasValues (row ∷ others) d attributes =
 
 -- ---- a reply
 
--- the parts of a reply: the header, the attributes, and the framing error after them, if any
-pub record Parts (H : Type 0) : Type 0 where
+-- The parts of a reply, whose header has the type `H`.
+pub record ReplyParts (H : Type 0) : Type 0 where
   pub header : H
+  -- the attributes after the header, up to the end or to a framing error
   pub attributes : List Attribute
+  -- the framing error of the bytes after the attributes, if any
   pub framing_error : Option DecodeError
 
--- EndsWith attributes end bytes: the bytes are these attributes, and nothing else (None), or then
--- bytes with this framing error
-abbrev pub EndsWith : List Attribute → Option DecodeError → List ℕ → Type 0
-EndsWith attributes None bytes = SplitsIntoAttributes bytes attributes []
-EndsWith attributes (Some e) bytes = SplitsUntilError IsFramingError bytes attributes e
+-- SplitsWithError attributes end bytes: the bytes are these attributes, each with its padding. If
+-- `end` is None, nothing follows them (`[]`). If it is `Some e`, bytes follow that do not begin
+-- with an attribute, and `e` is their framing error.
+abbrev pub SplitsWithError : List Attribute → Option DecodeError → List ℕ → Type 0
+SplitsWithError attributes None bytes = SplitsIntoAttributes bytes attributes []
+SplitsWithError attributes (Some e) bytes = SplitsUntilError IsFramingError bytes attributes e
 
 module _ {D : Type 0} (family : Family D) where
-  -- ArePartsOf family payload parts: the payload of a message is a reply with these parts
-  abbrev pub ArePartsOf : List ℕ → Parts family.Header → Type 0
+  -- ArePartsOf family payload parts: these are the parts of the reply in the payload: its header;
+  -- and the attributes and the framing error, if any, of the bytes after the header
+  abbrev pub ArePartsOf : List ℕ → ReplyParts family.Header → Type 0
   ArePartsOf payload parts =
       (family.parse_header payload ≡ Ok parts.header)
-      × EndsWith parts.attributes parts.framing_error (drop family.header_size payload)
+      × SplitsWithError parts.attributes parts.framing_error (drop family.header_size payload)
 
-  -- Describes family d parts: the struct `d` has the header and the values of these parts
-  abbrev pub Describes : D → Parts family.Header → Type 0
-  Describes d parts =
+  -- HasHeaderAndValuesOf family d parts: the struct `d` has the header and the values of these
+  -- parts
+  abbrev pub HasHeaderAndValuesOf : D → ReplyParts family.Header → Type 0
+  HasHeaderAndValuesOf d parts =
       (family.header d ≡ parts.header) × HasValues family.rows d parts.attributes
 
-  -- first_error family parts: the first error after the header, in the order of the bytes: that of
-  -- the first rejected attribute, or else the framing error. None if there is no error.
-  abbrev pub first_error : Parts family.Header → Option DecodeError
+  -- first_error family parts: the first error after the header, in the order of the bytes: the
+  -- error of the first rejected attribute; if none is rejected, the framing error. None if there is
+  -- no error.
+  abbrev pub first_error : ReplyParts family.Header → Option DecodeError
   first_error parts = first_present
       (first_content_of (value_error family.rows) parts.attributes) parts.framing_error
 
-  -- DetailsAre family payload d: the reply in the payload has no error, and the struct `d` has its
-  -- contents
-  abbrev pub DetailsAre : List ℕ → D → Type 0
-  DetailsAre payload d = (parts : Parts family.Header) × ArePartsOf payload parts
-      × (first_error parts ≡ None) × Describes d parts
+  -- AreDetailsOf family payload d: the reply in the payload has no error, and the struct `d` has
+  -- its header and values
+  abbrev pub AreDetailsOf : List ℕ → D → Type 0
+  AreDetailsOf payload d = (parts : ReplyParts family.Header) × ArePartsOf payload parts
+      × (first_error parts ≡ None) × HasHeaderAndValuesOf d parts
 
-  -- IsHeaderError family payload e: `e` is the error of the header
+  -- IsHeaderError family payload e: the header at the start of the payload is rejected with `e`
   abbrev pub IsHeaderError : List ℕ → DecodeError → Type 0
   IsHeaderError payload e = family.parse_header payload ≡ Err e
 
-  -- IsFirstError family payload e: `e` is the first error of the reply in the payload: that of the
-  -- header, or else the first error after it
+  -- IsFirstError family payload e: `e` is the first error of the reply in the payload: the error of
+  -- the header; if the header has none, the first error after it
   abbrev pub IsFirstError : List ℕ → DecodeError → Type 0
   IsFirstError payload e =
       IsHeaderError payload e
-      ⊎ ((parts : Parts family.Header) × ArePartsOf payload parts × (first_error parts ≡ Some e))
+      ⊎ ((parts : ReplyParts family.Header) × ArePartsOf payload parts
+      × (first_error parts ≡ Some e))
 
   -- ---- lenient
 
-  -- error_of_kind family kind a: the error of the attribute `a`, if it has this kind
+  -- error_of_kind family kind a: the error of the attribute `a`, if `a` has this kind and is
+  -- rejected; else None
   abbrev pub error_of_kind : ℕ → Attribute → Option DecodeError
   error_of_kind kind a = if attribute_kind a == kind then value_error family.rows a else None
 
--- optional_code error: the code of the error; 0 if there is none
+-- optional_code error: the code of the error; 0 if there is none (None). No error has the code 0.
 abbrev pub optional_code : Option DecodeError → ℕ
 optional_code None = 0
 optional_code (Some e) = error_code e
@@ -149,43 +160,48 @@ module _ {D : Type 0} (family : Family D) where
   -- framing error, and for each kind below REJECTION_KINDS the code of the first error of an
   -- attribute of this kind. Each is 0 if there is no such error. The contract of
   -- `every_rejected_kind_has_a_code` in src/laws.rt states that no other kind has errors.
-  abbrev pub HasRejections : Rejections → Parts family.Header → Type 0
+  abbrev pub HasRejections : Rejections → ReplyParts family.Header → Type 0
   HasRejections r parts =
       (r.first ≡ optional_code (first_error family parts))
       × (r.framing ≡ optional_code parts.framing_error)
       × ((kind : ℕ) → kind < REJECTION_KINDS → slice_index r.errors kind
       ≡ optional_code (first_content_of (error_of_kind family kind) parts.attributes))
 
-  -- LenientDetailsAre family payload (d, r): the struct `d` has the contents of the reply in the
-  -- payload, and `r` has the errors
+  -- LenientDetailsAre family payload (d, r): the header of the reply in the payload is accepted.
+  -- The struct `d` has the header and the first valid values, and `r` has the codes of the errors
+  -- (`HasRejections`).
   abbrev pub LenientDetailsAre : List ℕ → D × Rejections → Type 0
-  LenientDetailsAre payload found = (parts : Parts family.Header) × ArePartsOf family payload parts
-      × Describes family found.0 parts × HasRejections found.1 parts
+  LenientDetailsAre payload (d, r) =
+      (parts : ReplyParts family.Header) × ArePartsOf family payload parts
+      × HasHeaderAndValuesOf family d parts × HasRejections r parts
 
--- IsCodeOf rejects code: `code` is the code of an error for which `rejects` holds
+-- IsCodeOf rejects code: `code` is the code of an error `e` for which `rejects e` holds
 abbrev pub IsCodeOf : (DecodeError → Type 0) → ℕ → Type 0
 IsCodeOf rejects code = (e : DecodeError) × rejects e × (code ≡ error_code e)
 
 -- ---- properties of the calls
 
 module _ {D : Type 0} (family : Family D) where
-  -- CallsAgree family: if a lenient call has no first error, its details are those of the strict
-  -- call; otherwise the strict call returns the first error
+  -- CallsAgree family: for each payload, let `d` and `r` be the details and the rejections of the
+  -- lenient call. If `r.first` is 0, `d` are also the details of the strict call. Otherwise
+  -- `r.first` is the code of the first error of the reply, which the strict call returns.
   abbrev pub CallsAgree : Type 0
   CallsAgree = (payload : List ℕ) (d : D) (r : Rejections) → LenientDetailsAre family payload (d, r)
-      → (r.first ≡ 0 → DetailsAre family payload d)
+      → (r.first ≡ 0 → AreDetailsOf family payload d)
       × (r.first ≢ 0 → IsCodeOf (IsFirstError family payload) r.first)
 
-  -- AgreesWithCodec family R: a reply with details parses by the codec of `R`, and a first error is
-  -- an error by it
+  -- AgreesWithCodec family R: each payload for which the strict call returns details parses by the
+  -- codec of `R`, as some value `v`; and each error of the strict call is an error by this codec.
+  -- So the call and the codec accept the same payloads. The codec has no parameter (`tt`).
   abbrev pub AgreesWithCodec : ResponseSpec → Type 0
   AgreesWithCodec R =
-      ((payload : List ℕ) (d : D) → DetailsAre family payload d
+      ((payload : List ℕ) (d : D) → AreDetailsOf family payload d
       → (v : ReplyValue R) × (response_codec R).parses payload tt v)
       × ((payload : List ℕ) (e : DecodeError) → IsFirstError family payload e
       → (response_codec R).rejects payload tt e)
 
-  -- EveryRejectedKindHasCode family: only attributes of kinds below REJECTION_KINDS are rejected
+  -- EveryRejectedKindHasCode family: if an attribute `a` is rejected with an error `e`, its kind is
+  -- below REJECTION_KINDS, so that `errors` of the rejections has an element for it
   abbrev pub EveryRejectedKindHasCode : Type 0
   EveryRejectedKindHasCode = (a : Attribute) (e : DecodeError)
       → value_error family.rows a ≡ Some e → attribute_kind a < REJECTION_KINDS

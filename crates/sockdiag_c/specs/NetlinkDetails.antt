@@ -8,11 +8,12 @@ use Rattle.sock_diag_families.specs.declared.netlink.TheConstants.{NETLINK_DIAG_
 use Rattle.sock_diag_families.specs.declared.netlink.response.NetlinkResponseHeader.{
   NetlinkResponseHeader,
 }
-use Rattle.sockdiag_c.specs.Details.{raw_bytes, socket_memory, u32}
+use Rattle.sockdiag_c.specs.Details.{bytes_row, memory_row, u32_row}
 use Rattle.sockdiag_c.specs.Family.{Family}
 use Rattle.sockdiag_c.specs.declared.netlink_details.NetlinkDetails.{NetlinkDetails}
 
--- replies about netlink sockets
+-- Replies about netlink sockets: the header, of `netlink_header.least` bytes, whose parser has no
+-- parameter (`tt`); and the memory counters, the bytes of the groups, and the flags
 abbrev pub netlink_family : Family NetlinkDetails
 netlink_family = record {
   Header = NetlinkResponseHeader;
@@ -20,7 +21,7 @@ netlink_family = record {
   header_size = netlink_header.least;
   header = λ d. d.header;
   rows =
-      socket_memory NETLINK_DIAG_MEMINFO (λ d. d.memory)
-      ∷ raw_bytes NETLINK_DIAG_GROUPS (λ d. d.groups)
-      ∷ u32 NETLINK_DIAG_FLAGS (λ d. d.flags) ∷ [];
+      memory_row NETLINK_DIAG_MEMINFO (λ d. d.memory)
+      ∷ bytes_row NETLINK_DIAG_GROUPS (λ d. d.groups)
+      ∷ u32_row NETLINK_DIAG_FLAGS (λ d. d.flags) ∷ [];
 }

@@ -1,7 +1,7 @@
 -- The contents of a reply about a packet socket: `struct sockdiag_packet_details`.
 use Rattle.std.specs.Prelude.{[], ◌∷◌}
 use Rattle.netlink_core.specs.Layout.{parse_record}
-use Rattle.sock_diag_families.specs.PacketAttributes.{packet_info, packet_ring}
+use Rattle.sock_diag_families.specs.PacketAttributes.{parse_packet_info, parse_packet_ring}
 use Rattle.sock_diag_families.specs.PacketResponseHeader.{packet_header}
 use Rattle.sock_diag_families.specs.declared.packet.TheConstants.{PACKET_DIAG_FANOUT}
 use Rattle.sock_diag_families.specs.declared.packet.TheConstants.{PACKET_DIAG_FILTER}
@@ -16,11 +16,11 @@ use Rattle.sock_diag_families.specs.declared.packet.attributes.PacketRing.{Packe
 use Rattle.sock_diag_families.specs.declared.packet.response.PacketResponseHeader.{
   PacketResponseHeader,
 }
-use Rattle.sockdiag_c.specs.Details.{optional, raw_bytes, socket_memory, u32}
+use Rattle.sockdiag_c.specs.Details.{bytes_row, memory_row, record_row, u32_row}
 use Rattle.sockdiag_c.specs.Family.{Family}
 use Rattle.sockdiag_c.specs.declared.packet_details.PacketDetails.{PacketDetails}
 
--- the settings of a socket, all 0
+-- the settings of a packet socket, all 0: the contents of `info` if the reply has none
 abbrev pub zero_packet_info : PacketInfo
 zero_packet_info = record {
   interface = 0;
@@ -31,7 +31,7 @@ zero_packet_info = record {
   flags = 0;
 }
 
--- a ring, all 0
+-- a ring of a packet socket, all 0: the contents of a ring field if the reply has no such ring
 abbrev pub zero_packet_ring : PacketRing
 zero_packet_ring = record {
   block_size = 0;
@@ -43,8 +43,9 @@ zero_packet_ring = record {
   features = 0;
 }
 
--- Replies about packet sockets. `packet_ring k` parses the record of a ring, with the kind k in an
--- error.
+-- Replies about packet sockets. The header has `packet_header.least` bytes, and its parser has no
+-- parameter (`tt`). `parse_packet_ring kind` parses the record of a ring; the kind is for errors,
+-- which contain it.
 abbrev pub packet_family : Family PacketDetails
 packet_family = record {
   Header = PacketResponseHeader;
@@ -52,14 +53,15 @@ packet_family = record {
   header_size = packet_header.least;
   header = λ d. d.header;
   rows =
-      optional zero_packet_info packet_info PACKET_DIAG_INFO (λ d. (d.has_info, d.info))
-      ∷ raw_bytes PACKET_DIAG_MCLIST (λ d. d.addresses)
-      ∷ optional zero_packet_ring (packet_ring PACKET_DIAG_RX_RING) PACKET_DIAG_RX_RING
-      (λ d. (d.has_receive_ring, d.receive_ring))
-      ∷ optional zero_packet_ring (packet_ring PACKET_DIAG_TX_RING) PACKET_DIAG_TX_RING
-      (λ d. (d.has_send_ring, d.send_ring))
-      ∷ u32 PACKET_DIAG_FANOUT (λ d. d.fanout)
-      ∷ u32 PACKET_DIAG_UID (λ d. d.owner)
-      ∷ socket_memory PACKET_DIAG_MEMINFO (λ d. d.memory)
-      ∷ raw_bytes PACKET_DIAG_FILTER (λ d. d.filter) ∷ [];
+      record_row PACKET_DIAG_INFO parse_packet_info zero_packet_info
+      (λ d. (d.has_info, d.info))
+      ∷ bytes_row PACKET_DIAG_MCLIST (λ d. d.addresses)
+      ∷ record_row PACKET_DIAG_RX_RING (parse_packet_ring PACKET_DIAG_RX_RING)
+      zero_packet_ring (λ d. (d.has_receive_ring, d.receive_ring))
+      ∷ record_row PACKET_DIAG_TX_RING (parse_packet_ring PACKET_DIAG_TX_RING)
+      zero_packet_ring (λ d. (d.has_send_ring, d.send_ring))
+      ∷ u32_row PACKET_DIAG_FANOUT (λ d. d.fanout)
+      ∷ u32_row PACKET_DIAG_UID (λ d. d.owner)
+      ∷ memory_row PACKET_DIAG_MEMINFO (λ d. d.memory)
+      ∷ bytes_row PACKET_DIAG_FILTER (λ d. d.filter) ∷ [];
 }

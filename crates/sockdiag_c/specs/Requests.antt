@@ -1,37 +1,41 @@
 -- The bytes of requests for UNIX and internet sockets.
 use Rattle.std.specs.Prelude.{◌≡◌, ◌≢◌, ℕ, ◌+◌, ◌%◌, ◌<◌, ◌≤◌, ◌==◌, nat_lt, if◌then◌else◌, List}
-use Rattle.std.specs.Prelude.{[], ◌∷◌, ◌++◌, ◌⊎◌, length, drop, replicate, slice_index}
+use Rattle.std.specs.Prelude.{[], ◌∷◌, ◌++◌, length, drop, replicate, slice_index}
 use Rattle.byteorder.specs.Endian.{little_bytes}
 use Rattle.std.specs.declared.net.ip_addr.IpAddr.{IpAddr}
 use Rattle.std.specs.declared.net.ip_addr.IpAddr.TheVariants.{V4, V6}
 use Rattle.std.specs.Net.Addr.{segments_of}
 use Rattle.netlink_core.specs.declared.header.NetlinkHeader.{NetlinkHeader}
 use Rattle.netlink_core.specs.Attribute.{Attribute, SplitsUntilError, IsFramingError}
+use Rattle.netlink_core.specs.Attribute.{SplitsIntoAttributes}
 use Rattle.netlink_core.specs.Attribute.{padding_length, attribute_bytes}
 use Rattle.netlink_core.specs.declared.error.DecodeError.{DecodeError}
 use Rattle.netlink_core.specs.Layout.{record_bytes}
 use Rattle.netlink_core.specs.Header.{header_bytes}
 use Rattle.sock_diag_records.specs.InetRequest.{inet_request}
+use Rattle.sock_diag_records.specs.SignificantBits.{IsInetFamily}
 use Rattle.sock_diag_records.specs.UnixRequest.{unix_request}
 use Rattle.sock_diag_records.specs.declared.constants.TheConstants.{AF_INET, AF_INET6}
 use Rattle.sock_diag_records.specs.declared.constants.TheConstants.{SOCK_DIAG_BY_FAMILY}
 use Rattle.sock_diag_records.specs.declared.inet.request.TheConstants.{INET_DIAG_REQ_PROTOCOL}
 use Rattle.sock_diag_records.specs.declared.inet.request.InetRequest as inet
 use Rattle.sock_diag_records.specs.declared.unix.request.UnixRequest as unix
+use Rattle.sockdiag_c.specs.Answers.{Call}
+use Rattle.sockdiag_c.specs.Rewriting.{Conversion}
 use Rattle.sockdiag_c.specs.declared.requests.InetRequest.{InetRequest}
 use Rattle.sockdiag_c.specs.declared.requests.RequestHeader.{RequestHeader}
 use Rattle.sockdiag_c.specs.declared.requests.UnixRequest.{UnixRequest}
 
--- request_header_of len t h: `struct nlmsghdr` of a message of `len` bytes (its header of 16 bytes
--- included) and of type `t`. `nlmsg_flags`, `nlmsg_seq` and `nlmsg_pid` are those of the caller's
--- struct `h`.
+-- request_header_of len message_type header: `struct nlmsghdr` of a message of this type, of `len`
+-- bytes including its header of 16 bytes. `nlmsg_flags`, `nlmsg_seq` and `nlmsg_pid` are those of
+-- the caller's struct `header`.
 abbrev pub request_header_of : ℕ → ℕ → RequestHeader → NetlinkHeader
-request_header_of len t h = record {
+request_header_of len message_type header = record {
   length = len;
-  message_type = t;
-  flags = h.flags;
-  sequence_number = h.sequence_number;
-  port_number = h.port_number;
+  message_type = message_type;
+  flags = header.flags;
+  sequence_number = header.sequence_number;
+  port_number = header.port_number;
 }
 
 -- `unix_request_from_c r`: `struct unix_diag_req` from the request `r`
@@ -74,46 +78,57 @@ inet_request_from_c r = record {
   };
 }
 
--- `protocol_attribute p`: no bytes if the protocol `p` is below 256; else the 8 bytes of an
--- attribute INET_DIAG_REQ_PROTOCOL whose value is `p` as a little-endian `__u32`
+-- `protocol_attribute protocol`: no bytes if the protocol is below 256; else the 8 bytes of an
+-- attribute INET_DIAG_REQ_PROTOCOL whose value is the protocol as a little-endian `__u32`
 abbrev pub protocol_attribute : ℕ → List ℕ
-protocol_attribute p =
-    if nat_lt p 256 then []
-    else attribute_bytes record { type_word = INET_DIAG_REQ_PROTOCOL; value = little_bytes 4 p }
+protocol_attribute protocol =
+    if nat_lt protocol 256 then []
+    else attribute_bytes record {
+      type_word = INET_DIAG_REQ_PROTOCOL;
+      value = little_bytes 4 protocol;
+    }
 
--- `unix_message t r`: the netlink message of the request `r` for UNIX sockets, with the type `t`:
--- SOCK_DIAG_BY_FAMILY or SOCK_DESTROY. It has 40 bytes: a header of 16 bytes (`header_bytes`), then
--- the record of 24 bytes (`record_bytes`).
+-- `unix_message message_type r`: the netlink message of the request `r` for UNIX sockets, with the
+-- type SOCK_DIAG_BY_FAMILY or SOCK_DESTROY. It has 40 bytes: a header of 16 bytes (`header_bytes`),
+-- then the record of 24 bytes (`record_bytes`).
 abbrev pub unix_message : ℕ → UnixRequest → List ℕ
-unix_message t r = header_bytes (request_header_of 40 t r.header)
+unix_message message_type r =
+    header_bytes (request_header_of 40 message_type r.header)
     ++ record_bytes unix_request (unix_request_from_c r)
 
--- `inet_message t r`: the netlink message of the request `r` for IPv4 or IPv6 sockets, with the
--- type `t`: SOCK_DIAG_BY_FAMILY or SOCK_DESTROY. It has 72 bytes, a header of 16 and a record of 56
--- bytes; and 8 bytes more, those of the attribute, if the protocol is above 255.
+-- `inet_message_length protocol`: the number of bytes of a request for IPv4 or IPv6 sockets of this
+-- protocol: 72, a header of 16 and a record of 56 bytes; and 8 bytes more, those of the attribute,
+-- if the protocol is above 255
+abbrev pub inet_message_length : ℕ → ℕ
+inet_message_length protocol = 72 + length (protocol_attribute protocol)
+
+-- `inet_message message_type r`: the netlink message of the request `r` for IPv4 or IPv6 sockets,
+-- with the type SOCK_DIAG_BY_FAMILY or SOCK_DESTROY: its header, its record, and the attribute if
+-- the protocol is above 255
 abbrev pub inet_message : ℕ → InetRequest → List ℕ
-inet_message t r =
-    header_bytes (request_header_of (72 + length (protocol_attribute r.protocol)) t r.header)
+inet_message message_type r =
+    header_bytes (request_header_of (inet_message_length r.protocol) message_type r.header)
     ++ record_bytes inet_request (inet_request_from_c r) ++ protocol_attribute r.protocol
 
--- WritesMessage len all old new answer: `all` are the bytes of a message, and `len` is their
--- number, which clauses state since callers need it. `old` and `new` are the caller's buffer before
--- and after the call; `answer` is the return value. If the buffer has at least `len` bytes, `all`
--- is written at its start, the bytes after it are unchanged, and `answer` is `len`. Else nothing is
--- written, and `answer` is 0.
-abbrev pub WritesMessage : ℕ → List ℕ → List ℕ → List ℕ → ℕ → Type 0
-WritesMessage len all old new answer =
-    (len ≤ length old → (answer ≡ len) × (new ≡ all ++ drop len old))
-    × (length old < len → (answer ≡ 0) × (new ≡ old))
+-- WritesMessage len message call: if the buffer of the caller has at least `len` bytes, the message
+-- is written at its start, the bytes after it are unchanged, and the return value is `len`. If it
+-- is shorter, nothing is written, and the return value is 0. `len` has to be the length of the
+-- message; it is a separate argument, so that a contract shows the number itself.
+abbrev pub WritesMessage : ℕ → List ℕ → Call (List ℕ) → Type 0
+WritesMessage len message call =
+    (len ≤ length call.old
+    → (call.returned ≡ len) × (call.new ≡ message ++ drop len call.old))
+    × (length call.old < len → (call.returned ≡ 0) × (call.new ≡ call.old))
 
--- `WritesInetMessage t r old new answer`: if the family of the request `r` is AF_INET or AF_INET6,
--- its message with the type `t` is written (`WritesMessage`): 72 bytes, and those of
--- `protocol_attribute`. Else nothing is written, and `answer` is 0.
-abbrev pub WritesInetMessage : ℕ → InetRequest → List ℕ → List ℕ → ℕ → Type 0
-WritesInetMessage t r old new answer =
-    ((r.family ≡ AF_INET) ⊎ (r.family ≡ AF_INET6)
-    → WritesMessage (72 + length (protocol_attribute r.protocol)) (inet_message t r) old new answer)
-    × (r.family ≢ AF_INET → r.family ≢ AF_INET6 → (answer ≡ 0) × (new ≡ old))
+-- `WritesInetMessage message_type r call`: if the family of the request `r` is AF_INET or AF_INET6,
+-- its message with this type is written if the buffer is long enough (`WritesMessage`). For any
+-- other family nothing is written, and the return value is 0.
+abbrev pub WritesInetMessage : ℕ → InetRequest → Call (List ℕ) → Type 0
+WritesInetMessage message_type r call =
+    (IsInetFamily r.family
+    → WritesMessage (inet_message_length r.protocol) (inet_message message_type r) call)
+    × (r.family ≢ AF_INET → r.family ≢ AF_INET6
+    → (call.returned ≡ 0) × (call.new ≡ call.old))
 
 -- ---- requests with attributes of the caller
 
@@ -126,23 +141,39 @@ with_padding attributes = attributes ++ replicate (padding_length (length attrib
 abbrev pub bytes_after_record : InetRequest → List ℕ → List ℕ
 bytes_after_record r attributes = protocol_attribute r.protocol ++ with_padding attributes
 
+-- `length_with_attributes r attributes`: the number of bytes of the request `r` with these
+-- attributes: the header and the record have 72 bytes
+abbrev pub length_with_attributes : InetRequest → List ℕ → ℕ
+length_with_attributes r attributes = 72 + length (bytes_after_record r attributes)
+
 -- `request_with_attributes r attributes`: the netlink message of the request `r` for IPv4 or IPv6
 -- sockets: its header, whose `nlmsg_len` counts all bytes of the message; its record; and
 -- `bytes_after_record`
 abbrev pub request_with_attributes : InetRequest → List ℕ → List ℕ
 request_with_attributes r attributes =
-    header_bytes (request_header_of (72 + length (bytes_after_record r attributes))
-    SOCK_DIAG_BY_FAMILY r.header)
+    header_bytes (request_header_of (length_with_attributes r attributes) SOCK_DIAG_BY_FAMILY
+    r.header)
     ++ record_bytes inet_request (inet_request_from_c r) ++ bytes_after_record r attributes
 
--- `IsWritableRequest r attributes`: the family is AF_INET or AF_INET6, and the length of the
--- message with these attributes fits `nlmsg_len`
-abbrev pub IsWritableRequest : InetRequest → List ℕ → Type 0
-IsWritableRequest r attributes =
-    ((r.family ≡ AF_INET) ⊎ (r.family ≡ AF_INET6))
-    × (72 + length (bytes_after_record r attributes) ≤ 4294967295)
+-- `IsWritableInetRequest r attributes`: the family is AF_INET or AF_INET6, and the length of the
+-- message with these attributes fits `nlmsg_len`, a `__u32`
+abbrev pub IsWritableInetRequest : InetRequest → List ℕ → Type 0
+IsWritableInetRequest r attributes =
+    IsInetFamily r.family × (length_with_attributes r attributes ≤ 4294967295)
 
--- HasFramingError bytes e: after zero or more attributes, bytes are left that do not begin with an
--- attribute, and e is the error that says why
+-- HasFramingError bytes e: the bytes are zero or more attributes, followed by bytes that do not
+-- begin with an attribute. `e` is the framing error of these.
 abbrev pub HasFramingError : List ℕ → DecodeError → Type 0
-HasFramingError bytes e = (given : List Attribute) × SplitsUntilError IsFramingError bytes given e
+HasFramingError bytes e =
+    (attributes : List Attribute) × SplitsUntilError IsFramingError bytes attributes e
+
+-- `filtered_request r bytes`: how bytes of the caller are checked and written after the request
+-- `r`. They have to be split into attributes, without bytes after them (`[]`). What is written
+-- depends only on the bytes, so `is_writable` and `serialized` do not use the attributes (`_`).
+abbrev pub filtered_request : InetRequest → List ℕ → Conversion (List Attribute)
+filtered_request r bytes = record {
+  parses = λ attributes. SplitsIntoAttributes bytes attributes [];
+  rejects = HasFramingError bytes;
+  is_writable = λ _. IsWritableInetRequest r bytes;
+  serialized = λ _. request_with_attributes r bytes;
+}

@@ -1,53 +1,84 @@
 -- The canonical form of replies, written to a buffer.
-use Rattle.std.specs.Prelude.{◌≡◌, ℕ, ◌<◌, ◌≤◌, ◌↔◌, ◌⊎◌, List, ◌++◌, length, take, drop}
+use Rattle.std.specs.Prelude.{◌≡◌, ℕ, ◌<◌, ◌≤◌, ◌↔◌, ◌⊎◌, List, ◌++◌, length, drop}
 use Rattle.netlink_core.specs.Bytes.{IsBytes}
 use Rattle.netlink_core.specs.declared.error.DecodeError.{DecodeError}
 use Rattle.netlink_core.specs.Errors.{error_code}
 use Rattle.netlink_core.specs.Response.{ResponseSpec, ReplyValue, response_bytes, response_codec}
 use Rattle.sockdiag_c.specs.declared.rewriting.Outcome.{Outcome}
 
--- `outcome_struct error needed`: `struct sockdiag_outcome` with the code of an error, or 0, and the
--- number of bytes to write
+-- How bytes of the caller are converted to the bytes that are written, by a value of type `V`.
+pub record Conversion (V : Type 0) : Type 1 where
+  -- parses v: the bytes of the caller have the value `v`
+  pub parses : V → Type 0
+  -- rejects e: `e` is the first error of these bytes
+  pub rejects : DecodeError → Type 0
+  -- is_writable v: the value `v` can be serialized
+  pub is_writable : V → Type 0
+  -- serialized v: the bytes that the value `v` serializes to
+  pub serialized : V → List ℕ
+
+-- A call that converts bytes of the caller and writes them to a buffer.
+pub record WriteCall : Type 0 where
+  -- the buffer before and after the call
+  pub old : List ℕ
+  pub new : List ℕ
+  -- the outcome after the call
+  pub outcome : Outcome
+  -- the return value
+  pub returned : ℕ
+
+-- `outcome_struct error needed`: `struct sockdiag_outcome` with this error code, or 0 if there is
+-- no error, and this number of bytes to write
 abbrev pub outcome_struct : ℕ → ℕ → Outcome
 outcome_struct error needed = record { error = error; needed = needed }
 
--- `WritesNothing old new answer`: the return value `answer` is 0, and the buffer is unchanged
-abbrev pub WritesNothing : List ℕ → List ℕ → ℕ → Type 0
-WritesNothing old new answer = (answer ≡ 0) × (new ≡ old)
+-- WritesNothing call: the return value is 0, and the buffer is unchanged
+abbrev pub WritesNothing : WriteCall → Type 0
+WritesNothing call = (call.returned ≡ 0) × (call.new ≡ call.old)
 
--- WritesValue is_writable bytes old new outcome answer: `is_writable` states that the value is
--- writable, and `bytes` are the bytes that it serializes to; `old` and `new` are the buffer before
--- and after the call; `answer` is the return value. One of three holds:
+-- WritesValue is_writable bytes call: `is_writable` states that the value is writable, and `bytes`
+-- are the bytes that it serializes to. One of three holds:
 -- - The value is writable and the buffer is long enough. The bytes are written at its start, the
---   bytes after them are unchanged, and `answer` and `outcome.needed` are their number.
--- - The value is writable and the buffer is too short. Nothing is written, `answer` is 0, and
---   `outcome.needed` is the number of bytes.
--- - The value is not writable. Nothing is written, and `answer` and `outcome.needed` are 0.
+--   bytes after them are unchanged, and the return value and `outcome.needed` are their number.
+-- - The value is writable and the buffer is too short. Nothing is written, the return value is 0,
+--   and `outcome.needed` is the number of bytes.
+-- - The value is not writable. Nothing is written, and the return value and `outcome.needed` are 0.
 -- In each case `outcome.error` is 0.
-abbrev pub WritesValue : Type 0 → List ℕ → List ℕ → List ℕ → Outcome → ℕ → Type 0
-WritesValue is_writable bytes old new outcome answer =
-    (is_writable × (length bytes ≤ length old) × (outcome ≡ outcome_struct 0 (length bytes))
-    × (answer ≡ length bytes) × (new ≡ bytes ++ drop (length bytes) old))
-    ⊎ ((is_writable × (length old < length bytes) × (outcome ≡ outcome_struct 0 (length bytes))
-    × WritesNothing old new answer)
-    ⊎ (¬ is_writable × (outcome ≡ outcome_struct 0 0) × WritesNothing old new answer))
+abbrev pub WritesValue : Type 0 → List ℕ → WriteCall → Type 0
+WritesValue is_writable bytes call =
+    (is_writable × (length bytes ≤ length call.old)
+    × (call.outcome ≡ outcome_struct 0 (length bytes))
+    × (call.returned ≡ length bytes) × (call.new ≡ bytes ++ drop (length bytes) call.old))
+    ⊎ ((is_writable × (length call.old < length bytes)
+    × (call.outcome ≡ outcome_struct 0 (length bytes)) × WritesNothing call)
+    ⊎ (¬ is_writable × (call.outcome ≡ outcome_struct 0 0) × WritesNothing call))
 
--- ParsesAndWrites parses rejects is_writable bytes old new outcome answer: either the input parses
--- as a value `v` (`parses v`), and WritesValue holds of it: it is writable if `is_writable v`, and
--- serializes to `bytes v`. Or the input is rejected with the first error `e` (`rejects e`):
--- `outcome.error` is its code, `outcome.needed` is 0, and nothing is written.
-abbrev pub ParsesAndWrites : {V : Type 0} → (V → Type 0) → (DecodeError → Type 0) → (V → Type 0)
-    → (V → List ℕ) → List ℕ → List ℕ → Outcome → ℕ → Type 0
-ParsesAndWrites {V} parses rejects is_writable bytes old new outcome answer =
-    ((v : V) × parses v × WritesValue (is_writable v) (bytes v) old new outcome answer)
-    ⊎ ((e : DecodeError) × rejects e × (outcome ≡ outcome_struct (error_code e) 0)
-    × WritesNothing old new answer)
+-- ParsesAndWrites conversion call: either the bytes of the caller have a value `v`, which is
+-- written if it is writable and the buffer is long enough (`WritesValue`). Or they have a first
+-- error `e`: `outcome.error` is its code, `outcome.needed` is 0, and nothing is written.
+abbrev pub ParsesAndWrites : {V : Type 0} → Conversion V → WriteCall → Type 0
+ParsesAndWrites {V} conversion call =
+    ((v : V) × conversion.parses v
+    × WritesValue (conversion.is_writable v) (conversion.serialized v) call)
+    ⊎ ((e : DecodeError) × conversion.rejects e
+    × (call.outcome ≡ outcome_struct (error_code e) 0) × WritesNothing call)
 
--- IsCanonical R payload new answer: if anything was written (the first `answer` bytes of the buffer
--- `new`), it is the canonical form of the payload. An accepted input `d` with a writable value `w`
--- serializes to these bytes if and only if it is equivalent to the payload.
-abbrev pub IsCanonical : ResponseSpec → List ℕ → List ℕ → ℕ → Type 0
-IsCanonical R payload new answer =
-    0 < answer → (d : List ℕ) (w : ReplyValue R) → IsBytes d → (response_codec R).parses d tt w
+-- reply_conversion R payload: the payload is parsed as a reply by the codec of `R`, and the value
+-- is serialized. The codec has no parameter (`tt`).
+abbrev pub reply_conversion : (R : ResponseSpec) → List ℕ → Conversion (ReplyValue R)
+reply_conversion R payload = record {
+  parses = (response_codec R).parses payload tt;
+  rejects = (response_codec R).rejects payload tt;
+  is_writable = (response_codec R).is_writable;
+  serialized = response_bytes R;
+}
+
+-- IsCanonicalForm R payload written: `written` is the canonical form of the payload, for replies of
+-- `R`. That is a statement about all replies `d` (bytes, each below 256) that parse as a writable
+-- value `w`: `w` serializes to `written` if and only if `d` is equivalent to the payload. The codec
+-- has no parameter (`tt`).
+abbrev pub IsCanonicalForm : ResponseSpec → List ℕ → List ℕ → Type 0
+IsCanonicalForm R payload written =
+    (d : List ℕ) (w : ReplyValue R) → IsBytes d → (response_codec R).parses d tt w
     → (response_codec R).is_writable w
-    → ((response_bytes R w ≡ take answer new) ↔ (response_codec R).equivalent tt payload d)
+    → ((response_bytes R w ≡ written) ↔ (response_codec R).equivalent tt payload d)

@@ -1,27 +1,37 @@
 -- The bytes of `struct tcp_info` and of socket memory.
-use Rattle.std.specs.Prelude.{ℕ, ◌-◌, ◌==◌, if◌then◌else◌, List, ◌++◌, length, take, replicate}
-use Rattle.std.specs.Prelude.{[], Option, Some, None, unwrap_or}
+use Rattle.std.specs.Prelude.{ℕ, ◌-◌, ◌==◌, if◌then◌else◌, List, ◌++◌, length, take, drop}
+use Rattle.std.specs.Prelude.{replicate, [], Option, Some, None, unwrap_or}
 use Rattle.netlink_core.specs.Attribute.{Attribute, attribute_kind}
 use Rattle.netlink_core.specs.declared.error.DecodeError.{DecodeError}
+use Rattle.sock_diag_records.specs.declared.inet.response.TheConstants.{INET_RESPONSE_HEADER_LEN}
 use Rattle.sock_diag_replies.specs.UnixGetters.{first_content_of}
-use Rattle.sockdiag_c.specs.Family.{EndsWith}
+use Rattle.sockdiag_c.specs.Family.{SplitsWithError}
 
 -- `AreAttributesIn bytes attributes`: `attributes` are the attributes at the start of the bytes, in
--- order: all of them, or those before a framing error
+-- order: all of them, or those before a framing error (`end`)
 abbrev pub AreAttributesIn : List ℕ → List Attribute → Type 0
-AreAttributesIn bytes attributes = (end : Option DecodeError) × EndsWith attributes end bytes
+AreAttributesIn bytes attributes = (end : Option DecodeError) × SplitsWithError attributes end bytes
 
--- value_of_type k a: the value of the attribute a if its type is k, whatever its two flag bits;
--- None if its type is another
+-- `AreInetReplyAttributes payload attributes`: `attributes` are the attributes after the header of
+-- a reply about an IPv4 or IPv6 socket, up to the end or to a framing error. A clause that begins
+-- with `(attributes : List Attribute) → AreInetReplyAttributes payload attributes →` is about these
+-- attributes of the payload.
+abbrev pub AreInetReplyAttributes : List ℕ → List Attribute → Type 0
+AreInetReplyAttributes payload attributes =
+    AreAttributesIn (drop INET_RESPONSE_HEADER_LEN payload) attributes
+
+-- value_of_type kind a: the value of the attribute `a` if it has this kind, whatever its two flag
+-- bits; else None
 abbrev pub value_of_type : ℕ → Attribute → Option (List ℕ)
-value_of_type k a = if attribute_kind a == k then Some a.value else None
+value_of_type kind a = if attribute_kind a == kind then Some a.value else None
 
--- first_of_type k attributes: the value of the first attribute of the type k, or no bytes if there
--- is none
-abbrev pub first_of_type : ℕ → List Attribute → List ℕ
-first_of_type k attributes = unwrap_or (first_content_of (value_of_type k) attributes) []
+-- first_value_of_type kind attributes: the value of the first attribute of this kind; no bytes
+-- (`[]`) if there is none
+abbrev pub first_value_of_type : ℕ → List Attribute → List ℕ
+first_value_of_type kind attributes =
+    unwrap_or (first_content_of (value_of_type kind) attributes) []
 
--- padded_or_truncated n value: the first n bytes of the value, followed by zeros up to n bytes if
--- the value is shorter
+-- padded_or_truncated n value: exactly n bytes: the first n bytes of the value; or, if the value is
+-- shorter, the value followed by zeros
 abbrev pub padded_or_truncated : ℕ → List ℕ → List ℕ
 padded_or_truncated n value = take n value ++ replicate (n - length value) 0

@@ -1,7 +1,8 @@
 -- The contents of a reply about an XDP socket: `struct sockdiag_xdp_details`.
 use Rattle.std.specs.Prelude.{[], ◌∷◌}
 use Rattle.netlink_core.specs.Layout.{parse_record}
-use Rattle.sock_diag_families.specs.XdpAttributes.{xdp_info, xdp_statistics, xdp_umem}
+use Rattle.sock_diag_families.specs.XdpAttributes.{parse_xdp_info, parse_xdp_statistics}
+use Rattle.sock_diag_families.specs.XdpAttributes.{parse_xdp_umem}
 use Rattle.sock_diag_families.specs.XdpResponseHeader.{xdp_header}
 use Rattle.sock_diag_families.specs.declared.xdp.TheConstants.{XDP_DIAG_INFO, XDP_DIAG_MEMINFO}
 use Rattle.sock_diag_families.specs.declared.xdp.TheConstants.{XDP_DIAG_RX_RING, XDP_DIAG_STATS}
@@ -13,15 +14,15 @@ use Rattle.sock_diag_families.specs.declared.xdp.attributes.XdpInfo.{XdpInfo}
 use Rattle.sock_diag_families.specs.declared.xdp.attributes.XdpStatistics.{XdpStatistics}
 use Rattle.sock_diag_families.specs.declared.xdp.attributes.XdpUmem.{XdpUmem}
 use Rattle.sock_diag_families.specs.declared.xdp.response.XdpResponseHeader.{XdpResponseHeader}
-use Rattle.sockdiag_c.specs.Details.{optional, socket_memory, u32}
+use Rattle.sockdiag_c.specs.Details.{memory_row, record_row, u32_row}
 use Rattle.sockdiag_c.specs.Family.{Family}
 use Rattle.sockdiag_c.specs.declared.xdp_details.XdpDetails.{XdpDetails}
 
--- an interface and a queue, both 0
+-- an interface and a queue, both 0: the contents of `info` if the reply has none
 abbrev pub zero_xdp_info : XdpInfo
 zero_xdp_info = record { interface = 0; queue = 0 }
 
--- shared memory, all 0
+-- shared memory, all 0: the contents of `umem` if the reply has none
 abbrev pub zero_xdp_umem : XdpUmem
 zero_xdp_umem = record {
   size = 0;
@@ -35,7 +36,7 @@ zero_xdp_umem = record {
   references = 0;
 }
 
--- counters of a socket, all 0
+-- counters of a socket, all 0: the contents of `statistics` if the reply has none
 abbrev pub zero_xdp_statistics : XdpStatistics
 zero_xdp_statistics = record {
   received_dropped = 0;
@@ -46,7 +47,8 @@ zero_xdp_statistics = record {
   send_ring_empty = 0;
 }
 
--- replies about XDP sockets
+-- Replies about XDP sockets. The header has `xdp_header.least` bytes, and its parser has no
+-- parameter (`tt`).
 abbrev pub xdp_family : Family XdpDetails
 xdp_family = record {
   Header = XdpResponseHeader;
@@ -54,14 +56,15 @@ xdp_family = record {
   header_size = xdp_header.least;
   header = λ d. d.header;
   rows =
-      optional zero_xdp_info xdp_info XDP_DIAG_INFO (λ d. (d.has_info, d.info))
-      ∷ u32 XDP_DIAG_UID (λ d. d.owner)
-      ∷ u32 XDP_DIAG_RX_RING (λ d. d.receive_ring)
-      ∷ u32 XDP_DIAG_TX_RING (λ d. d.send_ring)
-      ∷ optional zero_xdp_umem xdp_umem XDP_DIAG_UMEM (λ d. (d.has_umem, d.umem))
-      ∷ u32 XDP_DIAG_UMEM_FILL_RING (λ d. d.fill_ring)
-      ∷ u32 XDP_DIAG_UMEM_COMPLETION_RING (λ d. d.completion_ring)
-      ∷ socket_memory XDP_DIAG_MEMINFO (λ d. d.memory)
-      ∷ optional zero_xdp_statistics xdp_statistics XDP_DIAG_STATS
+      record_row XDP_DIAG_INFO parse_xdp_info zero_xdp_info (λ d. (d.has_info, d.info))
+      ∷ u32_row XDP_DIAG_UID (λ d. d.owner)
+      ∷ u32_row XDP_DIAG_RX_RING (λ d. d.receive_ring)
+      ∷ u32_row XDP_DIAG_TX_RING (λ d. d.send_ring)
+      ∷ record_row XDP_DIAG_UMEM parse_xdp_umem zero_xdp_umem
+      (λ d. (d.has_umem, d.umem))
+      ∷ u32_row XDP_DIAG_UMEM_FILL_RING (λ d. d.fill_ring)
+      ∷ u32_row XDP_DIAG_UMEM_COMPLETION_RING (λ d. d.completion_ring)
+      ∷ memory_row XDP_DIAG_MEMINFO (λ d. d.memory)
+      ∷ record_row XDP_DIAG_STATS parse_xdp_statistics zero_xdp_statistics
       (λ d. (d.has_statistics, d.statistics)) ∷ [];
 }

@@ -8,7 +8,8 @@ ghost use Rattle.sock_diag_extras.specs.Md5Signature.{md5_signature};
 ghost use Rattle.sock_diag_extras.specs.RecordTable.{parse_by_table};
 ghost use Rattle.sock_diag_extras.specs.SocketOptions.{socket_options};
 ghost use Rattle.sock_diag_extras.specs.StoredAddress.{stored_address};
-ghost use Rattle.sockdiag_c.specs.AttributeValues.{IsStoredIf, NextItem};
+ghost use Rattle.sockdiag_c.specs.Answers.{IsStoredIf};
+ghost use Rattle.sockdiag_c.specs.AttributeValues.{StepsOverItem};
 ghost use Rattle.sockdiag_c.specs.Walks.{bytes_after_cursor};
 
 use crate::family_values::store;
@@ -35,7 +36,9 @@ const _: () = prove!(std::mem::size_of::<StoredAddress>() == 128);
 /// or 0 if the value has another length, and then the user id is unchanged.
 #[unsafe(no_mangle)]
 pub extern "C" fn sockdiag_get_uid(value: &[u8], uid: &mut u32) -> u32
-    ensures { IsStoredIf (length value.now ≡ 4) (little_number 4 value.now) uid.old uid.new result }
+    // `IsStoredIf`: if the value has 4 bytes, its number is stored, and the result is 1; else 0.
+    ensures { IsStoredIf (length value.now ≡ 4) (little_number 4 value.now)
+        record { old = uid.old; new = uid.new; returned = result } }
 {
     store(parse_uid(value), uid)
 }
@@ -45,7 +48,9 @@ pub extern "C" fn sockdiag_get_uid(value: &[u8], uid: &mut u32) -> u32
 /// is unchanged.
 #[unsafe(no_mangle)]
 pub extern "C" fn sockdiag_get_cgroup_id(value: &[u8], id: &mut u64) -> u32
-    ensures { IsStoredIf (length value.now ≡ 8) (little_number 8 value.now) id.old id.new result }
+    // `IsStoredIf`: if the value has 8 bytes, its number is stored, and the result is 1; else 0.
+    ensures { IsStoredIf (length value.now ≡ 8) (little_number 8 value.now)
+        record { old = id.old; new = id.new; returned = result } }
 {
     store(parse_cgroup_id(value), id)
 }
@@ -54,8 +59,11 @@ pub extern "C" fn sockdiag_get_cgroup_id(value: &[u8], id: &mut u64) -> u32
 /// bytes. Returns 1; or 0 if the value is shorter, and then the options are unchanged.
 #[unsafe(no_mangle)]
 pub extern "C" fn sockdiag_get_socket_options(value: &[u8], options: &mut SocketOptions) -> u32
+    // `socket_options`: the table of the fields of the struct. `IsStoredIf`: if the value is long
+    // enough, the struct that is parsed by this table is stored, and the result is 1; else 0.
     ensures { IsStoredIf (socket_options.size ≤ length value.now)
-        (parse_by_table socket_options value.now) options.old options.new result }
+        (parse_by_table socket_options value.now)
+        record { old = options.old; new = options.new; returned = result } }
 {
     store(read_attribute_record(value), options)
 }
@@ -65,8 +73,11 @@ pub extern "C" fn sockdiag_get_socket_options(value: &[u8], options: &mut Socket
 /// struct is unchanged.
 #[unsafe(no_mangle)]
 pub extern "C" fn sockdiag_get_vegas_info(value: &[u8], info: &mut VegasInfo) -> u32
+    // `vegas_info`: the table of the fields of the struct. `IsStoredIf`: if the value is long
+    // enough, the struct that is parsed by this table is stored, and the result is 1; else 0.
     ensures { IsStoredIf (vegas_info.size ≤ length value.now)
-        (parse_by_table vegas_info value.now) info.old info.new result }
+        (parse_by_table vegas_info value.now)
+        record { old = info.old; new = info.new; returned = result } }
 {
     store(read_attribute_record(value), info)
 }
@@ -75,8 +86,11 @@ pub extern "C" fn sockdiag_get_vegas_info(value: &[u8], info: &mut VegasInfo) ->
 /// 1; or 0 if the value is shorter, and then the struct is unchanged.
 #[unsafe(no_mangle)]
 pub extern "C" fn sockdiag_get_dctcp_info(value: &[u8], info: &mut DctcpInfo) -> u32
+    // `dctcp_info`: the table of the fields of the struct. `IsStoredIf`: if the value is long
+    // enough, the struct that is parsed by this table is stored, and the result is 1; else 0.
     ensures { IsStoredIf (dctcp_info.size ≤ length value.now)
-        (parse_by_table dctcp_info value.now) info.old info.new result }
+        (parse_by_table dctcp_info value.now)
+        record { old = info.old; new = info.new; returned = result } }
 {
     store(read_attribute_record(value), info)
 }
@@ -85,8 +99,11 @@ pub extern "C" fn sockdiag_get_dctcp_info(value: &[u8], info: &mut DctcpInfo) ->
 /// or 0 if the value is shorter, and then the struct is unchanged.
 #[unsafe(no_mangle)]
 pub extern "C" fn sockdiag_get_bbr_info(value: &[u8], info: &mut BbrInfo) -> u32
+    // `bbr_info`: the table of the fields of the struct. `IsStoredIf`: if the value is long enough,
+    // the struct that is parsed by this table is stored, and the result is 1; else 0.
     ensures { IsStoredIf (bbr_info.size ≤ length value.now)
-        (parse_by_table bbr_info value.now) info.old info.new result }
+        (parse_by_table bbr_info value.now)
+        record { old = info.old; new = info.new; returned = result } }
 {
     store(read_attribute_record(value), info)
 }
@@ -100,8 +117,16 @@ pub extern "C" fn sockdiag_next_md5_signature(
     cursor: &mut Cursor,
     signature: &mut Md5Signature,
 ) -> u32
-    ensures { NextItem md5_signature.size (parse_by_table md5_signature) value.now cursor.old
-        cursor.new signature.old signature.new result }
+    // `StepsOverItem size parse`: if `size` bytes are left, the item that `parse` makes of them is
+    // stored. `md5_signature`: the table of the fields of the struct.
+    ensures { StepsOverItem md5_signature.size (parse_by_table md5_signature) record {
+      bytes = value.now;
+      old_cursor = cursor.old;
+      new_cursor = cursor.new;
+      old_item = signature.old;
+      new_item = signature.new;
+      returned = result;
+    } }
 {
     next_record(value, cursor, signature)
 }
@@ -115,8 +140,16 @@ pub extern "C" fn sockdiag_next_address(
     cursor: &mut Cursor,
     address: &mut StoredAddress,
 ) -> u32
-    ensures { NextItem stored_address.size (parse_by_table stored_address) value.now cursor.old
-        cursor.new address.old address.new result }
+    // `StepsOverItem size parse`: if `size` bytes are left, the item that `parse` makes of them is
+    // stored. `stored_address`: the table of the fields of the struct.
+    ensures { StepsOverItem stored_address.size (parse_by_table stored_address) record {
+      bytes = value.now;
+      old_cursor = cursor.old;
+      new_cursor = cursor.new;
+      old_item = address.old;
+      new_item = address.new;
+      returned = result;
+    } }
 {
     next_record(value, cursor, address)
 }
@@ -127,26 +160,44 @@ pub extern "C" fn sockdiag_next_address(
 /// nothing is written. The time for a whole list is proportional to its length.
 #[unsafe(no_mangle)]
 pub extern "C" fn sockdiag_next_pending(value: &[u8], cursor: &mut Cursor, inode: &mut u32) -> u32
-    ensures { NextItem 4 (little_number 4) value.now cursor.old cursor.new inode.old inode.new
-        result }
+    // `StepsOverItem size parse`: if `size` bytes are left, the item that `parse` makes of them is
+    // stored.
+    ensures { StepsOverItem 4 (little_number 4) record {
+      bytes = value.now;
+      old_cursor = cursor.old;
+      new_cursor = cursor.new;
+      old_item = inode.old;
+      new_item = inode.new;
+      returned = result;
+    } }
 {
     let left = next_bytes(value, cursor, 4);
     store(left.map(|bytes| LittleEndian::read_u32(bytes)), inode)
 }
 
-// Stores the record at the cursor, and advances the cursor past it. Returns 1, or 0 if fewer bytes
-// are left.
+// Stores the record at the cursor, and advances the cursor past it. Returns 1. Returns 0 if fewer
+// bytes are left; then nothing is written.
 fn next_record<T: AttributeRecord + Copy>(value: &[u8], cursor: &mut Cursor, found: &mut T) -> u32
-    ensures { NextItem T.layout.size (parse_by_table T.layout) value.now cursor.old cursor.new
-        found.old found.new result }
+    // `StepsOverItem size parse`: if `size` bytes are left, the item that `parse` makes of them is
+    // stored. `T.layout`: the table of the fields of the record.
+    ensures { StepsOverItem T.layout.size (parse_by_table T.layout) record {
+      bytes = value.now;
+      old_cursor = cursor.old;
+      new_cursor = cursor.new;
+      old_item = found.old;
+      new_item = found.new;
+      returned = result;
+    } }
 {
     let left = next_bytes(value, cursor, T::size());
     store(left.map(|bytes| T::from_fields(bytes)), found)
 }
 
-// Returns the bytes from the cursor on, and advances the cursor by `size` bytes. Returns `None` if
-// fewer bytes are left.
+// Returns all bytes from the cursor on, and advances the cursor by `size` bytes. Returns `None` if
+// fewer bytes are left; then the cursor is unchanged.
 fn next_bytes<'a>(value: &'a [u8], cursor: &mut Cursor, size: usize) -> Option<&'a [u8]>
+    // `left`: the bytes from the cursor on. The first part is about `None`, the second about
+    // `Some(bytes)`.
     ensures { let left = bytes_after_cursor value.entry.now cursor.old in
         MatchOption result ((length left < size) × (cursor.new ≡ cursor.old))
         (λ bytes. (bytes.now ≡ left) × (size ≤ length left)

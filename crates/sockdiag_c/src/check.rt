@@ -2,12 +2,8 @@
 
 ghost use Rattle.std.specs.Prelude.{◌≡◌, MatchResult};
 ghost use Rattle.netlink_core.specs.Errors.{error_code};
-ghost use Rattle.netlink_core.specs.Response.{response_codec};
-ghost use Rattle.sock_diag_replies.specs.InetResponseSpec.{inet_response_spec};
-ghost use Rattle.netlink_packet_sock_diag.specs.Message.{message_codec};
-ghost use Rattle.sock_diag_replies.specs.UnixResponseSpec.{unix_response_spec};
 ghost use Rattle.sockdiag_c.specs.Answers.{IsCheckResult};
-ghost use Rattle.sockdiag_c.specs.Headers.{inet_header_of, reply_of, unix_header_of};
+ghost use Rattle.sockdiag_c.specs.Headers.{inet_check, message_check, unix_check};
 
 use crate::headers::{INET, InetHeader, Reply, UNIX, UnixHeader};
 use netlink_core::DecodeError;
@@ -18,7 +14,8 @@ use netlink_packet_sock_diag::unix::UnixResponseView;
 /// Return value of a check that accepts the bytes.
 pub(crate) const OK: u32 = 0;
 
-/// Stores what was parsed. Returns 0, or the code of the error; then the target is unchanged.
+/// Stores the parsed value in the target, and returns 0. If it was rejected, returns the code of
+/// the error; then the target is unchanged.
 pub(crate) fn store_parsed<T: Copy>(parsed: Result<T, DecodeError>, target: &mut T) -> u32
     ensures { MatchResult parsed (λ found. (result ≡ 0) × (target.new ≡ found))
         (λ e. (result ≡ error_code e) × (target.new ≡ target.old)) }
@@ -43,11 +40,10 @@ pub(crate) fn store_parsed<T: Copy>(parsed: Result<T, DecodeError>, target: &mut
 /// attributes, without a check of their values.
 #[unsafe(no_mangle)]
 pub extern "C" fn sockdiag_check_unix_reply(payload: &[u8], header: &mut UnixHeader) -> u32
-    // In order: how the payload parses, its errors, the header that is stored, and the header
-    // before and after the call.
-    ensures { IsCheckResult ((response_codec unix_response_spec).parses payload.now tt)
-        ((response_codec unix_response_spec).rejects payload.now tt)
-        (λ v. unix_header_of v.header) header.old header.new result }
+    // `unix_check`: the header of the reply, or its first error. `IsCheckResult`: the header is
+    // stored, and the result is 0; or nothing is stored, and the result is the code of the error.
+    ensures { IsCheckResult (unix_check payload.now)
+        record { old = header.old; new = header.new; returned = result } }
 {
     let parsed = UnixResponseView::parse(payload);
     store_parsed(parsed.map(|view| UnixHeader::from(view.header())), header)
@@ -68,11 +64,10 @@ pub extern "C" fn sockdiag_check_unix_reply(payload: &[u8], header: &mut UnixHea
 /// - other attributes: `sockdiag_next_attribute`, which does not check their values.
 #[unsafe(no_mangle)]
 pub extern "C" fn sockdiag_check_inet_reply(payload: &[u8], header: &mut InetHeader) -> u32
-    // In order: how the payload parses, its errors, the header that is stored, and the header
-    // before and after the call.
-    ensures { IsCheckResult ((response_codec inet_response_spec).parses payload.now tt)
-        ((response_codec inet_response_spec).rejects payload.now tt)
-        (λ v. inet_header_of v.header) header.old header.new result }
+    // `inet_check`: the header of the reply, or its first error. `IsCheckResult`: the header is
+    // stored, and the result is 0; or nothing is stored, and the result is the code of the error.
+    ensures { IsCheckResult (inet_check payload.now)
+        record { old = header.old; new = header.new; returned = result } }
 {
     let parsed = InetResponseView::parse(payload);
     store_parsed(parsed.map(|view| InetHeader::from(view.header())), header)
@@ -90,11 +85,11 @@ pub extern "C" fn sockdiag_check_message(
     message_type: u16,
     reply: &mut Reply,
 ) -> u32
-    // In order: how the payload parses, its errors, the reply that is stored, and the reply before
-    // and after the call. The codec accepts only replies, of type 20 (SOCK_DIAG_BY_FAMILY).
-    ensures { IsCheckResult (message_codec.parses payload.now message_type)
-        (message_codec.rejects payload.now message_type)
-        (reply_of reply.old) reply.old reply.new result }
+    // `message_check`: the struct with the kind and the header of the reply, and the other header
+    // of `reply.old`; or the first error. `IsCheckResult`: the struct is stored, and the result is
+    // 0; or nothing is stored, and the result is the code of the error.
+    ensures { IsCheckResult (message_check payload.now message_type reply.old)
+        record { old = reply.old; new = reply.new; returned = result } }
 {
     match SockDiagView::parse(payload, message_type) {
         Ok(SockDiagView::UnixResponse(view)) => {

@@ -6,10 +6,11 @@ ghost use Rattle.std.specs.Result.{result_err, result_ok};
 ghost use Rattle.netlink_core.specs.Parse.{number_of_width};
 ghost use Rattle.netlink_core.specs.Walk.{buffered_attribute};
 ghost use Rattle.sockdiag_c.specs.Details.{optional_number, text_parts};
-ghost use Rattle.sockdiag_c.specs.Family.{DetailsAre, Describes, EndsWith, Family};
+ghost use Rattle.sockdiag_c.specs.Family.{AreDetailsOf, HasHeaderAndValuesOf, SplitsWithError};
+ghost use Rattle.sockdiag_c.specs.Family.{Family};
 ghost use Rattle.sockdiag_c.specs.Family.{HasRejections, HasValues, IsCodeOf, IsFirstError};
-ghost use Rattle.sockdiag_c.specs.Family.{IsHeaderError, LenientDetailsAre, Parts, first_error};
-ghost use Rattle.sockdiag_c.specs.Family.{first_present, value_error};
+ghost use Rattle.sockdiag_c.specs.Family.{IsHeaderError, LenientDetailsAre, ReplyParts};
+ghost use Rattle.sockdiag_c.specs.Family.{first_error, first_present, value_error};
 ghost use Rattle.sockdiag_c.specs.private.Rows.{AddsValues};
 
 use crate::check::store_parsed;
@@ -58,6 +59,9 @@ pub(crate) const BYTES: u32 = 3;
 impl Number {
     /// Sets the number, unless it is set already.
     pub(crate) fn set(&mut self, value: u32)
+        // `o` is the number before the call, or None: `optional_number o` is the struct that has
+        // it. The clause states nothing of other structs, which do not occur. `first_present`: the
+        // first number, or else the second.
         ensures { (o : Option ℕ) → self.old ≡ optional_number o
             → self.new ≡ optional_number (first_present o (Some value)) }
     {
@@ -69,6 +73,9 @@ impl Number {
     /// Parses the value of an attribute of this kind as a little-endian `u32`, and sets the number,
     /// unless it is set already.
     pub(crate) fn set_u32(&mut self, value: &[u8], kind: u16) -> Result<(), DecodeError>
+        // `o`: as in `set`. `number_of_width (Some kind) 4`: the parser of a little-endian `u32`;
+        // another length than 4 is the error WrongLength with this kind. `result_ok` of a result is
+        // its value or None, and `result_err` its error or None.
         ensures number { (o : Option ℕ) → self.old ≡ optional_number o → self.new
             ≡ optional_number (first_present o
             (result_ok (number_of_width (Some kind) 4 value.now))) }
@@ -80,6 +87,7 @@ impl Number {
 }
 
 impl Default for Text<'_> {
+    // The default text is none: its kind is 0.
     ghost is_default = { λ text. text_parts text ≡ None };
 
     fn default() -> Self {
@@ -93,6 +101,7 @@ impl Default for Text<'_> {
 impl<'a> Text<'a> {
     /// Sets the text, unless it is set already.
     pub(crate) fn set(&mut self, kind: u32, bytes: &'a [u8])
+        // The kind 0 denotes that there is no text.
         requires { kind ≢ 0 }
         ensures { text_parts self.new
             ≡ first_present (text_parts self.old) (Some (kind, bytes.entry.now)) }
@@ -104,6 +113,8 @@ impl<'a> Text<'a> {
 
     /// Sets bytes that are not checked, unless they are set already. There is no error.
     pub(crate) fn set_bytes(&mut self, bytes: &'a [u8]) -> Result<(), DecodeError>
+        // `text_parts`: the kind and the bytes, or None. The result is always `Ok`; it is a
+        // `Result` as that of the calls that check a value.
         ensures text { text_parts self.new
             ≡ first_present (text_parts self.old) (Some (BYTES, bytes.entry.now)) }
         ensures error { result ≡ Ok tt }
@@ -115,26 +126,31 @@ impl<'a> Text<'a> {
 
 /// The contents of replies about the sockets of one family, as a C struct.
 pub(crate) trait ReplyDetails<'a>: Copy {
-    // How a reply is read into the struct.
+    // How a reply is read into the struct: its header, and a table with a row for each field
+    // (specs/Family.antt).
     ghost family: { Family Self };
 
     /// Parses the header. Returns the struct with the header and without values, and the bytes
-    /// after the header.
+    /// after the header. Fails with the error of the header.
     fn parse_header(payload: &'a [u8]) -> Result<(Self, &'a [u8]), DecodeError>
-        // HasValues rows d attributes: `d` has the first value of each row in the attributes; for
-        // [], all zeros.
-        ensures header { IfOk result (λ found. family.parse_header payload.entry.now
-            ≡ Ok (family.header found.0)) }
-        ensures values { IfOk result (λ found. HasValues family.rows found.0 []) }
-        ensures rest { IfOk result (λ found. found.1.now
+        // `HasValues family.rows details []`: the struct has no values, since no attribute was
+        // parsed yet (`[]`); all fields of the rows are zeros.
+        ensures header { IfOk result (λ (details, rest). family.parse_header payload.entry.now
+            ≡ Ok (family.header details)) }
+        ensures values { IfOk result (λ (details, rest). HasValues family.rows details []) }
+        ensures rest { IfOk result (λ (details, rest). rest.now
             ≡ drop family.header_size payload.entry.now) }
         ensures error { IfErr result (λ e. family.parse_header payload.entry.now ≡ Err e) };
 
     /// Parses the attribute, and sets its fields unless an earlier attribute of its kind has set
-    /// them.
+    /// them. Fails with the error of the attribute.
     fn set_value(&mut self, nla: &NlaBuffer<'a>) -> Result<(), DecodeError>
+        // `buffered_attribute nla.now`: the attribute in `nla`. `AddsValues`: the values of this
+        // attribute are set, unless the struct had values. `value_error`: the error with which a
+        // row rejects the attribute, or None; the call fails with it.
         ensures header { family.header self.new ≡ family.header self.old }
-        ensures values { AddsValues family.rows (buffered_attribute nla.now) self.old self.new }
+        ensures values { AddsValues family.rows (buffered_attribute nla.now)
+            record { old = self.old; new = self.new } }
         ensures error { result_err result
             ≡ value_error family.rows (buffered_attribute nla.now) };
 }
@@ -142,24 +158,28 @@ pub(crate) trait ReplyDetails<'a>: Copy {
 /// Stores the contents of the reply in the details. Returns 0, or the code of the first error; then
 /// the details are unchanged.
 pub(crate) fn store_details<'a, T: ReplyDetails<'a>>(payload: &'a [u8], details: &mut T) -> u32
-    ensures details { result ≡ 0 → DetailsAre T.family payload.entry.now details.new }
+    // Result 0: the reply has no error, and the struct has its header and values, by the table
+    // `T.family`. Else the result is the code (`IsCodeOf`) of the first error; no code is 0.
+    ensures details { result ≡ 0 → AreDetailsOf T.family payload.entry.now details.new }
     ensures error { result ≢ 0 → IsCodeOf (IsFirstError T.family payload.entry.now) result }
     ensures unchanged { result ≢ 0 → details.new ≡ details.old }
 {
     store_parsed(strict_details::<T>(payload), details)
 }
 
-/// Parses the reply, and returns its contents or the first error.
+/// Parses the reply, and returns its contents, or fails with its first error.
 pub(crate) fn strict_details<'a, T: ReplyDetails<'a>>(payload: &'a [u8]) -> Result<T, DecodeError>
-    ensures details { IfOk result (DetailsAre T.family payload.entry.now) }
+    // `AreDetailsOf`: the reply has no error, and the returned struct has its header and values, by
+    // the table `T.family`.
+    ensures details { IfOk result (AreDetailsOf T.family payload.entry.now) }
     ensures error { IfErr result (IsFirstError T.family payload.entry.now) }
 {
-    let (mut found, rest) = T::parse_header(payload)?;
+    let (mut details, attributes) = T::parse_header(payload)?;
     let mut errors = Errors::default();
-    set_values(rest, &mut found, &mut errors);
+    set_values(attributes, &mut details, &mut errors);
     match errors.first {
         Some(error) => Err(error),
-        None => Ok(found),
+        None => Ok(details),
     }
 }
 
@@ -171,6 +191,9 @@ pub(crate) fn store_lenient_details<'a, T: ReplyDetails<'a>>(
     details: &mut T,
     rejections: &mut Rejections,
 ) -> u32
+    // Result 0: the details have the header and the first valid values, and the rejections the
+    // codes of the errors, by the table `T.family`. Else the result is the code (`IsCodeOf`) of the
+    // error of the header; no code is 0.
     ensures details { result ≡ 0
         → LenientDetailsAre T.family payload.entry.now (details.new, rejections.new) }
     ensures error { result ≢ 0 → IsCodeOf (IsHeaderError T.family payload.entry.now) result }
@@ -180,31 +203,38 @@ pub(crate) fn store_lenient_details<'a, T: ReplyDetails<'a>>(
     store_parsed(lenient_details::<T>(payload, rejections), details)
 }
 
-// Parses the reply, and returns its contents and stores the errors, or returns the error of the
-// header.
+// Parses the reply. Returns its contents, and stores the codes of its errors in the rejections.
+// Fails with the error of the header; then the rejections are unchanged.
 fn lenient_details<'a, T: ReplyDetails<'a>>(
     payload: &'a [u8],
     rejections: &mut Rejections,
 ) -> Result<T, DecodeError>
-    ensures details { IfOk result (λ found.
-        LenientDetailsAre T.family payload.entry.now (found, rejections.new)) }
+    // `LenientDetailsAre`: the returned struct has the header and the first valid values, and the
+    // rejections the codes of the errors, by the table `T.family`.
+    ensures details { IfOk result (λ details.
+        LenientDetailsAre T.family payload.entry.now (details, rejections.new)) }
     ensures error { IfErr result (IsHeaderError T.family payload.entry.now) }
     ensures unchanged { IfErr result (λ _. rejections.new ≡ rejections.old) }
 {
-    let (mut found, rest) = T::parse_header(payload)?;
+    let (mut details, attributes) = T::parse_header(payload)?;
     let mut errors = Errors::default();
-    set_values(rest, &mut found, &mut errors);
+    set_values(attributes, &mut details, &mut errors);
     *rejections = errors.rejections;
-    Ok(found)
+    Ok(details)
 }
 
 // Parses each attribute up to a framing error. Sets the fields of the valid ones, unless they are
-// set already, and stores the errors of the others.
+// set already, and stores the errors of the others. The details have to be without values before
+// the call, as `parse_header` returns them. Earlier contents of the errors are discarded.
 fn set_values<'a, T: ReplyDetails<'a>>(bytes: &'a [u8], details: &mut T, errors: &mut Errors)
-    ensures { HasValues T.family.rows details.old [] → (parts : Parts T.family.Header)
-        × EndsWith parts.attributes parts.framing_error bytes.entry.now
+    // `HasValues .. details.old []`: the details have no values before the call (`[]`: of no
+    // attribute). `parts`: the header that the details have, and the attributes and the framing
+    // error of the bytes. After the call the details have the values of these attributes, and the
+    // errors have their codes (`HasRejections`) and the first error.
+    ensures { HasValues T.family.rows details.old [] → (parts : ReplyParts T.family.Header)
+        × SplitsWithError parts.attributes parts.framing_error bytes.entry.now
         × (parts.header ≡ T.family.header details.old)
-        × Describes T.family details.new parts
+        × HasHeaderAndValuesOf T.family details.new parts
         × HasRejections T.family errors.new.rejections parts
         × (errors.new.first ≡ first_error T.family parts) }
 {

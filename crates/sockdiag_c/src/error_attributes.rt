@@ -6,6 +6,7 @@ ghost use Rattle.sock_diag_extras.specs.Acknowledgement.{HasCompleteRequest};
 ghost use Rattle.sock_diag_extras.specs.Acknowledgement.{ack_attribute_bytes_from};
 ghost use Rattle.sock_diag_extras.specs.Acknowledgement.{error_attribute_bytes};
 ghost use Rattle.sock_diag_extras.specs.Models.{ack_attributes};
+ghost use Rattle.sockdiag_c.specs.Answers.{SetsTargetIf};
 ghost use Rattle.sockdiag_c.specs.ErrorAttributes.{PointsAt};
 
 use crate::walks::{Cursor, END, ITEM};
@@ -18,10 +19,13 @@ use sock_diag_extras::AckView;
 /// `sockdiag_next_attribute`, with the same bytes and this cursor. The kernel sends them to a
 /// socket with the option `NETLINK_EXT_ACK`.
 ///
-/// Returns 1; if there are no attributes, since the flags lack `NLM_F_ACK_TLVS`, nothing is left
-/// after the cursor. Returns 0, and then the cursor is unchanged, if the message has another type;
-/// if an `NLMSG_DONE` has fewer than 4 bytes; or if an `NLMSG_ERROR` has fewer than 20 bytes, or
-/// does not contain the whole request although it should.
+/// Returns 1 if the cursor was set. If the flags lack `NLM_F_ACK_TLVS`, there are no attributes,
+/// and no bytes are left after the cursor. Returns 0 if the cursor is unchanged, for one of these
+/// reasons:
+/// - The message has another type.
+/// - An `NLMSG_DONE` has fewer than 4 bytes.
+/// - An `NLMSG_ERROR` has fewer than 20 bytes, or does not contain the whole request although it
+///   should.
 #[unsafe(no_mangle)]
 pub extern "C" fn sockdiag_find_error_attributes(
     payload: &[u8],
@@ -29,11 +33,17 @@ pub extern "C" fn sockdiag_find_error_attributes(
     flags: u16,
     cursor: &mut Cursor,
 ) -> u32
-    ensures error { message_type ≡ NLMSG_ERROR → PointsAt (HasCompleteRequest flags payload.now)
-        (error_attribute_bytes flags payload.now) payload.now cursor.old cursor.new result }
+    // One clause for each message type. `SetsTargetIf condition target`: if the condition holds,
+    // the cursor is set to the target, and the result is 1. The target is the start of the
+    // attributes in the payload (`PointsAt`). In an NLMSG_ERROR they follow the request, in an
+    // NLMSG_DONE the error number, which has 4 bytes.
+    ensures error { message_type ≡ NLMSG_ERROR → SetsTargetIf (HasCompleteRequest flags payload.now)
+        (PointsAt (error_attribute_bytes flags payload.now) payload.now)
+        record { old = cursor.old; new = cursor.new; returned = result } }
     ensures done { message_type ≡ NLMSG_DONE
-        → PointsAt (IsSome (leading_error_number payload.now))
-        (ack_attribute_bytes_from flags 4 payload.now) payload.now cursor.old cursor.new result }
+        → SetsTargetIf (IsSome (leading_error_number payload.now))
+        (PointsAt (ack_attribute_bytes_from flags 4 payload.now) payload.now)
+        record { old = cursor.old; new = cursor.new; returned = result } }
     ensures other { message_type ≢ NLMSG_ERROR → message_type ≢ NLMSG_DONE
         → (result ≡ 0) × (cursor.new ≡ cursor.old) }
 {
@@ -44,9 +54,10 @@ pub extern "C" fn sockdiag_find_error_attributes(
     }
 }
 
-// Sets the cursor to the attributes, which are the end of the payload. Returns 1, or 0 if there is
-// no acknowledgement.
+// Sets the cursor to the attributes of the acknowledgement, with which the payload ends. Returns 1;
+// or 0 if there is no acknowledgement, and then the cursor is unchanged.
 fn point_at(found: Option<AckView<'_>>, payload: &[u8], cursor: &mut Cursor) -> u32
+    // The first part is about `None`, the second about `Some(ack)`.
     ensures { MatchOption found.entry ((result ≡ 0) × (cursor.new ≡ cursor.old))
         (λ ack. (result ≡ 1)
         × (cursor.new.offset ≡ length payload.now - length (ack_attributes ack))) }

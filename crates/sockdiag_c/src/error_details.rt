@@ -11,7 +11,7 @@ ghost use Rattle.sock_diag_attributes.specs.InetAttributes.{inet_attribute_set};
 ghost use Rattle.sock_diag_attributes.specs.UnixAttributes.{unix_attribute_set};
 ghost use Rattle.sockdiag_c.specs.ErrorDetails.{IsExplained, IsItemExplained, error_details_of};
 ghost use Rattle.sockdiag_c.specs.ErrorDetails.{record_code, record_family, record_kind};
-ghost use Rattle.sockdiag_c.specs.Family.{DetailsAre, IsFirstError};
+ghost use Rattle.sockdiag_c.specs.Family.{AreDetailsOf, IsFirstError};
 ghost use Rattle.sockdiag_c.specs.NetlinkDetails.{netlink_family};
 ghost use Rattle.sockdiag_c.specs.PacketDetails.{packet_family};
 ghost use Rattle.sockdiag_c.specs.VsockDetails.{vsock_family};
@@ -41,8 +41,9 @@ pub struct ErrorDetails {
     /// (`SOCKDIAG_BUFFER_TOO_SMALL`). `SOCKDIAG_RECORD_MEM_INFO` is also the memory of a netlink,
     /// packet or XDP socket.
     pub record_name: u32,
-    /// Address family that is not supported or not known, or that a record of
-    /// `SOCKDIAG_RECORD_FAMILY_REQUEST`, `.._RESPONSE_HEADER` or `.._ATTRIBUTE` belongs to.
+    /// Address family that is not supported (`SOCKDIAG_UNSUPPORTED_FAMILY`) or not known
+    /// (`SOCKDIAG_UNKNOWN_FAMILY`). If `record_name` is one of `SOCKDIAG_RECORD_FAMILY_..`, the
+    /// family of the record.
     pub family: u32,
     /// Message type (`SOCKDIAG_UNKNOWN_MESSAGE_TYPE`).
     pub message_type: u32,
@@ -66,6 +67,7 @@ const _: () = prove!(std::mem::size_of::<ErrorDetails>() == 56);
 // Returns the number of the record, `SOCKDIAG_RECORD_..`, the family that it belongs to, and the
 // kind of the attribute. `tools/bindings` writes the numbers into the header.
 fn record_fields(which: RecordName) -> (u32, u8, Option<u16>)
+    // By the name of the record: its number, its family or 0, and the kind of attribute or None.
     ensures { result ≡ (record_code which, record_family which, record_kind which) }
 {
     match which {
@@ -125,14 +127,17 @@ fn details_of(error: DecodeError) -> ErrorDetails
             details.length = length as usize;
             details.got = got;
         }
+        // The other errors have no fields.
         _ => {}
     }
     details
 }
 
-// Stores the fields of the error, if there is one. Returns its code, or 0.
+// Stores the code and the fields of the error with which bytes were rejected, and returns its code.
+// Returns 0 if they were parsed.
 #[inline(always)]
 fn explain<T: Drop>(parsed: Result<T, DecodeError>, error: &mut ErrorDetails) -> u32
+    // Nothing is stored if the bytes were parsed; else the error `e`, its code and its fields.
     ensures { MatchResult parsed (λ _. (result ≡ 0) × (error.new ≡ error.old))
         (λ e. (result ≡ error_code e) × (error.new ≡ error_details_of e)) }
 {
@@ -145,119 +150,158 @@ fn explain<T: Drop>(parsed: Result<T, DecodeError>, error: &mut ErrorDetails) ->
     }
 }
 
-/// Stores the error of a reply about a UNIX socket that `sockdiag_unix_get_details` or
-/// `sockdiag_check_unix_reply` rejects, with its fields. The bytes are the payload of the netlink
-/// message. Returns its code; or 0 if the reply is accepted, and then the error is unchanged.
+/// Stores the first error of a reply about a UNIX socket, with its fields: the error with which
+/// `sockdiag_unix_get_details` and `sockdiag_check_unix_reply` reject the reply. The bytes are the
+/// payload of the netlink message. Returns the code of the error; or 0 if the reply is accepted,
+/// and then the error is unchanged.
 #[unsafe(no_mangle)]
 pub extern "C" fn sockdiag_unix_explain(payload: &[u8], error: &mut ErrorDetails) -> u32
+    // `IsExplained parses rejects`: the payload has a value, and nothing is stored; or it has a
+    // first error, which is stored. The codec of these replies has no parameter (`tt`).
     ensures { IsExplained ((response_codec unix_response_spec).parses payload.now tt)
-        ((response_codec unix_response_spec).rejects payload.now tt) error.old error.new result }
+        ((response_codec unix_response_spec).rejects payload.now tt)
+        record { old = error.old; new = error.new; returned = result } }
 {
     explain(UnixResponseView::parse(payload), error)
 }
 
-/// Stores the error of a reply about an IPv4 or IPv6 socket that `sockdiag_inet_get_details` or
-/// `sockdiag_check_inet_reply` rejects, with its fields. The bytes are the payload of the netlink
-/// message. Returns its code; or 0 if the reply is accepted, and then the error is unchanged.
+/// Stores the first error of a reply about an IPv4 or IPv6 socket, with its fields: the error with
+/// which `sockdiag_inet_get_details` and `sockdiag_check_inet_reply` reject the reply. The bytes
+/// are the payload of the netlink message. Returns the code of the error; or 0 if the reply is
+/// accepted, and then the error is unchanged.
 #[unsafe(no_mangle)]
 pub extern "C" fn sockdiag_inet_explain(payload: &[u8], error: &mut ErrorDetails) -> u32
+    // `IsExplained parses rejects`: the payload has a value, and nothing is stored; or it has a
+    // first error, which is stored. The codec of these replies has no parameter (`tt`).
     ensures { IsExplained ((response_codec inet_response_spec).parses payload.now tt)
-        ((response_codec inet_response_spec).rejects payload.now tt) error.old error.new result }
+        ((response_codec inet_response_spec).rejects payload.now tt)
+        record { old = error.old; new = error.new; returned = result } }
 {
     explain(InetResponseView::parse(payload), error)
 }
 
-/// Stores the error of a reply about a netlink socket that `sockdiag_netlink_get_details` rejects,
-/// with its fields. Returns its code; or 0 if the reply is accepted, and then the error is
-/// unchanged.
+/// Stores the first error of a reply about a netlink socket, with its fields: the error with which
+/// `sockdiag_netlink_get_details` rejects the reply. Returns the code of the error; or 0 if the
+/// reply is accepted, and then the error is unchanged.
 #[unsafe(no_mangle)]
 pub extern "C" fn sockdiag_netlink_explain(payload: &[u8], error: &mut ErrorDetails) -> u32
-    ensures { IsExplained (DetailsAre netlink_family payload.now)
-        (IsFirstError netlink_family payload.now) error.old error.new result }
+    // `IsExplained`: the reply has details, and nothing is stored; or it has a first error, which
+    // is stored, and its code returned.
+    ensures { IsExplained (AreDetailsOf netlink_family payload.now)
+        (IsFirstError netlink_family payload.now)
+        record { old = error.old; new = error.new; returned = result } }
 {
     explain(strict_details::<NetlinkDetails>(payload), error)
 }
 
-/// Stores the error of a reply about a packet socket that `sockdiag_packet_get_details` rejects,
-/// with its fields. Returns its code; or 0 if the reply is accepted, and then the error is
-/// unchanged.
+/// Stores the first error of a reply about a packet socket, with its fields: the error with which
+/// `sockdiag_packet_get_details` rejects the reply. Returns the code of the error; or 0 if the
+/// reply is accepted, and then the error is unchanged.
 #[unsafe(no_mangle)]
 pub extern "C" fn sockdiag_packet_explain(payload: &[u8], error: &mut ErrorDetails) -> u32
-    ensures { IsExplained (DetailsAre packet_family payload.now)
-        (IsFirstError packet_family payload.now) error.old error.new result }
+    // `IsExplained`: the reply has details, and nothing is stored; or it has a first error, which
+    // is stored, and its code returned.
+    ensures { IsExplained (AreDetailsOf packet_family payload.now)
+        (IsFirstError packet_family payload.now)
+        record { old = error.old; new = error.new; returned = result } }
 {
     explain(strict_details::<PacketDetails>(payload), error)
 }
 
-/// Stores the error of a reply about a vsock socket that `sockdiag_vsock_get_details` rejects, with
-/// its fields. Returns its code; or 0 if the reply is accepted, and then the error is unchanged.
+/// Stores the first error of a reply about a vsock socket, with its fields: the error with which
+/// `sockdiag_vsock_get_details` rejects the reply. Returns the code of the error; or 0 if the reply
+/// is accepted, and then the error is unchanged.
 #[unsafe(no_mangle)]
 pub extern "C" fn sockdiag_vsock_explain(payload: &[u8], error: &mut ErrorDetails) -> u32
-    ensures { IsExplained (DetailsAre vsock_family payload.now)
-        (IsFirstError vsock_family payload.now) error.old error.new result }
+    // `IsExplained`: the reply has details, and nothing is stored; or it has a first error, which
+    // is stored, and its code returned.
+    ensures { IsExplained (AreDetailsOf vsock_family payload.now)
+        (IsFirstError vsock_family payload.now)
+        record { old = error.old; new = error.new; returned = result } }
 {
     explain(strict_details::<VsockResponseHeader>(payload), error)
 }
 
-/// Stores the error of a reply about an XDP socket that `sockdiag_xdp_get_details` rejects, with
-/// its fields. Returns its code; or 0 if the reply is accepted, and then the error is unchanged.
+/// Stores the first error of a reply about an XDP socket, with its fields: the error with which
+/// `sockdiag_xdp_get_details` rejects the reply. Returns the code of the error; or 0 if the reply
+/// is accepted, and then the error is unchanged.
 #[unsafe(no_mangle)]
 pub extern "C" fn sockdiag_xdp_explain(payload: &[u8], error: &mut ErrorDetails) -> u32
-    ensures { IsExplained (DetailsAre xdp_family payload.now)
-        (IsFirstError xdp_family payload.now) error.old error.new result }
+    // `IsExplained`: the reply has details, and nothing is stored; or it has a first error, which
+    // is stored, and its code returned.
+    ensures { IsExplained (AreDetailsOf xdp_family payload.now)
+        (IsFirstError xdp_family payload.now)
+        record { old = error.old; new = error.new; returned = result } }
 {
     explain(strict_details::<XdpDetails>(payload), error)
 }
 
-/// Stores the error with which `sockdiag_next_message` rejects the payload of a message of this
-/// type, with its fields. Returns its code; or 0 if the payload is accepted, and then the error is
-/// unchanged. Only pass types other than the four `NLMSG_..` types, whose payload is not checked.
+/// Stores the first error of the payload of a message of this type, with its fields: the error with
+/// which `sockdiag_next_message` rejects the payload. Returns the code of the error; or 0 if the
+/// payload is accepted, and then the error is unchanged. Do not pass one of the four `NLMSG_..`
+/// types: `sockdiag_next_message` does not check their payload.
 #[unsafe(no_mangle)]
 pub extern "C" fn sockdiag_message_explain(
     payload: &[u8],
     message_type: u16,
     error: &mut ErrorDetails,
 ) -> u32
+    // `IsExplained parses rejects`: the payload has a value, and nothing is stored; or it has a
+    // first error, which is stored. The parameter of the codec is the message type.
     ensures { IsExplained (message_codec.parses payload.now message_type)
-        (message_codec.rejects payload.now message_type) error.old error.new result }
+        (message_codec.rejects payload.now message_type)
+        record { old = error.old; new = error.new; returned = result } }
 {
     explain(SockDiagView::parse(payload, message_type), error)
 }
 
 /// Stores the framing error with which `sockdiag_next_message` and `sockdiag_next_any_message`
-/// reject these bytes, which start at the cursor, with its fields. Returns its code; or 0 if the
-/// bytes begin with a message, and then the error is unchanged.
+/// reject a datagram at the cursor, with its fields. The bytes are those of the datagram from the
+/// cursor on. Returns the code of the error; or 0 if the bytes begin with a message, and then the
+/// error is unchanged.
 #[unsafe(no_mangle)]
 pub extern "C" fn sockdiag_framing_explain(bytes: &[u8], error: &mut ErrorDetails) -> u32
-    ensures { IsExplained (HasHeader bytes.now) (IsMessageError bytes.now) error.old error.new
-        result }
+    // The bytes begin with a message, and nothing is stored; or they have a framing error
+    // (`IsMessageError`), which is stored.
+    ensures { IsExplained (HasHeader bytes.now) (IsMessageError bytes.now)
+        record { old = error.old; new = error.new; returned = result } }
 {
     explain(NetlinkHeader::from_prefix(bytes), error)
 }
 
-/// Stores the error of the attribute of a UNIX socket at the start of the bytes, which are a part
-/// of a reply, with its fields: its framing error, or the error of its value. Returns its code; or
-/// 0 if the attribute is accepted or there are no bytes, and then the error is unchanged.
+/// Stores the error of an attribute of a UNIX socket, with its fields: its framing error, or the
+/// error of its value. The bytes are a part of a reply, and begin with the attribute. Returns the
+/// code of the error; or 0 if the attribute is accepted or there are no bytes, and then the error
+/// is unchanged.
 #[unsafe(no_mangle)]
 pub extern "C" fn sockdiag_unix_explain_attribute(bytes: &[u8], error: &mut ErrorDetails) -> u32
-    ensures { IsItemExplained unix_attribute_set bytes.now error.old error.new result }
+    // `IsItemExplained`: the bytes are empty or begin with an attribute that is valid by
+    // `unix_attribute_set`, and nothing is stored; or the first error is stored.
+    ensures { IsItemExplained unix_attribute_set bytes.now
+        record { old = error.old; new = error.new; returned = result } }
 {
     explain_item::<UnixNlaView<'_>>(bytes, error)
 }
 
-/// Stores the error of the attribute of an IPv4 or IPv6 socket at the start of the bytes, which are
-/// a part of a reply, with its fields: its framing error, or the error of its value. Returns its
-/// code; or 0 if the attribute is accepted or there are no bytes, and then the error is unchanged.
+/// Stores the error of an attribute of an IPv4 or IPv6 socket, with its fields: its framing error,
+/// or the error of its value. The bytes are a part of a reply, and begin with the attribute.
+/// Returns the code of the error; or 0 if the attribute is accepted or there are no bytes, and then
+/// the error is unchanged.
 #[unsafe(no_mangle)]
 pub extern "C" fn sockdiag_inet_explain_attribute(bytes: &[u8], error: &mut ErrorDetails) -> u32
-    ensures { IsItemExplained inet_attribute_set bytes.now error.old error.new result }
+    // `IsItemExplained`: the bytes are empty or begin with an attribute that is valid by
+    // `inet_attribute_set`, and nothing is stored; or the first error is stored.
+    ensures { IsItemExplained inet_attribute_set bytes.now
+        record { old = error.old; new = error.new; returned = result } }
 {
     explain_item::<InetNlaView<'_>>(bytes, error)
 }
 
-// Stores the fields of the error of the first attribute. Returns its code, or 0.
+// Stores the code and the fields of the error of the first attribute, and returns its code. Returns
+// 0 if the attribute is valid or there are no bytes. `V`: the view of the attributes of a family.
 fn explain_item<'a, V: FamilyView<'a> + Drop>(bytes: &'a [u8], error: &mut ErrorDetails) -> u32
-    ensures { IsItemExplained V.attribute_set bytes.entry.now error.old error.new result }
+    ensures { IsItemExplained V.attribute_set bytes.entry.now
+        record { old = error.old; new = error.new; returned = result } }
 {
     match LenientNlas::<V>::new(bytes).next() {
         Some(Err(rejection)) => explain::<()>(Err(rejection.error()), error),

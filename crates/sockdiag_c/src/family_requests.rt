@@ -55,14 +55,15 @@ const _: () = prove!(std::mem::size_of::<VsockRequest>() == 24);
 /// if the family is none of `AF_NETLINK`, `AF_PACKET` and `AF_XDP`; then nothing is written.
 #[unsafe(no_mangle)]
 pub extern "C" fn sockdiag_write_show_request(request: &ShowRequest, buffer: &mut [u8]) -> usize
-    // show_message family r: a netlink header (length 36, type SOCK_DIAG_BY_FAMILY, the rest from
-    // r.header), then the family, the protocol, two zeros, inode, show and cookie, little-endian.
-    // WritesMessage len all old new answer: `all` is at the start of `new`, the rest is as in
-    // `old`, and `answer` is `len`; if `old` has fewer than `len` bytes, `new` is `old` and
-    // `answer` is 0.
+    // `written` is about the three families, and `family` about any other one. show_message family
+    // r: a netlink header (length 36, type SOCK_DIAG_BY_FAMILY, the rest from r.header), then the
+    // family, the protocol, two zeros, inode, show and cookie, little-endian. WritesMessage len
+    // message call: if the buffer has at least `len` bytes, the message is at its start, the bytes
+    // after it are unchanged, and `len` is returned; else nothing is written, and 0 is returned.
     ensures written { (request.now.family ≡ AF_NETLINK) ⊎ ((request.now.family ≡ AF_PACKET)
         ⊎ (request.now.family ≡ AF_XDP)) → WritesMessage 36
-        (show_message request.now.family request.now) buffer.old buffer.new result }
+        (show_message request.now.family request.now)
+        record { old = buffer.old; new = buffer.new; returned = result } }
     ensures family { request.now.family ≢ AF_NETLINK → request.now.family ≢ AF_PACKET
         → request.now.family ≢ AF_XDP → (result ≡ 0) × (buffer.new ≡ buffer.old) }
 {
@@ -79,7 +80,10 @@ pub extern "C" fn sockdiag_write_show_request(request: &ShowRequest, buffer: &mu
 /// written.
 #[unsafe(no_mangle)]
 pub extern "C" fn sockdiag_write_vsock_request(request: &VsockRequest, buffer: &mut [u8]) -> usize
-    ensures { WritesMessage 40 (vsock_message request.now) buffer.old buffer.new result }
+    // `WritesMessage len message`: the message, of `len` bytes, is written and `len` returned; or 0
+    // is returned, if the buffer is shorter.
+    ensures { WritesMessage 40 (vsock_message request.now)
+        record { old = buffer.old; new = buffer.new; returned = result } }
 {
     let record = vsock::VsockRequest {
         states: request.states,
@@ -88,9 +92,13 @@ pub extern "C" fn sockdiag_write_vsock_request(request: &VsockRequest, buffer: &
     write_message(SOCK_DIAG_BY_FAMILY, &request.header, &record, &[], buffer)
 }
 
-// Writes a request for the sockets of the family.
+// Writes a request for the sockets of this family. Returns 36, or 0 if the buffer is shorter; then
+// nothing is written.
 fn write_show<const FAMILY: u8>(request: &ShowRequest, buffer: &mut [u8]) -> usize
-    ensures { WritesMessage 36 (show_message FAMILY request.now) buffer.old buffer.new result }
+    // `WritesMessage len message`: the message, of `len` bytes, is written and `len` returned; or 0
+    // is returned, if the buffer is shorter.
+    ensures { WritesMessage 36 (show_message FAMILY request.now)
+        record { old = buffer.old; new = buffer.new; returned = result } }
 {
     let record = sock_diag_families::ShowRequest::<FAMILY> {
         protocol: request.protocol,

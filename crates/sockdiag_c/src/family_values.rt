@@ -1,4 +1,5 @@
-//! Attributes of netlink, packet and XDP sockets, as C structs.
+//! Memory counters and records of netlink, packet and XDP sockets, as C structs; and helpers that
+//! split a header off a payload, and store a value for C.
 
 ghost use Rattle.std.specs.Prelude.{◌≡◌, drop, IfErr, IfOk, Ok, Err, Option, Some};
 ghost use Rattle.std.specs.Result.{result_err, result_ok};
@@ -43,6 +44,7 @@ pub struct Memory {
 const _: () = prove!(std::mem::size_of::<Memory>() == 72);
 
 impl From<Option<u32>> for Number {
+    // `number`: the struct that `from` returns for `value`.
     ghost from_gives = { λ value number. number ≡ optional_number value };
 
     fn from(value: Option<u32>) -> Number {
@@ -51,6 +53,7 @@ impl From<Option<u32>> for Number {
 }
 
 impl From<MemInfo> for Memory {
+    // `memory`: the struct that `from` returns for `value`; the counters are present (`Some`).
     ghost from_gives = { λ value memory. memory ≡ memory_struct (Some value) };
 
     fn from(memory: MemInfo) -> Memory {
@@ -71,6 +74,8 @@ impl From<MemInfo> for Memory {
 impl Memory {
     /// Sets the memory, if it was parsed, unless it is set already. Returns the error, if any.
     pub(crate) fn set(&mut self, parsed: Result<MemInfo, DecodeError>) -> Result<(), DecodeError>
+        // `o`: the memory counters before the call, or None. `result_ok parsed`: the parsed ones,
+        // or None. `first_present`: the first of two, or else the second.
         ensures memory { (o : Option MemInfoModel) → self.old ≡ memory_struct o
             → self.new ≡ memory_struct (first_present o (result_ok parsed)) }
         ensures error { result_err result ≡ result_err parsed }
@@ -90,6 +95,8 @@ pub(crate) fn set_record<T: Copy>(
     is_set: &mut u32,
     record: &mut T,
 ) -> Result<(), DecodeError>
+    // `o`: the record before the call, or None; then `record` was `zero`, the value of a record
+    // that is not set. `result_ok parsed`: the parsed record, or None.
     ensures record { (zero : T) (o : Option T)
         → (is_set.old, record.old) ≡ optional_record zero o
         → (is_set.new, record.new) ≡ optional_record zero (first_present o (result_ok parsed)) }
@@ -106,7 +113,9 @@ pub(crate) fn set_record<T: Copy>(
 /// Stores the record, if there is one. Returns 1, or 0 if there is none; then the target is
 /// unchanged.
 pub(crate) fn store<T: Copy>(found: Option<T>, target: &mut T) -> u32
-    ensures { IsGetterResult found target.old target.new result }
+    // `IsGetterResult`: the item of `found` is stored, and the result is 1; or 0 if it is None.
+    ensures { IsGetterResult found
+        record { old = target.old; new = target.new; returned = result } }
 {
     match found {
         Some(item) => {
@@ -121,9 +130,12 @@ pub(crate) fn store<T: Copy>(found: Option<T>, target: &mut T) -> u32
 #[tactic(auto, using(netlink_core::proofs::LayoutLaws::parsed_by_fields))]
 #[inline(always)]
 pub(crate) fn split_header<H: Record<Param = ()>>(payload: &[u8]) -> Result<(H, &[u8]), DecodeError>
-    ensures header { IfOk result (λ parts. parse_record H.layout tt payload.entry.now
-        ≡ Ok parts.0) }
-    ensures rest { IfOk result (λ parts. parts.1.now ≡ drop H.layout.least payload.entry.now) }
+    // `H.layout`: the layout of the header; `least` is its length in bytes. The parser has no
+    // parameter (`tt`).
+    ensures header { IfOk result (λ (header, rest). parse_record H.layout tt payload.entry.now
+        ≡ Ok header) }
+    ensures rest { IfOk result (λ (header, rest). rest.now
+        ≡ drop H.layout.least payload.entry.now) }
     ensures error { IfErr result (λ error. parse_record H.layout tt payload.entry.now
         ≡ Err error) }
 {

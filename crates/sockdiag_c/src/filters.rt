@@ -1,14 +1,16 @@
 //! Requests followed by attributes of the caller, such as the bytecode of a filter.
 
-ghost use Rattle.std.specs.Prelude.{◌≡◌, ◌+◌, ◌≤◌, ◌⊎◌, ◌++◌, [], length};
+ghost use Rattle.std.specs.Prelude.{◌≡◌, ◌+◌, ◌≤◌, ◌++◌, length};
 ghost use Rattle.netlink_core.specs.Bytes.{HoldsAtStart};
-ghost use Rattle.netlink_core.specs.Attribute.{SplitsIntoAttributes, padding_length};
+ghost use Rattle.netlink_core.specs.Attribute.{padding_length};
 ghost use Rattle.netlink_core.specs.Layout.{record_bytes};
 ghost use Rattle.netlink_core.specs.Header.{header_bytes};
 ghost use Rattle.sock_diag_records.specs.InetRequest.{inet_request};
-ghost use Rattle.sockdiag_c.specs.Requests.{HasFramingError, IsWritableRequest};
-ghost use Rattle.sockdiag_c.specs.Requests.{request_with_attributes, request_header_of};
-ghost use Rattle.sockdiag_c.specs.Requests.{inet_request_from_c, protocol_attribute, with_padding};
+ghost use Rattle.sock_diag_records.specs.SignificantBits.{IsInetFamily};
+ghost use Rattle.sockdiag_c.specs.Requests.{IsWritableInetRequest, filtered_request};
+ghost use Rattle.sockdiag_c.specs.Requests.{inet_message_length, inet_request_from_c};
+ghost use Rattle.sockdiag_c.specs.Requests.{protocol_attribute, request_header_of};
+ghost use Rattle.sockdiag_c.specs.Requests.{request_with_attributes, with_padding};
 ghost use Rattle.sockdiag_c.specs.Rewriting.{ParsesAndWrites};
 
 use crate::requests::{InetRequest, write_inet};
@@ -20,21 +22,22 @@ use netlink_packet_sock_diag::constants::{AF_INET, AF_INET6, SOCK_DIAG_BY_FAMILY
 use netlink_packet_sock_diag::inet::INET_REQUEST_LEN;
 use sock_diag_families::RawNla;
 
-/// Writes a request for IPv4 or IPv6 sockets at the start of the buffer; bytes after it are
-/// unchanged. It is a netlink message of 72 bytes, or of 80 if the protocol is above 255, followed
-/// by the attributes and zeros up to a multiple of 4, all of which its length field counts. Such an
-/// attribute is the bytecode of a filter, `INET_DIAG_REQ_BYTECODE` of `linux/inet_diag.h`, which
-/// the kernel runs on each socket. The bytes have to be a sequence of complete attributes. Their
-/// values are not checked. A kernel answers with `-EINVAL` if a jump of the filter leads into the
-/// middle of an operation, or more than 4 bytes past the end, and with `-EPERM` if the filter has
-/// an `INET_DIAG_BC_MARK_COND` and the caller lacks `CAP_NET_ADMIN`.
+/// Writes a request for IPv4 or IPv6 sockets, followed by attributes, at the start of the buffer;
+/// bytes after them are unchanged. The request has 72 bytes, or 80 if the protocol is above 255.
+/// The attributes are followed by zeros up to a multiple of 4. The length field of the message
+/// counts all of these bytes. Such an attribute is the bytecode of a filter,
+/// `INET_DIAG_REQ_BYTECODE` of `linux/inet_diag.h`, which the kernel runs on each socket. The bytes
+/// have to be a sequence of complete attributes. Their values are not checked. A kernel answers
+/// with `-EINVAL` if a jump of the filter leads into the middle of an operation, or more than 4
+/// bytes past the end, and with `-EPERM` if the filter has an `INET_DIAG_BC_MARK_COND` and the
+/// caller lacks `CAP_NET_ADMIN`.
 ///
 /// Returns the number of bytes that were written, which is also stored in `outcome.needed`. Returns
 /// 0 if nothing was written, for the first of these reasons that applies:
 /// - The framing of the attributes is invalid. `outcome.error` is the code of the first error, 7 to
 ///   9; in all other cases it is 0. `outcome.needed` is 0.
-/// - The family is neither `AF_INET` nor `AF_INET6`, or the whole has more than 4,294,967,295
-///   bytes, too many for a length field. `outcome.needed` is 0.
+/// - The family is neither `AF_INET` nor `AF_INET6`, or the message has more than 4,294,967,295
+///   bytes, so that its length does not fit its length field. `outcome.needed` is 0.
 /// - The buffer is shorter than needed. `outcome.needed` is the number of bytes that it has to
 ///   have.
 ///
@@ -46,13 +49,14 @@ pub extern "C" fn sockdiag_write_inet_request_with_attributes(
     buffer: &mut [u8],
     outcome: &mut Outcome,
 ) -> usize
-    // In order: the attributes that the bytes consist of (`given`), the framing error of the bytes,
-    // whether the message is writable, its bytes, and the buffer and the outcome.
-    ensures { ParsesAndWrites (λ given. SplitsIntoAttributes attributes.now given [])
-        (HasFramingError attributes.now)
-        (λ _. IsWritableRequest request.now attributes.now)
-        (λ _. request_with_attributes request.now attributes.now)
-        buffer.old buffer.new outcome.new result }
+    // `filtered_request`: the attributes are checked, and the request is serialized with them.
+    // `ParsesAndWrites`: its bytes are written; or nothing is, for one of the reasons above.
+    ensures { ParsesAndWrites (filtered_request request.now attributes.now) record {
+      old = buffer.old;
+      new = buffer.new;
+      outcome = outcome.new;
+      returned = result;
+    } }
 {
     let filtered = FilteredRequest {
         request,
@@ -72,62 +76,73 @@ struct FilteredRequest<'a> {
 }
 
 impl Emitable for FilteredRequest<'_> {
+    // The netlink message with the attributes.
     ghost bytes = { λ r. request_with_attributes r.request.now r.attributes.now };
 
-    ghost writable = { λ r. IsWritableRequest r.request.now r.attributes.now };
+    // The family is IPv4 or IPv6, and the length fits `nlmsg_len`.
+    ghost writable = { λ r. IsWritableInetRequest r.request.now r.attributes.now };
 
     fn is_writable(&self) -> bool {
         let len = self.attributes.len();
-        let room = u32::MAX as usize - front_len(self.request.protocol);
-        matches!(self.request.family, AF_INET | AF_INET6) && len <= room && padded(len) <= room
+        let limit = u32::MAX as usize - request_len(self.request.protocol);
+        // `padded` is called only if it cannot overflow.
+        matches!(self.request.family, AF_INET | AF_INET6) && len <= limit && padded(len) <= limit
     }
 
     fn buffer_len(&self) -> usize {
-        front_len(self.request.protocol) + padded(self.attributes.len())
+        request_len(self.request.protocol) + padded(self.attributes.len())
     }
 
     fn emit(&self, buffer: &mut [u8]) {
         let len = self.buffer_len();
-        let (front, behind) = buffer.split_at_mut(front_len(self.request.protocol));
-        write_front(len as u32, self.request, front);
-        write_padded(self.attributes, behind);
+        let (request_part, attributes_part) = buffer.split_at_mut(request_len(
+            self.request.protocol,
+        ));
+        write_request(len as u32, self.request, request_part);
+        write_padded(self.attributes, attributes_part);
     }
 }
 
 // Returns the length of a request for IPv4 or IPv6 sockets in bytes, without the caller's
 // attributes.
-fn front_len(protocol: u32) -> usize
-    ensures all { result ≡ 72 + length (protocol_attribute protocol) }
-    ensures few { result ≤ 80 }
+fn request_len(protocol: u32) -> usize
+    // `limit` is a consequence of `all`, for callers that add to the length.
+    ensures all { result ≡ inet_message_length protocol }
+    ensures limit { result ≤ 80 }
 {
     // The attribute of the protocol has 8 bytes.
     NETLINK_HEADER_LEN + INET_REQUEST_LEN + if protocol < 256 { 0 } else { 8 }
 }
 
-// Writes the request as the start of a message of `len` bytes.
-fn write_front(len: u32, request: &InetRequest, front: &mut [u8])
-    requires family { (request.now.family ≡ AF_INET) ⊎ (request.now.family ≡ AF_INET6) }
-    requires whole { length front.old ≡ 72 + length (protocol_attribute request.now.protocol) }
-    ensures { front.new
+// Writes the request to the buffer, as the start of a message of `len` bytes: its header has this
+// length.
+fn write_request(len: u32, request: &InetRequest, buffer: &mut [u8])
+    // For any other family `write_inet` writes nothing.
+    requires family { IsInetFamily request.now.family }
+    // The buffer has exactly the length of the request without the caller's attributes.
+    requires whole { length buffer.old ≡ inet_message_length request.now.protocol }
+    ensures { buffer.new
         ≡ header_bytes (request_header_of len SOCK_DIAG_BY_FAMILY request.now.header)
         ++ record_bytes inet_request (inet_request_from_c request.now)
         ++ protocol_attribute request.now.protocol }
 {
-    write_inet(SOCK_DIAG_BY_FAMILY, request, front);
+    write_inet(SOCK_DIAG_BY_FAMILY, request, buffer);
     // `write_inet` has written the length of the request alone.
-    LittleEndian::write_u32(front, len);
+    LittleEndian::write_u32(buffer, len);
 }
 
 // Writes the attributes at the start of the buffer, followed by zeros up to a multiple of 4.
 fn write_padded(attributes: &[u8], buffer: &mut [u8])
+    // So the sum with the padding does not overflow.
     requires small { length attributes.now ≤ 4294967295 }
+    // The attributes and their padding fit the buffer.
     requires room { length attributes.now + padding_length (length attributes.now)
         ≤ length buffer.old }
     ensures { HoldsAtStart (with_padding attributes.now) buffer.old buffer.new }
 {
     let len = attributes.len();
-    let (own, rest) = buffer.split_at_mut(len);
-    let (padding, _) = rest.split_at_mut(padded(len) - len);
-    own.copy_from_slice(attributes);
+    let (attributes_part, after_attributes) = buffer.split_at_mut(len);
+    let (padding, _) = after_attributes.split_at_mut(padded(len) - len);
+    attributes_part.copy_from_slice(attributes);
     padding.fill(0);
 }

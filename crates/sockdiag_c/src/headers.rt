@@ -93,6 +93,7 @@ pub(crate) const UNIX: u32 = 1;
 pub(crate) const INET: u32 = 2;
 
 impl From<UnixResponseHeader> for UnixHeader {
+    // `found`: the struct that `from` returns for `header`.
     ghost from_gives = { λ header found. found ≡ unix_header_of header };
 
     fn from(header: UnixResponseHeader) -> UnixHeader {
@@ -107,6 +108,7 @@ impl From<UnixResponseHeader> for UnixHeader {
 }
 
 impl From<InetResponseHeader> for InetHeader {
+    // `found`: the struct that `from` returns for `header`.
     ghost from_gives = { λ header found. found ≡ inet_header_of header };
 
     fn from(header: InetResponseHeader) -> InetHeader {

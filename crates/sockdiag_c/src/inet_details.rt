@@ -6,7 +6,7 @@ ghost use Rattle.netlink_core.specs.Attribute.{Attribute};
 ghost use Rattle.netlink_core.specs.AttributeSet.{decode_attribute};
 ghost use Rattle.sock_diag_attributes.specs.InetAttributes.{inet_attribute_set};
 ghost use Rattle.sock_diag_attributes.specs.InetModel.{inet_nla_view_model};
-ghost use Rattle.sockdiag_c.specs.Family.{DetailsAre, IsCodeOf, IsFirstError};
+ghost use Rattle.sockdiag_c.specs.Family.{AreDetailsOf, IsCodeOf, IsFirstError};
 ghost use Rattle.sockdiag_c.specs.InetDetails.{inet_family, inet_rows};
 ghost use Rattle.sockdiag_c.specs.private.Rows.{AddsValues};
 
@@ -61,7 +61,9 @@ pub extern "C" fn sockdiag_inet_get_details<'a>(
     payload: &'a [u8],
     details: &mut InetDetails<'a>,
 ) -> u32
-    ensures details { result ≡ 0 → DetailsAre inet_family payload.entry.now details.new }
+    // Result 0: the reply has no error, and the struct has its header and values, by the table
+    // `inet_family`. Else the result is the code (`IsCodeOf`) of the first error.
+    ensures details { result ≡ 0 → AreDetailsOf inet_family payload.entry.now details.new }
     ensures error { result ≢ 0 → IsCodeOf (IsFirstError inet_family payload.entry.now) result }
     ensures unchanged { result ≢ 0 → details.new ≡ details.old }
 {
@@ -72,9 +74,11 @@ impl<'a> InetDetails<'a> {
     // Sets the field of the attribute, unless an earlier attribute of its kind has set it.
     fn set(&mut self, nla: NlaView<'a>)
         ensures header { self.new.header ≡ self.old.header }
+        // The table of rows is about attributes, so the clause is for each attribute `a` that
+        // decodes to this value. `AddsValues`: the fields of `a` are set, unless they were set.
         ensures values { (a : Attribute)
             → decode_attribute inet_attribute_set a ≡ Ok (inet_nla_view_model nla.entry)
-            → AddsValues inet_rows a self.old self.new }
+            → AddsValues inet_rows a record { old = self.old; new = self.new } }
     {
         match nla {
             NlaView::Congestion(name) => self.congestion.set(TEXT, name.as_bytes()),
@@ -85,6 +89,7 @@ impl<'a> InetDetails<'a> {
             NlaView::SkV6Only(only) => self.v6only.set(u32::from(only)),
             NlaView::Mark(mark) => self.mark.set(mark),
             NlaView::ClassId(class) => self.class_id.set(class),
+            // These have no field: other calls return memory, `tcp_info` and raw attributes.
             NlaView::LegacyMemInfo(_) | NlaView::MemInfo(_) | NlaView::TcpInfo(_) => {}
             NlaView::Other(_) => {}
         }
@@ -94,13 +99,13 @@ impl<'a> InetDetails<'a> {
 impl<'a> ReplyDetails<'a> for InetDetails<'a> {
     ghost family = { inet_family };
 
-    #[tactic(auto, using(sock_diag_replies::specs::laws::InetResponseSpec::inet_header_bytes_suffice))]
+    #[tactic(auto, using(crate::proofs::InetHeaders::inet_header_rules))]
     #[inline(always)]
     fn parse_header(payload: &'a [u8]) -> Result<(Self, &'a [u8]), DecodeError> {
         let header = InetResponseHeader::from_prefix(payload)?;
-        let mut found = InetDetails::default();
-        found.header = InetHeader::from(header);
-        Ok((found, &payload[INET_RESPONSE_HEADER_LEN..]))
+        let mut details = InetDetails::default();
+        details.header = InetHeader::from(header);
+        Ok((details, &payload[INET_RESPONSE_HEADER_LEN..]))
     }
 
     #[inline(always)]

@@ -16,56 +16,56 @@ ghost use Rattle.sockdiag_c.specs.UnixDetails.{unix_family};
 ghost use Rattle.sockdiag_c.specs.VsockDetails.{vsock_family};
 ghost use Rattle.sockdiag_c.specs.XdpDetails.{xdp_family};
 ghost use Rattle.sockdiag_c.specs.declared.walks.AttributeRange.{AttributeRange};
-ghost use Rattle.sockdiag_c.specs.declared.walks.Cursor.{Cursor};
 ghost use Rattle.sockdiag_c.specs.declared.walks.MessageRange.{MessageRange};
-ghost use Rattle.sockdiag_c.specs.Walks.{StoresCheckedMessage, NextAttribute, NextMessage};
-ghost use Rattle.sockdiag_c.specs.Walks.{attribute_in, bytes_after_cursor};
+ghost use Rattle.sockdiag_c.specs.Walks.{IterationStep, StepsOverAttribute, StepsOverMessage};
+ghost use Rattle.sockdiag_c.specs.Walks.{StoresCheckedMessage, attribute_in, bytes_after_step};
+ghost use Rattle.sockdiag_c.specs.Walks.{bytes_before_step};
 
 /// States that a step of an iteration over attributes returns the first attribute of the bytes
-/// left, and leaves the others; and that it returns 0 if no attribute is left. The bytes after the
-/// header of every accepted reply are a sequence of attributes, as each clause requires.
+/// left, and leaves the others (`next`); and that it returns 0 if no attribute is left (`end`).
+/// Each clause requires that the bytes left are a sequence of attributes, as the bytes after the
+/// header of an accepted reply are.
 ///
-/// In each clause `old` and `new` are the cursor before and after a step, `was` and `now` the
-/// output struct, and `answer` is the return value. `SplitsIntoAttributes b attributes []`: the
-/// bytes `b` consist of these attributes, and nothing remains.
+/// `SplitsIntoAttributes b attributes []`: the bytes `b` consist of these attributes, and nothing
+/// remains. `bytes_before_step` and `bytes_after_step`: the bytes from the cursor on, before and
+/// after the step. `attribute_in`: the attribute that the stored struct describes.
 pub fn a_step_passes_the_first_attribute()
-    ensures next { (bytes : List ℕ) (old new : Cursor) (was now : AttributeRange) (answer : ℕ)
+    ensures next { (step : IterationStep AttributeRange)
         (first : Attribute) (later : List Attribute)
-        → SplitsIntoAttributes (bytes_after_cursor bytes old) (first ∷ later) []
-        → NextAttribute bytes old new was now answer
-        → (answer ≡ 1) × (attribute_in bytes now ≡ first)
-        × SplitsIntoAttributes (bytes_after_cursor bytes new) later [] }
-    ensures end { (bytes : List ℕ) (old new : Cursor) (was now : AttributeRange) (answer : ℕ)
-        → SplitsIntoAttributes (bytes_after_cursor bytes old) [] []
-        → NextAttribute bytes old new was now answer → answer ≡ 0 }
+        → SplitsIntoAttributes (bytes_before_step step) (first ∷ later) []
+        → StepsOverAttribute step
+        → (step.returned ≡ 1) × (attribute_in step.bytes step.new_item ≡ first)
+        × SplitsIntoAttributes (bytes_after_step step) later [] }
+    ensures end { (step : IterationStep AttributeRange)
+        → SplitsIntoAttributes (bytes_before_step step) [] []
+        → StepsOverAttribute step → step.returned ≡ 0 }
 {}
 
-/// States that a step of an iteration over messages returns the first message of the bytes left,
-/// and leaves the others (`next`); that it returns 0 if no bytes are left (`end`); and that it
-/// returns the code of the framing error if bytes are left that do not begin with a message
-/// (`error`).
+/// States that a step of an iteration over messages stores the first message of the bytes left and
+/// leaves the others (`next`; `StoresCheckedMessage` has what is returned); that it returns 0 if no
+/// bytes are left (`end`); and that it returns the code of the framing error if bytes are left that
+/// do not begin with a message (`error`).
 ///
-/// The variables are those of [`a_step_passes_the_first_attribute`].
 /// `SplitsIntoMessages b messages end`: the bytes `b` consist of these messages, and then nothing
 /// (`None`) or bytes with the framing error `Some e`. `IsBytes b`: each number of `b` is below 256.
+/// `bytes_before_step` and `bytes_after_step`: the bytes from the cursor on, before and after the
+/// step.
 pub fn a_step_passes_the_first_message()
-    ensures next { (bytes : List ℕ) (old new : Cursor) (was now : MessageRange) (answer : ℕ)
+    ensures next { (step : IterationStep MessageRange)
         (message : List ℕ) (later : List (List ℕ)) (end : Option DecodeError)
-        → IsBytes (bytes_after_cursor bytes old)
-        → SplitsIntoMessages (bytes_after_cursor bytes old) (message ∷ later) end
-        → NextMessage bytes old new was now answer
-        → StoresCheckedMessage bytes old new now answer
-        × SplitsIntoMessages (bytes_after_cursor bytes new) later end }
-    ensures end { (bytes : List ℕ) (old new : Cursor) (was now : MessageRange) (answer : ℕ)
-        → IsBytes (bytes_after_cursor bytes old)
-        → SplitsIntoMessages (bytes_after_cursor bytes old) [] None
-        → NextMessage bytes old new was now answer → answer ≡ 0 }
-    ensures error { (bytes : List ℕ) (old new : Cursor) (was now : MessageRange) (answer : ℕ)
-        (e : DecodeError)
-        → IsBytes (bytes_after_cursor bytes old)
-        → SplitsIntoMessages (bytes_after_cursor bytes old) [] (Some e)
-        → NextMessage bytes old new was now answer
-        → (answer ≡ error_code e) × (bytes_after_cursor bytes new ≡ []) }
+        → IsBytes (bytes_before_step step)
+        → SplitsIntoMessages (bytes_before_step step) (message ∷ later) end
+        → StepsOverMessage step
+        → StoresCheckedMessage step × SplitsIntoMessages (bytes_after_step step) later end }
+    ensures end { (step : IterationStep MessageRange)
+        → IsBytes (bytes_before_step step)
+        → SplitsIntoMessages (bytes_before_step step) [] None
+        → StepsOverMessage step → step.returned ≡ 0 }
+    ensures error { (step : IterationStep MessageRange) (e : DecodeError)
+        → IsBytes (bytes_before_step step)
+        → SplitsIntoMessages (bytes_before_step step) [] (Some e)
+        → StepsOverMessage step
+        → (step.returned ≡ error_code e) × (bytes_after_step step ≡ []) }
 {}
 
 /// States that a lenient call agrees with the strict call, for each family: if `first` of the
@@ -81,7 +81,8 @@ pub fn lenient_calls_agree_with_strict_calls()
 {}
 
 /// States that the strict calls for UNIX and internet sockets accept and reject the replies that
-/// `sockdiag_check_unix_reply` and `sockdiag_check_inet_reply` do, with the same errors.
+/// `sockdiag_check_unix_reply` and `sockdiag_check_inet_reply` do, with the same errors. These are
+/// the replies and errors of the codecs of `unix_response_spec` and `inet_response_spec`.
 pub fn strict_calls_agree_with_checks()
     ensures unix { AgreesWithCodec unix_family unix_response_spec }
     ensures inet { AgreesWithCodec inet_family inet_response_spec }

@@ -73,9 +73,12 @@ pub(crate) struct Errors {
 }
 
 impl Errors {
-    /// Adds an error, whose code as a framing error or as that of a kind is stored apart.
+    /// Adds an error: it is the first one if there was none. Its code as a framing error or as the
+    /// error of a kind is not stored; the caller does that.
     pub(crate) fn add(&mut self, error: DecodeError)
         ensures first { self.new.first ≡ first_present self.old.first (Some error) }
+        // If the code `first` of the rejections was that of the first error before, it still is.
+        // `optional_code`: the code, or 0 for None.
         ensures code { self.old.rejections.first ≡ optional_code self.old.first
             → self.new.rejections.first ≡ optional_code self.new.first }
         ensures others { (self.new.rejections.framing ≡ self.old.rejections.framing)
@@ -90,9 +93,12 @@ impl Errors {
     /// Adds the error of an attribute of this kind.
     pub(crate) fn add_value(&mut self, kind: u16, error: DecodeError)
         ensures first { self.new.first ≡ first_present self.old.first (Some error) }
+        // If the code `first` of the rejections was that of the first error before, it still is.
         ensures code { self.old.rejections.first ≡ optional_code self.old.first
             → self.new.rejections.first ≡ optional_code self.new.first }
         ensures framing { self.new.rejections.framing ≡ self.old.rejections.framing }
+        // For each kind `k` with an element: `o` is the first error of this kind before, or None.
+        // It stays the first one; if there was none, and `k` is this kind, `error` is.
         ensures errors { (k : ℕ) (o : Option DecodeError) → k < REJECTION_KINDS
             → slice_index self.old.rejections.errors k ≡ optional_code o
             → slice_index self.new.rejections.errors k
@@ -110,9 +116,9 @@ impl Errors {
 /// has a field in the details, and the first error of each kind, in one pass over the attributes.
 /// What follows a framing error is not parsed. The bytes are the payload of the netlink message.
 /// Returns 0, and sets all fields of the details and of the rejections; or the code of the error of
-/// the header, and then both are unchanged. The previous contents of both are not read. What is not
-/// rejected is as `sockdiag_unix_get_details` describes it. The family, the first byte, is not
-/// checked: use it to choose the call.
+/// the header, and then both are unchanged. The previous contents of both are not read. The fields
+/// are set as `sockdiag_unix_get_details` sets them. The family, the first byte, is not checked:
+/// use it to choose the call.
 ///
 /// Use this call to list sockets: a value that this library does not accept, such as the
 /// `UNIX_DIAG_MEMINFO` of an old kernel, hides only itself, and not its socket.
@@ -122,6 +128,9 @@ pub extern "C" fn sockdiag_unix_get_lenient_details<'a>(
     details: &mut UnixDetails<'a>,
     rejections: &mut Rejections,
 ) -> u32
+    // Result 0: the details have the header and the first valid values, and the rejections the
+    // codes of the errors, by the table `unix_family`. Else the result is the code (`IsCodeOf`) of
+    // the error of the header.
     ensures details { result ≡ 0
         → LenientDetailsAre unix_family payload.entry.now (details.new, rejections.new) }
     ensures error { result ≢ 0 → IsCodeOf (IsHeaderError unix_family payload.entry.now) result }
@@ -132,12 +141,11 @@ pub extern "C" fn sockdiag_unix_get_lenient_details<'a>(
 }
 
 /// Returns the header of a reply about an IPv4 or IPv6 socket, the first valid attribute of each
-/// kind that has a field in the details, which are those with a text or a number, and the first
-/// error of each kind, in one pass over the attributes. What follows a framing error is not parsed.
-/// The bytes are the payload of the netlink message. Returns 0, and sets all fields of the details
-/// and of the rejections; or the code of the error of the header, and then both are unchanged. The
-/// previous contents of both are not read. What is not rejected is as `sockdiag_inet_get_details`
-/// describes it.
+/// kind that has a field in the details (a text or a number), and the first error of each kind, in
+/// one pass over the attributes. What follows a framing error is not parsed. The bytes are the
+/// payload of the netlink message. Returns 0, and sets all fields of the details and of the
+/// rejections; or the code of the error of the header, and then both are unchanged. The previous
+/// contents of both are not read. The fields are set as `sockdiag_inet_get_details` sets them.
 ///
 /// Use this call to list sockets: a value that this library does not accept, such as the
 /// `INET_DIAG_INFO` of an old kernel or of MPTCP, hides only itself, and not its socket.
@@ -149,6 +157,9 @@ pub extern "C" fn sockdiag_inet_get_lenient_details<'a>(
     details: &mut InetDetails<'a>,
     rejections: &mut Rejections,
 ) -> u32
+    // Result 0: the details have the header and the first valid values, and the rejections the
+    // codes of the errors, by the table `inet_family`. Else the result is the code (`IsCodeOf`) of
+    // the error of the header.
     ensures details { result ≡ 0
         → LenientDetailsAre inet_family payload.entry.now (details.new, rejections.new) }
     ensures error { result ≢ 0 → IsCodeOf (IsHeaderError inet_family payload.entry.now) result }
@@ -171,6 +182,9 @@ pub extern "C" fn sockdiag_netlink_get_lenient_details<'a>(
     details: &mut NetlinkDetails<'a>,
     rejections: &mut Rejections,
 ) -> u32
+    // Result 0: the details have the header and the first valid values, and the rejections the
+    // codes of the errors, by the table `netlink_family`. Else the result is the code (`IsCodeOf`)
+    // of the error of the header.
     ensures details { result ≡ 0
         → LenientDetailsAre netlink_family payload.entry.now (details.new, rejections.new) }
     ensures error { result ≢ 0 → IsCodeOf (IsHeaderError netlink_family payload.entry.now) result }
@@ -194,6 +208,9 @@ pub extern "C" fn sockdiag_packet_get_lenient_details<'a>(
     details: &mut PacketDetails<'a>,
     rejections: &mut Rejections,
 ) -> u32
+    // Result 0: the details have the header and the first valid values, and the rejections the
+    // codes of the errors, by the table `packet_family`. Else the result is the code (`IsCodeOf`)
+    // of the error of the header.
     ensures details { result ≡ 0
         → LenientDetailsAre packet_family payload.entry.now (details.new, rejections.new) }
     ensures error { result ≢ 0 → IsCodeOf (IsHeaderError packet_family payload.entry.now) result }
@@ -215,6 +232,9 @@ pub extern "C" fn sockdiag_vsock_get_lenient_details(
     details: &mut VsockResponseHeader,
     rejections: &mut Rejections,
 ) -> u32
+    // Result 0: the struct is the header, and the rejections have the code of the framing error, if
+    // any; the table `vsock_family` has no rows for attributes. Else the result is the code
+    // (`IsCodeOf`) of the error of the header.
     ensures details { result ≡ 0
         → LenientDetailsAre vsock_family payload.now (details.new, rejections.new) }
     ensures error { result ≢ 0 → IsCodeOf (IsHeaderError vsock_family payload.now) result }
@@ -237,6 +257,9 @@ pub extern "C" fn sockdiag_xdp_get_lenient_details(
     details: &mut XdpDetails,
     rejections: &mut Rejections,
 ) -> u32
+    // Result 0: the details have the header and the first valid values, and the rejections the
+    // codes of the errors, by the table `xdp_family`. Else the result is the code (`IsCodeOf`) of
+    // the error of the header.
     ensures details { result ≡ 0
         → LenientDetailsAre xdp_family payload.now (details.new, rejections.new) }
     ensures error { result ≢ 0 → IsCodeOf (IsHeaderError xdp_family payload.now) result }

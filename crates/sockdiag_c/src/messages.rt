@@ -7,10 +7,11 @@ ghost use Rattle.sockdiag_c.specs.Answers.{IsOneIf};
 use crate::walks::MessageRange;
 use netlink_core::{NLM_F_DUMP_INTR, NLMSG_DONE, NLMSG_ERROR};
 
-/// Returns 1 if the message answers a request, else 0: it has the sequence number of the request,
-/// and the port id of the socket that sent it, which getsockname(2) returns in `nl_pid`. Skip any
-/// other message. It may be a late answer to an earlier request. The message does not show who sent
-/// it: connect the socket to port id 0 by connect(2), and only the kernel can send to it.
+/// Returns 1 if the message has this sequence number and this port id, else 0. Pass the sequence
+/// number of a request, and the port id of the socket that sent it, which getsockname(2) returns in
+/// `nl_pid`: the result is 1 if the message answers the request. Skip any other message. It may be
+/// a late answer to an earlier request. The message does not show who sent it: connect the socket
+/// to port id 0 by connect(2), and only the kernel can send to it.
 #[unsafe(no_mangle)]
 pub extern "C" fn sockdiag_is_answer(
     message: &MessageRange,
@@ -36,9 +37,9 @@ pub extern "C" fn sockdiag_is_interrupted(message: &MessageRange) -> u32
     u32::from(message.flags & NLM_F_DUMP_INTR != 0)
 }
 
-/// Returns 1 if no more messages of the answer follow, else 0: the message is an `NLMSG_DONE` or an
-/// `NLMSG_ERROR`. `sockdiag_get_error_number` returns whether it reports success. An
-/// `NLMSG_OVERRUN` does not end the answer, but data was lost.
+/// Returns 1 if the message is an `NLMSG_DONE` or an `NLMSG_ERROR`, else 0. After such a message no
+/// more messages of the answer follow. `sockdiag_get_error_number` returns whether it reports
+/// success. An `NLMSG_OVERRUN` does not end the answer, but data was lost.
 #[unsafe(no_mangle)]
 pub extern "C" fn sockdiag_ends_answer(message: &MessageRange) -> u32
     ensures { IsOneIf ((message.now.message_type ≡ NLMSG_DONE)

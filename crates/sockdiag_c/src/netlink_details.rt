@@ -1,7 +1,7 @@
 //! The contents of a reply about a netlink socket, as a C struct.
 
 ghost use Rattle.std.specs.Prelude.{◌≡◌, ◌≢◌};
-ghost use Rattle.sockdiag_c.specs.Family.{DetailsAre, IsCodeOf, IsFirstError};
+ghost use Rattle.sockdiag_c.specs.Family.{AreDetailsOf, IsCodeOf, IsFirstError};
 ghost use Rattle.sockdiag_c.specs.NetlinkDetails.{netlink_family};
 
 use crate::details::{Number, ReplyDetails, Text, store_details};
@@ -47,7 +47,9 @@ pub extern "C" fn sockdiag_netlink_get_details<'a>(
     payload: &'a [u8],
     details: &mut NetlinkDetails<'a>,
 ) -> u32
-    ensures details { result ≡ 0 → DetailsAre netlink_family payload.entry.now details.new }
+    // Result 0: the reply has no error, and the struct has its header and values, by the table
+    // `netlink_family`. Else the result is the code (`IsCodeOf`) of the first error.
+    ensures details { result ≡ 0 → AreDetailsOf netlink_family payload.entry.now details.new }
     ensures error { result ≢ 0 → IsCodeOf (IsFirstError netlink_family payload.entry.now) result }
     ensures unchanged { result ≢ 0 → details.new ≡ details.old }
 {
@@ -59,10 +61,10 @@ impl<'a> ReplyDetails<'a> for NetlinkDetails<'a> {
 
     #[inline(always)]
     fn parse_header(payload: &'a [u8]) -> Result<(Self, &'a [u8]), DecodeError> {
-        let (header, rest) = split_header(payload)?;
-        let mut found = NetlinkDetails::default();
-        found.header = header;
-        Ok((found, rest))
+        let (header, attributes) = split_header(payload)?;
+        let mut details = NetlinkDetails::default();
+        details.header = header;
+        Ok((details, attributes))
     }
 
     fn set_value(&mut self, nla: &NlaBuffer<'a>) -> Result<(), DecodeError> {

@@ -11,22 +11,25 @@ use crate::family_values::store;
 use crate::walks::END;
 use netlink_packet_sock_diag::unix::UnixResponseView;
 
-/// Stores the inode of a socket that connected to a UNIX socket, and was not yet accepted: the one
-/// at this index of the first `UNIX_DIAG_ICONS` of a reply, which is the payload of a netlink
-/// message. The first connection has index 0. Returns 1. Returns 0 if the reply is rejected, or has
-/// no connection at this index; then the inode is unchanged. The inode is 0 if the socket was
-/// closed since. The other end of such a connection, which accept(2) will return, has no inode yet,
-/// and the kernel does not list it.
+/// Stores the inode of a socket that connected to a UNIX socket, and was not yet accepted: the
+/// inode at this index of the first `UNIX_DIAG_ICONS` of a reply. The first connection has index 0.
+/// The bytes are the payload of the netlink message. Returns 1. Returns 0 if the reply is rejected,
+/// or has no connection at this index; then the inode is unchanged. The inode is 0 if the socket
+/// was closed since. The other end of such a connection, which accept(2) will return, has no inode
+/// yet, and the kernel does not list it.
 ///
 /// Each call checks the whole reply. To read all connections, find `UNIX_DIAG_ICONS` once by
 /// `sockdiag_next_attribute`, and step through its value by `sockdiag_next_pending`.
 #[unsafe(no_mangle)]
 pub extern "C" fn sockdiag_unix_get_pending(payload: &[u8], index: usize, inode: &mut u32) -> u32
-    // Either the reply is accepted, and the inode at the index is stored, if there is one. Or it is
-    // rejected.
+    // Either the reply is accepted, as the value `v`: if it has an inode at the index, this is
+    // stored, and the result is 1; else nothing is stored, and the result is 0 (`IsGetterResult`).
+    // Or the reply is rejected, nothing is stored, and the result is 0. The codec of the reply has
+    // no parameter (`tt`).
     ensures { ((v : ReplyValue unix_response_spec)
         × (response_codec unix_response_spec).parses payload.now tt v
-        × IsGetterResult (slice_get (pending_inodes v.nlas) index) inode.old inode.new result)
+        × IsGetterResult (slice_get (pending_inodes v.nlas) index)
+        record { old = inode.old; new = inode.new; returned = result })
         ⊎ ((e : DecodeError) × (response_codec unix_response_spec).rejects payload.now tt e
         × (result ≡ 0)
         × (inode.new ≡ inode.old)) }

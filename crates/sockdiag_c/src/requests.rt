@@ -107,8 +107,10 @@ const _: () = prove!(std::mem::size_of::<InetRequest>() == 72);
 /// written.
 #[unsafe(no_mangle)]
 pub extern "C" fn sockdiag_write_unix_request(request: &UnixRequest, buffer: &mut [u8]) -> usize
+    // `WritesMessage len message`: the message, of `len` bytes, is written and `len` returned; or 0
+    // is returned, if the buffer is shorter.
     ensures { WritesMessage 40 (unix_message SOCK_DIAG_BY_FAMILY request.now)
-        buffer.old buffer.new result }
+        record { old = buffer.old; new = buffer.new; returned = result } }
 {
     write_unix(SOCK_DIAG_BY_FAMILY, request, buffer)
 }
@@ -119,8 +121,10 @@ pub extern "C" fn sockdiag_write_unix_request(request: &UnixRequest, buffer: &mu
 /// then nothing is written. Linux answers it with `EOPNOTSUPP`.
 #[unsafe(no_mangle)]
 pub extern "C" fn sockdiag_write_unix_destroy(request: &UnixRequest, buffer: &mut [u8]) -> usize
+    // `WritesMessage len message`: the message, of `len` bytes, is written and `len` returned; or 0
+    // is returned, if the buffer is shorter.
     ensures { WritesMessage 40 (unix_message SOCK_DESTROY request.now)
-        buffer.old buffer.new result }
+        record { old = buffer.old; new = buffer.new; returned = result } }
 {
     write_unix(SOCK_DESTROY, request, buffer)
 }
@@ -131,7 +135,10 @@ pub extern "C" fn sockdiag_write_unix_destroy(request: &UnixRequest, buffer: &mu
 /// neither `AF_INET` nor `AF_INET6`; then nothing is written.
 #[unsafe(no_mangle)]
 pub extern "C" fn sockdiag_write_inet_request(request: &InetRequest, buffer: &mut [u8]) -> usize
-    ensures { WritesInetMessage SOCK_DIAG_BY_FAMILY request.now buffer.old buffer.new result }
+    // `WritesInetMessage`: the message is written and its length returned; or 0 is returned, if the
+    // buffer is shorter or the family is another one.
+    ensures { WritesInetMessage SOCK_DIAG_BY_FAMILY request.now
+        record { old = buffer.old; new = buffer.new; returned = result } }
 {
     write_inet(SOCK_DIAG_BY_FAMILY, request, buffer)
 }
@@ -146,15 +153,21 @@ pub extern "C" fn sockdiag_write_inet_request(request: &InetRequest, buffer: &mu
 /// UDP and raw sockets if the caller has `CAP_NET_ADMIN`.
 #[unsafe(no_mangle)]
 pub extern "C" fn sockdiag_write_inet_destroy(request: &InetRequest, buffer: &mut [u8]) -> usize
-    ensures { WritesInetMessage SOCK_DESTROY request.now buffer.old buffer.new result }
+    // `WritesInetMessage`: the message is written and its length returned; or 0 is returned, if the
+    // buffer is shorter or the family is another one.
+    ensures { WritesInetMessage SOCK_DESTROY request.now
+        record { old = buffer.old; new = buffer.new; returned = result } }
 {
     write_inet(SOCK_DESTROY, request, buffer)
 }
 
-// Writes a request for UNIX sockets with this message type.
+// Writes a request for UNIX sockets with this message type. Returns 40, or 0 if the buffer is
+// shorter; then nothing is written.
 fn write_unix(message_type: u16, request: &UnixRequest, buffer: &mut [u8]) -> usize
-    ensures { WritesMessage 40 (unix_message message_type request.now) buffer.old buffer.new
-        result }
+    // `WritesMessage len message`: the message, of `len` bytes, is written and `len` returned; or 0
+    // is returned, if the buffer is shorter.
+    ensures { WritesMessage 40 (unix_message message_type request.now)
+        record { old = buffer.old; new = buffer.new; returned = result } }
 {
     let record = unix::UnixRequest {
         state_flags: unix::StateFlags::from_bits_retain(request.states),
@@ -165,9 +178,14 @@ fn write_unix(message_type: u16, request: &UnixRequest, buffer: &mut [u8]) -> us
     write_message(message_type, &request.header, &record, &[], buffer)
 }
 
-// Writes a request for IPv4 or IPv6 sockets with this message type.
+// Writes a request for IPv4 or IPv6 sockets with this message type. Returns the number of bytes
+// that were written; or 0 if the buffer is shorter or the family is another one, and then nothing
+// is written.
 pub(crate) fn write_inet(message_type: u16, request: &InetRequest, buffer: &mut [u8]) -> usize
-    ensures { WritesInetMessage message_type request.now buffer.old buffer.new result }
+    // `WritesInetMessage`: the message is written and its length returned; or 0 is returned, if the
+    // buffer is shorter or the family is another one.
+    ensures { WritesInetMessage message_type request.now
+        record { old = buffer.old; new = buffer.new; returned = result } }
 {
     if request.family != AF_INET && request.family != AF_INET6 {
         return 0;
@@ -176,6 +194,7 @@ pub(crate) fn write_inet(message_type: u16, request: &InetRequest, buffer: &mut 
     if request.protocol < 256 {
         return write_message(message_type, &request.header, &record, &[], buffer);
     }
+    // The attribute has 8 bytes: its length, its type and, in the last four, the protocol.
     let mut attribute = [8, 0, INET_DIAG_REQ_PROTOCOL as u8, 0, 0, 0, 0, 0];
     LittleEndian::write_u32(&mut attribute[4..], request.protocol);
     write_message(message_type, &request.header, &record, &attribute, buffer)
@@ -211,8 +230,9 @@ fn address_in(family: u8, octets: &[u8; 16]) -> IpAddr
     IpAddr::V6(Ipv6Addr::from_octets(*octets))
 }
 
-// Writes a netlink header, the record and the attributes, if the buffer is long enough. Returns the
-// number of bytes that were written, or 0.
+// Writes a netlink header with this message type and the fields of `header`, the record `value` and
+// the bytes of the attributes, if the buffer is long enough. Returns the number of bytes that were
+// written, or 0.
 pub(crate) fn write_message<R: Emitable>(
     message_type: u16,
     header: &RequestHeader,
@@ -220,34 +240,41 @@ pub(crate) fn write_message<R: Emitable>(
     attributes: &[u8],
     buffer: &mut [u8],
 ) -> usize
+    // `R.writable`: the record can be serialized. `R.bytes`: the bytes that it serializes to.
+    // `request_header_of`: the header with this length and type. `WritesMessage len message`: the
+    // message is written and `len` returned; or 0 is returned, if the buffer is shorter.
     requires writable { R.writable value.now }
+    // The length of the message fits `nlmsg_len`, a `__u32`: 16 bytes of the header, the record and
+    // the attributes.
     requires small { 16 + length (R.bytes value.now) + length attributes.now ≤ 4294967295 }
     ensures { let len = 16 + length (R.bytes value.now) + length attributes.now in
         WritesMessage len (header_bytes (request_header_of len message_type header.now)
-        ++ R.bytes value.now ++ attributes.now) buffer.old buffer.new result }
+        ++ R.bytes value.now ++ attributes.now)
+        record { old = buffer.old; new = buffer.new; returned = result } }
 {
     let end = NETLINK_HEADER_LEN + value.buffer_len();
     let len = end + attributes.len();
     if buffer.len() < len {
         return 0;
     }
-    let (front, rest) = buffer.split_at_mut(end);
-    let (start, body) = front.split_at_mut(NETLINK_HEADER_LEN);
-    let (behind, _) = rest.split_at_mut(attributes.len());
-    write_header(len as u32, message_type, header, start);
-    value.emit(body);
-    behind.copy_from_slice(attributes);
+    let (header_and_record, after_record) = buffer.split_at_mut(end);
+    let (header_part, record_part) = header_and_record.split_at_mut(NETLINK_HEADER_LEN);
+    let (attributes_part, _) = after_record.split_at_mut(attributes.len());
+    write_header(len as u32, message_type, header, header_part);
+    value.emit(record_part);
+    attributes_part.copy_from_slice(attributes);
     len
 }
 
-// Writes a netlink header to sixteen bytes, whatever they contain.
-fn write_header(len: u32, message_type: u16, header: &RequestHeader, row: &mut [u8])
-    requires { length row.old ≡ 16 }
-    ensures { row.new ≡ header_bytes (request_header_of len message_type header.now) }
+// Writes a netlink header to the sixteen bytes of a buffer: `len` is the length of the message.
+fn write_header(len: u32, message_type: u16, header: &RequestHeader, buffer: &mut [u8])
+    // The buffer has exactly the length of a netlink header.
+    requires { length buffer.old ≡ 16 }
+    ensures { buffer.new ≡ header_bytes (request_header_of len message_type header.now) }
 {
-    let (first, rest) = row.split_at_mut(4);
-    let (kind, numbers) = rest.split_at_mut(4);
-    LittleEndian::write_u32_into(&[len], first);
-    LittleEndian::write_u16_into(&[message_type, header.flags], kind);
-    LittleEndian::write_u32_into(&[header.sequence_number, header.port_number], numbers);
+    let (len_part, after_len) = buffer.split_at_mut(4);
+    let (type_and_flags, ids) = after_len.split_at_mut(4);
+    LittleEndian::write_u32_into(&[len], len_part);
+    LittleEndian::write_u16_into(&[message_type, header.flags], type_and_flags);
+    LittleEndian::write_u32_into(&[header.sequence_number, header.port_number], ids);
 }

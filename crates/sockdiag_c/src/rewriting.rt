@@ -1,13 +1,12 @@
 //! The canonical form of replies. Equivalent replies, which differ only in ignored bits,
 //! have the same canonical form.
 
-ghost use Rattle.std.specs.Prelude.{◌≡◌};
+ghost use Rattle.std.specs.Prelude.{◌≡◌, ◌<◌, take};
 ghost use Rattle.netlink_core.specs.Errors.{error_code};
-ghost use Rattle.netlink_core.specs.Response.{response_bytes, response_codec};
 ghost use Rattle.sock_diag_replies.specs.InetResponseSpec.{inet_response_spec};
 ghost use Rattle.sock_diag_replies.specs.UnixResponseSpec.{unix_response_spec};
-ghost use Rattle.sockdiag_c.specs.Rewriting.{IsCanonical, ParsesAndWrites, WritesValue};
-ghost use Rattle.sockdiag_c.specs.Rewriting.{outcome_struct};
+ghost use Rattle.sockdiag_c.specs.Rewriting.{IsCanonicalForm, ParsesAndWrites, WritesValue};
+ghost use Rattle.sockdiag_c.specs.Rewriting.{outcome_struct, reply_conversion};
 
 use netlink_core::{DecodeError, Emitable};
 use netlink_packet_sock_diag::inet::InetResponseHeader;
@@ -45,16 +44,18 @@ pub extern "C" fn sockdiag_rewrite_unix_reply(
     buffer: &mut [u8],
     outcome: &mut Outcome,
 ) -> usize
-    // In order: how the payload parses, its errors, which replies are writable, the bytes of a
-    // reply, the buffer before and after the call, the outcome, and the return value.
-    ensures rewrites { ParsesAndWrites ((response_codec unix_response_spec).parses payload.now tt)
-        ((response_codec unix_response_spec).rejects payload.now tt)
-        (response_codec unix_response_spec).is_writable
-        (response_bytes unix_response_spec)
-        buffer.old buffer.new outcome.new result }
-    // An accepted and writable reply serializes to the bytes that were written if and only if it is
-    // equivalent to this reply.
-    ensures canonical { IsCanonical unix_response_spec payload.now buffer.new result }
+    // `reply_conversion`: the payload is parsed as a reply, and the value is serialized.
+    // `ParsesAndWrites`: its bytes are written; or nothing is, for one of the reasons above.
+    ensures rewrites { ParsesAndWrites (reply_conversion unix_response_spec payload.now) record {
+      old = buffer.old;
+      new = buffer.new;
+      outcome = outcome.new;
+      returned = result;
+    } }
+    // If bytes were written (`0 < result`), an accepted and writable reply serializes to these
+    // bytes if and only if it is equivalent to this reply.
+    ensures canonical { 0 < result
+        → IsCanonicalForm unix_response_spec payload.now (take result buffer.new) }
 {
     rewrite::<UnixResponseHeader>(payload, buffer, outcome)
 }
@@ -78,28 +79,33 @@ pub extern "C" fn sockdiag_rewrite_inet_reply(
     buffer: &mut [u8],
     outcome: &mut Outcome,
 ) -> usize
-    // In order: how the payload parses, its errors, which replies are writable, the bytes of a
-    // reply, the buffer before and after the call, the outcome, and the return value.
-    ensures rewrites { ParsesAndWrites ((response_codec inet_response_spec).parses payload.now tt)
-        ((response_codec inet_response_spec).rejects payload.now tt)
-        (response_codec inet_response_spec).is_writable
-        (response_bytes inet_response_spec)
-        buffer.old buffer.new outcome.new result }
-    // An accepted and writable reply serializes to the bytes that were written if and only if it is
-    // equivalent to this reply.
-    ensures canonical { IsCanonical inet_response_spec payload.now buffer.new result }
+    // `reply_conversion`: the payload is parsed as a reply, and the value is serialized.
+    // `ParsesAndWrites`: its bytes are written; or nothing is, for one of the reasons above.
+    ensures rewrites { ParsesAndWrites (reply_conversion inet_response_spec payload.now) record {
+      old = buffer.old;
+      new = buffer.new;
+      outcome = outcome.new;
+      returned = result;
+    } }
+    // If bytes were written (`0 < result`), an accepted and writable reply serializes to these
+    // bytes if and only if it is equivalent to this reply.
+    ensures canonical { 0 < result
+        → IsCanonicalForm inet_response_spec payload.now (take result buffer.new) }
 {
     rewrite::<InetResponseHeader>(payload, buffer, outcome)
 }
 
-// Writes the canonical form of a reply with this kind of header.
+// Writes the canonical form of a reply with this kind of header, as the exports do, whose clauses
+// these are. `H.reply` has the codec of such replies.
 fn rewrite<H: ReplyHeader>(payload: &[u8], buffer: &mut [u8], outcome: &mut Outcome) -> usize
-    ensures rewrites { ParsesAndWrites ((response_codec H.reply).parses payload.now tt)
-        ((response_codec H.reply).rejects payload.now tt)
-        (response_codec H.reply).is_writable
-        (response_bytes H.reply)
-        buffer.old buffer.new outcome.new result }
-    ensures canonical { IsCanonical H.reply payload.now buffer.new result }
+    ensures rewrites { ParsesAndWrites (reply_conversion H.reply payload.now) record {
+      old = buffer.old;
+      new = buffer.new;
+      outcome = outcome.new;
+      returned = result;
+    } }
+    ensures canonical { 0 < result
+        → IsCanonicalForm H.reply payload.now (take result buffer.new) }
 {
     match ReplyView::<H>::parse(payload) {
         Ok(view) => write_value(&view, buffer, outcome),
@@ -107,11 +113,17 @@ fn rewrite<H: ReplyHeader>(payload: &[u8], buffer: &mut [u8], outcome: &mut Outc
     }
 }
 
-// Serializes the value, if it is writable and the buffer is long enough.
+// Serializes the value to the start of the buffer, if it is writable and the buffer is long enough.
+// Returns the number of bytes that were written, or 0. Sets `outcome.needed` to the number of bytes
+// that the value needs, or to 0 if it is not writable; and `outcome.error` to 0. `V.writable`: the
+// value is writable. `V.bytes`: the bytes that it serializes to.
 pub(crate) fn write_value<V: Emitable>(value: &V, buffer: &mut [u8], outcome: &mut Outcome) -> usize
-    ensures { WritesValue (V.writable value.now) (V.bytes value.now) buffer.old buffer.new
-        outcome.new
-        result }
+    ensures { WritesValue (V.writable value.now) (V.bytes value.now) record {
+      old = buffer.old;
+      new = buffer.new;
+      outcome = outcome.new;
+      returned = result;
+    } }
 {
     *outcome = Outcome::default();
     let Some(needed) = value.writable_len() else {

@@ -1,9 +1,10 @@
 //! The values of `INET_DIAG_INFO` and `INET_DIAG_SKMEMINFO`: the state of a connection of TCP or
 //! MPTCP, and the memory of an internet socket.
 
-ghost use Rattle.std.specs.Prelude.{◌≡◌, List, drop, length};
+ghost use Rattle.std.specs.Prelude.{◌≡◌, List, length};
 ghost use Rattle.netlink_core.specs.Attribute.{Attribute};
-ghost use Rattle.sockdiag_c.specs.TcpInfo.{AreAttributesIn, first_of_type, padded_or_truncated};
+ghost use Rattle.sockdiag_c.specs.TcpInfo.{AreAttributesIn, AreInetReplyAttributes};
+ghost use Rattle.sockdiag_c.specs.TcpInfo.{first_value_of_type, padded_or_truncated};
 
 use crate::walks::bytes_from;
 use netlink_core::NlasIterator;
@@ -32,13 +33,15 @@ pub(crate) const MPTCP_INFO_LEN: usize = 96;
 /// because a value is too short. Attributes after a framing error are not found.
 #[unsafe(no_mangle)]
 pub extern "C" fn sockdiag_inet_get_tcp_info(payload: &[u8], info: &mut [u8; TCP_INFO_LEN]) -> usize
-    // attributes: those after the header, up to the end or to a framing error.
+    // `attributes`: those after the header, up to a framing error. `first_value_of_type`: the value
+    // of the first one of this type, or no bytes.
     ensures length { (attributes : List Attribute)
-        → AreAttributesIn (drop INET_RESPONSE_HEADER_LEN payload.now) attributes
-        → result ≡ length (first_of_type INET_DIAG_INFO attributes) }
+        → AreInetReplyAttributes payload.now attributes
+        → result ≡ length (first_value_of_type INET_DIAG_INFO attributes) }
     ensures bytes { (attributes : List Attribute)
-        → AreAttributesIn (drop INET_RESPONSE_HEADER_LEN payload.now) attributes
-        → info.new ≡ padded_or_truncated TCP_INFO_LEN (first_of_type INET_DIAG_INFO attributes) }
+        → AreInetReplyAttributes payload.now attributes
+        → info.new ≡ padded_or_truncated TCP_INFO_LEN
+        (first_value_of_type INET_DIAG_INFO attributes) }
 {
     copy_first_value(payload, INET_DIAG_INFO, info)
 }
@@ -56,14 +59,15 @@ pub extern "C" fn sockdiag_inet_get_long_tcp_info(
     payload: &[u8],
     info: &mut [u8; LONG_TCP_INFO_LEN],
 ) -> usize
-    // attributes: those after the header, up to the end or to a framing error.
+    // `attributes`: those after the header, up to a framing error. `first_value_of_type`: the value
+    // of the first one of this type, or no bytes.
     ensures length { (attributes : List Attribute)
-        → AreAttributesIn (drop INET_RESPONSE_HEADER_LEN payload.now) attributes
-        → result ≡ length (first_of_type INET_DIAG_INFO attributes) }
+        → AreInetReplyAttributes payload.now attributes
+        → result ≡ length (first_value_of_type INET_DIAG_INFO attributes) }
     ensures bytes { (attributes : List Attribute)
-        → AreAttributesIn (drop INET_RESPONSE_HEADER_LEN payload.now) attributes
+        → AreInetReplyAttributes payload.now attributes
         → info.new ≡ padded_or_truncated LONG_TCP_INFO_LEN
-        (first_of_type INET_DIAG_INFO attributes) }
+        (first_value_of_type INET_DIAG_INFO attributes) }
 {
     copy_first_value(payload, INET_DIAG_INFO, info)
 }
@@ -77,18 +81,21 @@ pub extern "C" fn sockdiag_inet_get_long_tcp_info(
 ///
 /// The values of attributes are not checked. So this call also works for a value that is rejected
 /// with `SOCKDIAG_BUFFER_TOO_SMALL`, as a lenient call reports it for each value of MPTCP.
+/// Attributes after a framing error are not found.
 #[unsafe(no_mangle)]
 pub extern "C" fn sockdiag_inet_get_mptcp_info(
     payload: &[u8],
     info: &mut [u8; MPTCP_INFO_LEN],
 ) -> usize
-    // attributes: those after the header, up to the end or to a framing error.
+    // `attributes`: those after the header, up to a framing error. `first_value_of_type`: the value
+    // of the first one of this type, or no bytes.
     ensures length { (attributes : List Attribute)
-        → AreAttributesIn (drop INET_RESPONSE_HEADER_LEN payload.now) attributes
-        → result ≡ length (first_of_type INET_DIAG_INFO attributes) }
+        → AreInetReplyAttributes payload.now attributes
+        → result ≡ length (first_value_of_type INET_DIAG_INFO attributes) }
     ensures bytes { (attributes : List Attribute)
-        → AreAttributesIn (drop INET_RESPONSE_HEADER_LEN payload.now) attributes
-        → info.new ≡ padded_or_truncated MPTCP_INFO_LEN (first_of_type INET_DIAG_INFO attributes) }
+        → AreInetReplyAttributes payload.now attributes
+        → info.new ≡ padded_or_truncated MPTCP_INFO_LEN
+        (first_value_of_type INET_DIAG_INFO attributes) }
 {
     copy_first_value(payload, INET_DIAG_INFO, info)
 }
@@ -102,40 +109,45 @@ pub extern "C" fn sockdiag_inet_get_mptcp_info(
 /// because a value is too short. Attributes after a framing error are not found.
 #[unsafe(no_mangle)]
 pub extern "C" fn sockdiag_inet_get_memory(payload: &[u8], memory: &mut [u8; MEM_INFO_LEN]) -> usize
-    // attributes: those after the header, up to the end or to a framing error.
+    // `attributes`: those after the header, up to a framing error. `first_value_of_type`: the value
+    // of the first one of this type, or no bytes.
     ensures length { (attributes : List Attribute)
-        → AreAttributesIn (drop INET_RESPONSE_HEADER_LEN payload.now) attributes
-        → result ≡ length (first_of_type INET_DIAG_SKMEMINFO attributes) }
+        → AreInetReplyAttributes payload.now attributes
+        → result ≡ length (first_value_of_type INET_DIAG_SKMEMINFO attributes) }
     ensures bytes { (attributes : List Attribute)
-        → AreAttributesIn (drop INET_RESPONSE_HEADER_LEN payload.now) attributes
+        → AreInetReplyAttributes payload.now attributes
         → memory.new ≡ padded_or_truncated MEM_INFO_LEN
-        (first_of_type INET_DIAG_SKMEMINFO attributes) }
+        (first_value_of_type INET_DIAG_SKMEMINFO attributes) }
 {
     copy_first_value(payload, INET_DIAG_SKMEMINFO, memory)
 }
 
-// Copies the value of the first attribute of the kind after the header of a reply, truncated to `N`
-// bytes or followed by zeros. Returns its length, or 0 if there is none.
+// Copies the value of the first attribute of the kind after the header of a reply to `found`,
+// truncated to `N` bytes or followed by zeros. Returns the length of the whole value, or 0 if there
+// is none.
 fn copy_first_value<const N: usize>(payload: &[u8], kind: u16, found: &mut [u8; N]) -> usize
+    // `attributes`: those after the header, up to a framing error. `first_value_of_type`: the value
+    // of the first one of this type, or no bytes.
     ensures length { (attributes : List Attribute)
-        → AreAttributesIn (drop INET_RESPONSE_HEADER_LEN payload.now) attributes
-        → result ≡ length (first_of_type kind attributes) }
+        → AreInetReplyAttributes payload.now attributes
+        → result ≡ length (first_value_of_type kind attributes) }
     ensures bytes { (attributes : List Attribute)
-        → AreAttributesIn (drop INET_RESPONSE_HEADER_LEN payload.now) attributes
-        → found.new ≡ padded_or_truncated N (first_of_type kind attributes) }
+        → AreInetReplyAttributes payload.now attributes
+        → found.new ≡ padded_or_truncated N (first_value_of_type kind attributes) }
 {
     let value = first_value(bytes_from(payload, INET_RESPONSE_HEADER_LEN), kind);
     let len = value.len().min(N);
-    let (front, behind) = found.split_at_mut(len);
-    front.copy_from_slice(&value[..len]);
-    behind.fill(0);
+    let (value_part, zeros) = found.split_at_mut(len);
+    value_part.copy_from_slice(&value[..len]);
+    zeros.fill(0);
     value.len()
 }
 
-// Returns the value of the first attribute of the kind, or no bytes if there is none.
+// Returns the value of the first attribute of the kind, or no bytes if there is none before the end
+// or a framing error.
 fn first_value(bytes: &[u8], kind: u16) -> &[u8]
     ensures { (attributes : List Attribute) → AreAttributesIn bytes.entry.now attributes
-        → result.now ≡ first_of_type kind attributes }
+        → result.now ≡ first_value_of_type kind attributes }
 {
     for item in NlasIterator::new(bytes) {
         match item {

@@ -5,7 +5,7 @@ ghost use Rattle.netlink_core.specs.Attribute.{Attribute};
 ghost use Rattle.netlink_core.specs.AttributeSet.{decode_attribute};
 ghost use Rattle.sock_diag_attributes.specs.UnixAttributes.{unix_attribute_set};
 ghost use Rattle.sock_diag_attributes.specs.UnixModel.{unix_nla_view_model};
-ghost use Rattle.sockdiag_c.specs.Family.{DetailsAre, IsCodeOf, IsFirstError};
+ghost use Rattle.sockdiag_c.specs.Family.{AreDetailsOf, IsCodeOf, IsFirstError};
 ghost use Rattle.sockdiag_c.specs.UnixDetails.{unix_family, unix_rows};
 ghost use Rattle.sockdiag_c.specs.private.Rows.{AddsValues};
 
@@ -71,7 +71,9 @@ pub extern "C" fn sockdiag_unix_get_details<'a>(
     payload: &'a [u8],
     details: &mut UnixDetails<'a>,
 ) -> u32
-    ensures details { result ≡ 0 → DetailsAre unix_family payload.entry.now details.new }
+    // Result 0: the reply has no error, and the struct has its header and values, by the table
+    // `unix_family`. Else the result is the code (`IsCodeOf`) of the first error.
+    ensures details { result ≡ 0 → AreDetailsOf unix_family payload.entry.now details.new }
     ensures error { result ≢ 0 → IsCodeOf (IsFirstError unix_family payload.entry.now) result }
     ensures unchanged { result ≢ 0 → details.new ≡ details.old }
 {
@@ -82,9 +84,11 @@ impl<'a> UnixDetails<'a> {
     // Sets the fields of the attribute, unless an earlier attribute of its kind has set them.
     fn set(&mut self, nla: NlaView<'a>)
         ensures header { self.new.header ≡ self.old.header }
+        // The table of rows is about attributes, so the clause is for each attribute `a` that
+        // decodes to this value. `AddsValues`: the fields of `a` are set, unless they were set.
         ensures values { (a : Attribute)
             → decode_attribute unix_attribute_set a ≡ Ok (unix_nla_view_model nla.entry)
-            → AddsValues unix_rows a self.old self.new }
+            → AddsValues unix_rows a record { old = self.old; new = self.new } }
     {
         match nla {
             NlaView::Name(NameView::Pathname(path)) => self.name.set(TEXT, path),
@@ -98,12 +102,15 @@ impl<'a> UnixDetails<'a> {
                 self.recv_queue.set(first);
                 self.send_queue.set(second);
             }
+            // The port calls `SK_MEMINFO_SNDBUF` `max_datagram_size`, and `SK_MEMINFO_WMEM_QUEUED`
+            // `alloc`.
             NlaView::MemInfo(memory) => {
                 self.receive_buffer.set(memory.so_rcvbuf);
                 self.send_buffer.set(memory.max_datagram_size);
                 self.queued.set(memory.alloc);
             }
             NlaView::Shutdown(state) => self.shutdown.set(u32::from(state)),
+            // These have no field: other calls return pending connections and raw attributes.
             NlaView::PendingConnections(_) | NlaView::Other(_) => {}
         }
     }
@@ -114,10 +121,10 @@ impl<'a> ReplyDetails<'a> for UnixDetails<'a> {
 
     #[inline(always)]
     fn parse_header(payload: &'a [u8]) -> Result<(Self, &'a [u8]), DecodeError> {
-        let (header, rest) = split_header::<UnixResponseHeader>(payload)?;
-        let mut found = UnixDetails::default();
-        found.header = UnixHeader::from(header);
-        Ok((found, rest))
+        let (header, attributes) = split_header::<UnixResponseHeader>(payload)?;
+        let mut details = UnixDetails::default();
+        details.header = UnixHeader::from(header);
+        Ok((details, attributes))
     }
 
     #[inline(always)]

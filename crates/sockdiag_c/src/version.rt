@@ -26,12 +26,14 @@ pub extern "C" fn sockdiag_abi_1_0() -> u32
     1_000
 }
 
-/// Returns 1 if a header of this version is compatible with the library, else 0: if the first
-/// number of both versions is equal, and the second one of the header is not greater. A newer
-/// header may declare calls that the library lacks. `sockdiag_is_compatible` passes the version of
-/// the header that the program was compiled with.
+/// Returns 1 if a header of this version is compatible with the library, else 0. It is compatible
+/// if the first numbers of both versions are equal, and the second number of the header is not
+/// greater than that of the library. A newer header may declare calls that the library lacks.
+/// `sockdiag_is_compatible` passes the version of the header that the program was compiled with.
 #[unsafe(no_mangle)]
 pub extern "C" fn sockdiag_is_compatible_with(version: u32) -> u32
+    // The quotient by 1,000,000 is the first number of a version; the quotient by 1,000 has the
+    // first and the second one.
     ensures { IsOneIf ((version / 1000000 ≡ VERSION / 1000000) × (version / 1000 ≤ VERSION / 1000))
         result }
 {

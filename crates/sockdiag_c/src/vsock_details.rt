@@ -1,7 +1,7 @@
 //! The contents of a reply about a vsock socket: its header.
 
 ghost use Rattle.std.specs.Prelude.{◌≡◌, ◌≢◌};
-ghost use Rattle.sockdiag_c.specs.Family.{DetailsAre, IsCodeOf, IsFirstError};
+ghost use Rattle.sockdiag_c.specs.Family.{AreDetailsOf, IsCodeOf, IsFirstError};
 ghost use Rattle.sockdiag_c.specs.VsockDetails.{vsock_family};
 
 use crate::details::{ReplyDetails, store_details};
@@ -24,7 +24,9 @@ pub extern "C" fn sockdiag_vsock_get_details(
     payload: &[u8],
     details: &mut VsockResponseHeader,
 ) -> u32
-    ensures details { result ≡ 0 → DetailsAre vsock_family payload.now details.new }
+    // Result 0: the reply has no error, and the struct is its header; the table `vsock_family` has
+    // no rows for attributes. Else the result is the code (`IsCodeOf`) of the first error.
+    ensures details { result ≡ 0 → AreDetailsOf vsock_family payload.now details.new }
     ensures error { result ≢ 0 → IsCodeOf (IsFirstError vsock_family payload.now) result }
     ensures unchanged { result ≢ 0 → details.new ≡ details.old }
 {

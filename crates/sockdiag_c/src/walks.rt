@@ -3,7 +3,8 @@
 ghost use Rattle.std.specs.Prelude.{◌≡◌, drop};
 ghost use Rattle.netlink_core.specs.NetlinkMessage.{leading_error_number};
 ghost use Rattle.sockdiag_c.specs.Answers.{IsGetterResult};
-ghost use Rattle.sockdiag_c.specs.Walks.{NextAttribute, NextMessage, NextUncheckedMessage};
+ghost use Rattle.sockdiag_c.specs.Walks.{StepsOverAttribute, StepsOverMessage};
+ghost use Rattle.sockdiag_c.specs.Walks.{StepsOverUncheckedMessage};
 
 use crate::family_values::store;
 use netlink_core::{
@@ -70,26 +71,37 @@ pub struct MessageRange {
 
 const _: () = prove!(std::mem::size_of::<MessageRange>() == 32);
 
-/// Stores the attribute at the cursor, and advances the cursor past it and its padding. In a
-/// checked reply, starting at the end of its header, the return value is 1 for each attribute, in
-/// order, and then 0.
+/// Stores the attribute at the cursor, and advances the cursor past it and its padding. The value
+/// of the attribute is not checked. Returns one of:
+/// - 1 if an attribute was stored;
+/// - 0 if no bytes are left, and then nothing is written;
+/// - the code of the framing error at the cursor, 7 to 9; then the attribute is unchanged, and no
+///   bytes are left.
 ///
-/// Returns 1; or 0 if no bytes are left, and then nothing is written; or the code of the framing
-/// error there, 7 to 9, and then the attribute is unchanged and nothing is left. The value is not
-/// checked.
+/// In a checked reply, starting at the end of its header, the return value is 1 for each attribute,
+/// in order, and then 0.
 #[unsafe(no_mangle)]
 pub extern "C" fn sockdiag_next_attribute(
     bytes: &[u8],
     cursor: &mut Cursor,
     attribute: &mut AttributeRange,
 ) -> u32
-    ensures { NextAttribute bytes.now cursor.old cursor.new attribute.old attribute.new result }
+    // `StepsOverAttribute`: one of the three cases of the list above.
+    ensures { StepsOverAttribute record {
+      bytes = bytes.now;
+      old_cursor = cursor.old;
+      new_cursor = cursor.new;
+      old_item = attribute.old;
+      new_item = attribute.new;
+      returned = result;
+    } }
 {
     let offset = cursor.offset;
     if offset >= bytes.len() {
         return END;
     }
     match NlasIterator::new(&bytes[offset..]).next() {
+        // This does not occur, since bytes are left.
         None => END,
         Some(Ok(nla)) => {
             attribute.offset = offset + NLA_HEADER_SIZE;
@@ -112,8 +124,8 @@ pub extern "C" fn sockdiag_next_attribute(
 /// - 0 if no bytes are left, and then nothing is written;
 /// - the code of the first error of the payload of a message of any other type; the message is set,
 ///   and the iteration may continue;
-/// - the code of the framing error there, 16 to 18, and then the message is unchanged and nothing
-///   is left.
+/// - the code of the framing error at the cursor, 16 to 18; then the message is unchanged, and no
+///   bytes are left.
 ///
 /// The end of a dump, `NLMSG_DONE`, does not end the iteration. The answer to a request without
 /// `NLM_F_DUMP` is one message, and has no such end. Kernels put whole messages into a datagram: a
@@ -124,9 +136,18 @@ pub extern "C" fn sockdiag_next_message(
     cursor: &mut Cursor,
     message: &mut MessageRange,
 ) -> u32
-    ensures { NextMessage datagram.now cursor.old cursor.new message.old message.new result }
+    // `StepsOverMessage`: one of the four cases of the list above.
+    ensures { StepsOverMessage record {
+      bytes = datagram.now;
+      old_cursor = cursor.old;
+      new_cursor = cursor.new;
+      old_item = message.old;
+      new_item = message.new;
+      returned = result;
+    } }
 {
     let answer = sockdiag_next_any_message(datagram, cursor, message);
+    // No message was stored.
     if answer != ITEM {
         return answer;
     }
@@ -140,11 +161,13 @@ pub extern "C" fn sockdiag_next_message(
     }
 }
 
-/// Stores the message at the cursor, and advances the cursor past it and its padding. Returns 1,
-/// whatever the type and the payload of the message; or 0 if no bytes are left, and then nothing is
-/// written; or the code of the framing error there, 16 to 18, and then the message is unchanged and
-/// nothing is left. Then the rest of the datagram is lost, and with it possibly the end of the
-/// dump: request the dump again, on another socket, instead of waiting for its end.
+/// Stores the message at the cursor, and advances the cursor past it and its padding. Returns one
+/// of:
+/// - 1 if a message was stored, whatever its type and its payload;
+/// - 0 if no bytes are left, and then nothing is written;
+/// - the code of the framing error at the cursor, 16 to 18; then the message is unchanged, and no
+///   bytes are left. The rest of the datagram is lost, and with it possibly the end of the dump:
+///   request the dump again, on another socket, instead of waiting for its end.
 ///
 /// The payload is not checked. So a reply that is passed to `sockdiag_unix_get_details` or a
 /// similar call is checked only once. A reply that such a call rejects does not end a dump:
@@ -155,8 +178,15 @@ pub extern "C" fn sockdiag_next_any_message(
     cursor: &mut Cursor,
     message: &mut MessageRange,
 ) -> u32
-    ensures { NextUncheckedMessage datagram.now cursor.old cursor.new message.old message.new
-        result }
+    // `StepsOverUncheckedMessage`: one of the three cases of the list above.
+    ensures { StepsOverUncheckedMessage record {
+      bytes = datagram.now;
+      old_cursor = cursor.old;
+      new_cursor = cursor.new;
+      old_item = message.old;
+      new_item = message.new;
+      returned = result;
+    } }
 {
     let offset = cursor.offset;
     if offset >= datagram.len() {
@@ -164,6 +194,7 @@ pub extern "C" fn sockdiag_next_any_message(
     }
     match NetlinkHeader::from_prefix(&datagram[offset..]) {
         Ok(header) => {
+            // The length field counts the header: it is 16 or more, and within the datagram.
             let end = header.length as usize;
             *message = MessageRange {
                 offset: offset + NETLINK_HEADER_LEN,
@@ -195,12 +226,14 @@ pub extern "C" fn sockdiag_next_any_message(
 /// finds.
 #[unsafe(no_mangle)]
 pub extern "C" fn sockdiag_get_error_number(payload: &[u8], number: &mut i32) -> u32
-    ensures { IsGetterResult (leading_error_number payload.now) number.old number.new result }
+    // `leading_error_number`: the number in the first four bytes, or None if there are fewer.
+    ensures { IsGetterResult (leading_error_number payload.now)
+        record { old = number.old; new = number.new; returned = result } }
 {
     store(error_number(payload), number)
 }
 
-/// Returns the bytes from this offset on.
+/// Returns the bytes from this offset on; none if the offset is past the end.
 pub(crate) fn bytes_from(bytes: &[u8], offset: usize) -> &[u8]
     ensures { result.now ≡ drop offset bytes.entry.now }
 {

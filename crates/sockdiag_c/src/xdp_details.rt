@@ -1,7 +1,7 @@
 //! The contents of a reply about an XDP socket, as a C struct.
 
 ghost use Rattle.std.specs.Prelude.{◌≡◌, ◌≢◌};
-ghost use Rattle.sockdiag_c.specs.Family.{DetailsAre, IsCodeOf, IsFirstError};
+ghost use Rattle.sockdiag_c.specs.Family.{AreDetailsOf, IsCodeOf, IsFirstError};
 ghost use Rattle.sockdiag_c.specs.XdpDetails.{xdp_family};
 
 use crate::details::{Number, ReplyDetails, store_details};
@@ -68,7 +68,9 @@ const _: () = prove!(std::mem::size_of::<XdpDetails>() == 240);
 /// One rejected attribute hides the others: `sockdiag_xdp_get_lenient_details` returns them.
 #[unsafe(no_mangle)]
 pub extern "C" fn sockdiag_xdp_get_details(payload: &[u8], details: &mut XdpDetails) -> u32
-    ensures details { result ≡ 0 → DetailsAre xdp_family payload.now details.new }
+    // Result 0: the reply has no error, and the struct has its header and values, by the table
+    // `xdp_family`. Else the result is the code (`IsCodeOf`) of the first error.
+    ensures details { result ≡ 0 → AreDetailsOf xdp_family payload.now details.new }
     ensures error { result ≢ 0 → IsCodeOf (IsFirstError xdp_family payload.now) result }
     ensures unchanged { result ≢ 0 → details.new ≡ details.old }
 {
@@ -80,10 +82,10 @@ impl<'a> ReplyDetails<'a> for XdpDetails {
 
     #[inline(always)]
     fn parse_header(payload: &'a [u8]) -> Result<(Self, &'a [u8]), DecodeError> {
-        let (header, rest) = split_header(payload)?;
-        let mut found = XdpDetails::default();
-        found.header = header;
-        Ok((found, rest))
+        let (header, attributes) = split_header(payload)?;
+        let mut details = XdpDetails::default();
+        details.header = header;
+        Ok((details, attributes))
     }
 
     fn set_value(&mut self, nla: &NlaBuffer<'a>) -> Result<(), DecodeError> {

@@ -1,13 +1,21 @@
 -- The fields of a struct after one more attribute.
 use Rattle.std.specs.Prelude.{◌≡◌, List, [], ◌∷◌, Option, ⊤}
 use Rattle.netlink_core.specs.Attribute.{Attribute}
-use Rattle.sockdiag_c.specs.Family.{Row, first_present, value_in}
+use Rattle.sockdiag_c.specs.Family.{StructRow, first_present, value_in}
 
--- AddsValues rows a old new: for each row, if the struct `old` has a value `o` or zeros (None), the
--- struct `new` has `o`, or else the value of the attribute `a`
-abbrev pub AddsValues : {D : Type 0} → List (Row D) → Attribute → D → D → Type 0
-AddsValues [] a old new = ⊤
-AddsValues (row ∷ others) a old new =
-    ((o : Option row.Value) → row.fields old ≡ row.contents o
-    → row.fields new ≡ row.contents (first_present o (value_in row a)))
-    × AddsValues others a old new
+-- A struct of C before and after one more attribute.
+pub record Change (D : Type 0) : Type 0 where
+  pub old : D
+  pub new : D
+
+-- AddsValues rows a change: the values of the attribute `a` are added to the struct. For each row:
+-- if the struct had a value (`o`), it still has it. If it had none (`o` is None, the fields are
+-- zeros), it has the value of `a` for this row, if there is one. `row.contents o` is what the
+-- fields contain for `o`. Fields that contain neither a value nor zeros do not occur, and nothing
+-- is stated of them.
+abbrev pub AddsValues : {D : Type 0} → List (StructRow D) → Attribute → Change D → Type 0
+AddsValues [] a change = ⊤
+AddsValues (row ∷ others) a change =
+    ((o : Option row.Value) → row.fields change.old ≡ row.contents o
+    → row.fields change.new ≡ row.contents (first_present o (value_in row a)))
+    × AddsValues others a change

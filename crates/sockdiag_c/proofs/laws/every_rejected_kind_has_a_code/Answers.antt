@@ -3,8 +3,9 @@ use Rattle.netlink_core.specs.Layout.{parse_record}
 use Rattle.netlink_core.specs.Parse.{number_of_width}
 use Rattle.sock_diag_attributes.specs.InetAttributes.{inet_attribute_set}
 use Rattle.sock_diag_attributes.specs.UnixAttributes.{unix_attribute_set}
-use Rattle.sock_diag_families.specs.PacketAttributes.{packet_info, packet_ring}
-use Rattle.sock_diag_families.specs.XdpAttributes.{xdp_info, xdp_statistics, xdp_umem}
+use Rattle.sock_diag_families.specs.PacketAttributes.{parse_packet_info, parse_packet_ring}
+use Rattle.sock_diag_families.specs.XdpAttributes.{parse_xdp_info, parse_xdp_statistics}
+use Rattle.sock_diag_families.specs.XdpAttributes.{parse_xdp_umem}
 use Rattle.sock_diag_values.specs.MemInfo.{mem_info}
 use Rattle.sockdiag_c.specs.NetlinkDetails.{netlink_family}
 use Rattle.sockdiag_c.specs.PacketDetails.{packet_family}
@@ -32,13 +33,13 @@ returns-clause-netlink c a = rejected_by_rows_is_below 32 netlink_family.rows a 
 
 pub returns-clause-packet : goal.returns-clause-packet
 returns-clause-packet c a = rejected_by_rows_is_below 32 packet_family.rows a (
-  kind_is_below (packet_info) 0 32 a (omega arith),
+  kind_is_below (parse_packet_info) 0 32 a (omega arith),
   (
     kind_is_below (λ bytes. Ok (3, bytes)) 1 32 a (omega arith),
     (
-      kind_is_below (packet_ring 2) 2 32 a (omega arith),
+      kind_is_below (parse_packet_ring 2) 2 32 a (omega arith),
       (
-        kind_is_below (packet_ring 3) 3 32 a (omega arith),
+        kind_is_below (parse_packet_ring 3) 3 32 a (omega arith),
         (
           kind_is_below (number_of_width (Some 4) 4) 4 32 a (omega arith),
           (
@@ -56,7 +57,7 @@ returns-clause-packet c a = rejected_by_rows_is_below 32 packet_family.rows a (
 
 pub returns-clause-xdp : goal.returns-clause-xdp
 returns-clause-xdp c a = rejected_by_rows_is_below 32 xdp_family.rows a (
-  kind_is_below (xdp_info) 1 32 a (omega arith),
+  kind_is_below (parse_xdp_info) 1 32 a (omega arith),
   (
     kind_is_below (number_of_width (Some 2) 4) 2 32 a (omega arith),
     (
@@ -64,14 +65,14 @@ returns-clause-xdp c a = rejected_by_rows_is_below 32 xdp_family.rows a (
       (
         kind_is_below (number_of_width (Some 4) 4) 4 32 a (omega arith),
         (
-          kind_is_below (xdp_umem) 5 32 a (omega arith),
+          kind_is_below (parse_xdp_umem) 5 32 a (omega arith),
           (
             kind_is_below (number_of_width (Some 6) 4) 6 32 a (omega arith),
             (
               kind_is_below (number_of_width (Some 7) 4) 7 32 a (omega arith),
               (
                 kind_is_below (parse_record mem_info tt) 8 32 a (omega arith),
-                (kind_is_below (xdp_statistics) 9 32 a (omega arith), tt),
+                (kind_is_below (parse_xdp_statistics) 9 32 a (omega arith), tt),
               ),
             ),
           ),

@@ -18,5 +18,5 @@ returns-clause-bytes g c attributes cut =
     (sym c.bytes_from.ensures) cut) in
     rw (front, zeros) (padded_or_truncated_is g.row.N _ c.min-len.result _
     c.min-len.ensures
-    (c.split_at_mut-front.ensures.back_len ∙ omega arith))
+    (c.split_at_mut-value_part.ensures.back_len ∙ omega arith))
     ∙ ap (padded_or_truncated g.row.N) value

@@ -9,6 +9,6 @@ returns c =
       arith,
       request_length_with_attributes,
       bytes_after_record_length,
-      c.front_len.ensures.all,
+      c.request_len.ensures.all,
       c.padded.ensures,
     )

@@ -3,13 +3,13 @@ use Rattle.sockdiag_c.proofs.FilteredRequests.{bytes_after_record_length}
 use Rattle.sockdiag_c.proofs.FilteredRequests.{request_length_with_attributes}
 use Rattle.sockdiag_c.proofs.filters.FilteredRequestEmitable.emit.Goals as goal
 
-pub split_at_mut-front-requires : goal.split_at_mut-front-requires
-split_at_mut-front-requires c =
+pub split_at_mut-request_part-requires : goal.split_at_mut-request_part-requires
+split_at_mut-request_part-requires c =
     grind (
       arith,
       request_length_with_attributes,
       bytes_after_record_length,
-      c.front_len.ensures.all,
+      c.request_len.ensures.all,
     )
 
 pub overflow_cast-len : goal.overflow_cast-len
