@@ -12,21 +12,22 @@ use std::io::{self, ErrorKind, Write};
 use std::process::Abort;
 
 /// Prefix of each line on standard error.
-const NAME: &str = "sslist: ";
+const LINE_PREFIX: &str = "sslist: ";
 
 /// A writer that accepts at most nine bytes per call. It records whether its last call was a flush.
+/// A flush fails with the error in `flush_fails`, if there is one.
 #[derive(Drop)]
-struct Flushed {
-    taken: Vec<u8>,
+struct SlowWriter {
+    written: Vec<u8>,
     is_flushed: bool,
     flush_fails: Option<ErrorKind>,
 }
 
-impl Write for Flushed {
+impl Write for SlowWriter {
     fn write(&mut self, buf: &[u8]) -> io::Result<usize> {
         self.is_flushed = false;
         let part = &buf[..buf.len().min(9)];
-        self.taken.extend_from_slice(part)?;
+        self.written.extend_from_slice(part)?;
         Ok(part.len())
     }
 
@@ -39,9 +40,10 @@ impl Write for Flushed {
     }
 }
 
-fn taker(alloc: Global) -> Flushed {
-    Flushed {
-        taken: Vec::new(alloc),
+/// Returns a writer that has received no bytes, and whose flush does not fail.
+fn slow_writer(alloc: Global) -> SlowWriter {
+    SlowWriter {
+        written: Vec::new(alloc),
         is_flushed: false,
         flush_fails: None,
     }
@@ -51,35 +53,38 @@ fn taker(alloc: Global) -> Flushed {
 #[test]
 fn errors_of_a_run_have_texts(rt: HostRuntime) {
     let (packet, error) = (2, CaptureError::Read(ReadError::Other));
-    let (cut, memory) = (ListError::Packet { packet, error }, ListError::Memory);
-    let (lack, folder, bad) = (
+    let (in_packet, memory) = (ListError::Packet { packet, error }, ListError::Memory);
+    let (capture_memory, directory, os_error) = (
         CaptureError::Memory,
         CaptureError::Read(ReadError::Directory),
         CaptureError::Read(ReadError::Os(5)),
     );
-    let text = format!(in rt.alloc(); "{cut}, {memory}, {lack}, {folder}, {bad}");
+    let text = format!(in rt.alloc();
+        "{in_packet}, {memory}, {capture_memory}, {directory}, {os_error}"
+    );
     let text = text.expect(&rt, "memory");
-    let want = "packet 2: reading failed, out of memory, out of memory, \
+    let expected_text = "packet 2: reading failed, out of memory, out of memory, \
 the input is a directory; name the captures in it, reading failed (os error 5: input/output error)";
-    assert!(rt; text.as_str() == want);
+    assert!(rt; text.as_str() == expected_text);
     let (full, closed) = (
         ListError::Write(WriteError::Os(28)),
         ListError::Write(WriteError::Closed),
     );
-    let (other, old) = (
+    let (no_capture, version) = (
         CaptureError::NoCapture(0xa0b),
         CaptureError::OtherVersion(1),
     );
-    let text = format!(in rt.alloc(); "{full}, {closed}, {other}, {old}").expect(&rt, "memory");
-    let want = "writing to standard output failed (os error 28: no space left on device), \
+    let text = format!(in rt.alloc(); "{full}, {closed}, {no_capture}, {version}");
+    let text = text.expect(&rt, "memory");
+    let expected_text = "writing to standard output failed (os error 28: no space left on device), \
 the output pipe is closed, \
 not a capture (pcap or pcapng, as tcpdump -w writes): it begins with 0x00000a0b, \
 unsupported pcap version 1, expected 2";
-    assert!(rt; text.as_str() == want);
+    assert!(rt; text.as_str() == expected_text);
 }
 
 /// Checks that `sslist` shows a decode error by the text of its `Display`.
-fn has_the_text_of(rt: &impl Abort, alloc: Global, error: DecodeError) {
+fn assert_shown_by_display(rt: &impl Abort, alloc: Global, error: DecodeError) {
     let text = format!(in alloc; "{error}").expect(rt, "memory");
     let mut shown = Vec::new(alloc);
     push_decode_error(&mut shown, &error).expect(rt, "memory");
@@ -91,7 +96,7 @@ fn has_the_text_of(rt: &impl Abort, alloc: Global, error: DecodeError) {
 fn decode_errors_have_their_own_texts(rt: HostRuntime) {
     let (family, message_type, kind) = (3, 21, Some(6));
     let (got, need, left, index) = (5, 72, 2, 9);
-    let faults = [
+    let decode_errors = [
         DecodeError::Memory,
         DecodeError::UnsupportedFamily { family },
         DecodeError::MessageTooShort { got },
@@ -110,8 +115,8 @@ fn decode_errors_have_their_own_texts(rt: HostRuntime) {
         DecodeError::EnvelopeLengthUnder16 { length: 7 },
         DecodeError::EnvelopeLengthPast { length: 40, got },
     ];
-    for error in faults {
-        has_the_text_of(&rt, rt.alloc(), error);
+    for error in decode_errors {
+        assert_shown_by_display(&rt, rt.alloc(), error);
     }
     let records = [
         RecordName::SocketId,
@@ -129,7 +134,7 @@ fn decode_errors_have_their_own_texts(rt: HostRuntime) {
         RecordName::FamilyAttribute { family, kind: 6 },
     ];
     for which in records {
-        has_the_text_of(
+        assert_shown_by_display(
             &rt,
             rt.alloc(),
             DecodeError::BufferTooSmall { which, got, need },
@@ -137,7 +142,8 @@ fn decode_errors_have_their_own_texts(rt: HostRuntime) {
     }
 }
 
-/// A packet of another protocol with the greatest length is skipped. A failed flush fails the run.
+/// A packet of another protocol with the greatest length is skipped: its bytes are zeros, and
+/// `NETLINK_SOCK_DIAG` is 4. A failed flush fails the run.
 #[test]
 fn ends_of_a_run(rt: HostRuntime) {
     let alloc = rt.alloc();
@@ -148,25 +154,27 @@ fn ends_of_a_run(rt: HostRuntime) {
     let mut capture = hex::decode(alloc, headers).expect(&rt, "digits");
     let end = capture.len().saturating_add(0x40000);
     capture.resize(end, 0).expect(&rt, "memory");
-    let (mut output, mut errors, mut is_open) = (taker(alloc), taker(alloc), true);
+    let (mut output, mut errors) = (slow_writer(alloc), slow_writer(alloc));
+    // `run` writes diagnostics as long as this is set, and clears it if a write of them fails.
+    let mut is_open = true;
     let (options, mut input) = (Options::default(), capture.as_slice());
     let outcome = run(
         alloc,
         options,
-        NAME,
+        LINE_PREFIX,
         HEADING,
         &mut input,
         &mut output,
         &mut errors,
         &mut is_open,
     );
-    assert!(rt; outcome == Ok(true) && output.is_flushed && output.taken.as_slice() == HEADING);
+    assert!(rt; outcome == Ok(true) && output.is_flushed && output.written.as_slice() == HEADING);
     output.flush_fails = Some(ErrorKind::Other);
     let (options, mut input) = (Options::default(), capture.as_slice());
     let outcome = run(
         alloc,
         options,
-        NAME,
+        LINE_PREFIX,
         HEADING,
         &mut input,
         &mut output,
@@ -177,7 +185,15 @@ fn ends_of_a_run(rt: HostRuntime) {
     // A closed output pipe is not reported.
     output.flush_fails = Some(ErrorKind::BrokenPipe);
     let mut input = capture.as_slice();
-    let (output, errors_to) = (&mut output, &mut errors);
-    let _status = run_to_status(alloc, options, NAME, HEADING, &mut input, output, errors_to);
-    assert!(rt; errors.taken.is_empty());
+    let (to_output, to_errors) = (&mut output, &mut errors);
+    let _status = run_to_status(
+        alloc,
+        options,
+        LINE_PREFIX,
+        HEADING,
+        &mut input,
+        to_output,
+        to_errors,
+    );
+    assert!(rt; errors.written.is_empty());
 }

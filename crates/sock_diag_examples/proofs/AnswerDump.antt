@@ -150,9 +150,11 @@ module _ (round_trips : (v : NetlinkMessageModel Message)
       → IsMessageWithItem (reply_message_bytes n r) (Ok (InnerMessage (reply_as_message r)))
   item_of_reply_message even n small r found =
       item_of_payload_message n (InnerMessage (reply_as_message r)) (
-        header_in_range n (InnerMessage (reply_as_message r)) small found.short (omega arith),
-        found.in_range,
-      ) (found.fits, found.short) (refl, inr refl, found.normal) (even r found.in_range)
+        header_in_range n (InnerMessage (reply_as_message r)) small found.fits_length_field
+            (omega arith),
+        found.is_in_range,
+      ) (found.is_writable, found.fits_length_field) (refl, inr refl, found.is_normal)
+      (even r found.is_in_range)
 
   items_of_reply_messages : ((v : ReplyValue unix_response_spec)
       → (response_codec unix_response_spec).is_in_range v
@@ -207,7 +209,7 @@ pub answer_is_complete_dump : ((v : NetlinkMessageModel Message)
     → IsCompleteDump datagram replies
 answer_is_complete_dump round_trips even concatenation request replies datagram answer found =
     let n = answer.header.sequence_number in
-    let small = answer.framed.1.1.1.1.0 in
+    let small = answer.has_header.1.1.1.1.0 in
     let ends = one_item_of_message (done_message_bytes n) (Ok (Done (0 ∷ 0 ∷ 0 ∷ 0 ∷ [])))
     (item_of_done_message round_trips n small) in
     let items = map (λ (r : ReplyValue unix_response_spec). Ok (InnerMessage (reply_as_message r)))
@@ -222,7 +224,7 @@ answer_is_complete_dump round_trips even concatenation request replies datagram 
         items ∷ [],
         (
           subst (λ (bytes : List ℕ). AreItemsOf (IsItemOf message_codec) bytes items)
-              (sym answer.written) all,
+              (sym answer.serialized) all,
           tt,
         ),
         rw append-nil (

@@ -124,19 +124,19 @@ counts_to datagram left later count item answer in_range c (message bytes s is) 
     record {
       passed = c.passed;
       later = item ∷ all.0;
-      are = all.1;
-      go_on = c.go_on;
-      ends = subst (λ n. IsCountAtEnd n (item ∷ all.0) answer) c.counted (ends all.0);
+      are_items = all.1;
+      no_end_before = c.go_on;
+      is_count = subst (λ n. IsCountAtEnd n (item ∷ all.0) answer) c.counted (ends all.0);
     }
 counts_to datagram left later count item answer in_range c (no_message e is some error) ends =
     record {
       passed = c.passed;
       later = item ∷ [];
-      are = c.walk.items (item ∷ []) (subst (λ (i : Item Message).
+      are_items = c.walk.items (item ∷ []) (subst (λ (i : Item Message).
           AreItemsOf (IsItemOf message_codec) left (i ∷ []))
           (sym is) (error_is_only_item (IsItemOf message_codec) left e some error));
-      go_on = c.go_on;
-      ends = subst (λ n. IsCountAtEnd n (item ∷ []) answer) c.counted (ends []);
+      no_end_before = c.go_on;
+      is_count = subst (λ n. IsCountAtEnd n (item ∷ []) answer) c.counted (ends []);
     }
 
 -- the count is returned if nothing is left
@@ -145,8 +145,8 @@ pub counts_all : (datagram left : List ℕ) (count : ℕ) → Counting datagram 
 counts_all datagram left count c none = record {
   passed = c.passed;
   later = [];
-  are = c.walk.items [] (subst (λ (b : List ℕ). AreItemsOf (IsItemOf message_codec) b []) (sym none)
-      (no_items (IsItemOf message_codec)));
-  go_on = c.go_on;
-  ends = ap (λ n. Ok (Some n)) c.counted;
+  are_items = c.walk.items [] (subst (λ (b : List ℕ).
+      AreItemsOf (IsItemOf message_codec) b []) (sym none) (no_items (IsItemOf message_codec)));
+  no_end_before = c.go_on;
+  is_count = ap (λ n. Ok (Some n)) c.counted;
 }

@@ -35,7 +35,7 @@ listening_request family sequence_number = record {
   };
   payload = InnerMessage (message_of inet_request (record {
     family = family_number family;
-    protocol = 6;
+    protocol = c.IPPROTO_TCP;
     extensions = record { 0 = 0 };
     states = record { 0 = 0x400 };
     socket_id = record {

@@ -36,6 +36,6 @@ pub record AreLinesOf (datagram : List ℕ) (lines : List Line) : Type 0 where
   -- the payload or the decode error of each message, in order; last, if bytes are left that are not
   -- a message, their decode error
   pub items : List (Result (Payload Message) DecodeError)
-  pub are : AreItemsOf (IsItemOf message_codec) datagram items
+  pub are_items : AreItemsOf (IsItemOf message_codec) datagram items
   -- the lines of the items that have one
-  pub found : lines ≡ filter_map line_of items
+  pub are_lines : lines ≡ filter_map line_of items

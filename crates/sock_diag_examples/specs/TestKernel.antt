@@ -1,6 +1,6 @@
 -- The answers of the kernel for tests.
 use Rattle.std.specs.Prelude.{◌≡◌, ◌≢◌, ℕ, ◌+◌, ◌-◌, ◌≤◌, List, [], ◌∷◌, ◌++◌, length, map, take}
-use Rattle.std.specs.Prelude.{drop, Ok, Err, Some, pos}
+use Rattle.std.specs.Prelude.{drop, Result, Ok, Err, Some, pos}
 use Rattle.std.specs.List.{AllByRecursion, flat_map}
 use Rattle.netlink_core.specs.declared.header.NetlinkHeader.{NetlinkHeader}
 use Rattle.netlink_core.specs.declared.header.TheConstants.{NETLINK_HEADER_LEN}
@@ -27,14 +27,14 @@ use Rattle.sock_diag_examples.specs.declared.test_kernel.AnswerError.{AnswerErro
 use Rattle.sock_diag_examples.specs.declared.test_kernel.AnswerError.TheVariants as errors
 
 -- `numbered_message_bytes sequence_number payload`: the bytes of the netlink message with this
--- payload and sequence number. Its length and its type are those of the payload (20,
--- SOCK_DIAG_BY_FAMILY, for an inner message), its flags are NLM_F_MULTI (one of several messages),
+-- payload and sequence number. Its length and its type are those of the payload
+-- (SOCK_DIAG_BY_FAMILY for an inner message), its flags are NLM_F_MULTI (one of several messages),
 -- and its port id is 0.
 unfoldable pub numbered_message_bytes : ℕ → Payload Message → List ℕ
 numbered_message_bytes sequence_number payload = netlink_message_codec.serialized (record {
   header = record {
     length = NETLINK_HEADER_LEN + length (payload_bytes message_codec.serialized payload);
-    message_type = payload_type (λ _. 20) payload;
+    message_type = payload_type (λ _. SOCK_DIAG_BY_FAMILY) payload;
     flags = NLM_F_MULTI;
     sequence_number = sequence_number;
     port_number = 0;
@@ -53,6 +53,13 @@ abbrev pub done_message_bytes : ℕ → List ℕ
 done_message_bytes sequence_number =
     numbered_message_bytes sequence_number (netlink.Done (0 ∷ 0 ∷ 0 ∷ 0 ∷ []))
 
+-- `parsed_request header bytes`: the payload of the netlink message with this header at the start
+-- of the bytes, parsed as a request for UNIX sockets. It follows the 16 bytes of the header, up to
+-- the length of the message. The parser has no parameter (`tt`).
+abbrev pub parsed_request : NetlinkHeader → List ℕ → Result UnixRequest DecodeError
+parsed_request header bytes =
+    parse_record unix_request tt (take (header.length - 16) (drop 16 bytes))
+
 -- `IsAnswer request replies datagram`: the request starts with a netlink message of type
 -- SOCK_DIAG_BY_FAMILY, whose payload parses as a request for UNIX sockets. The datagram is the
 -- messages of the replies, in order, and then NLMSG_DONE, all with the sequence number of the
@@ -62,24 +69,25 @@ pub record IsAnswer (request : List ℕ) (replies : List (ReplyValue unix_respon
   -- the netlink header of the request
   pub header : NetlinkHeader
   -- the request for UNIX sockets; it does not select among the replies
-  pub asked : UnixRequest
-  pub framed : HasHeader request header
-  pub kind : header.message_type ≡ SOCK_DIAG_BY_FAMILY
-  -- the payload, as long as the header's length field says, parses as this request
-  pub asks : parse_record unix_request tt (take (header.length - 16) (drop 16 request)) ≡ Ok asked
+  pub requested : UnixRequest
+  pub has_header : HasHeader request header
+  pub has_type : header.message_type ≡ SOCK_DIAG_BY_FAMILY
+  pub parses : parsed_request header request ≡ Ok requested
   -- one message for each reply, then the end
-  pub written : datagram ≡ flat_map (reply_message_bytes header.sequence_number) replies
+  pub serialized : datagram ≡ flat_map (reply_message_bytes header.sequence_number) replies
       ++ done_message_bytes header.sequence_number
 
--- `RejectsUnixRequest request e`: the request is rejected with the error `e`: its bytes do not
--- start with a netlink message; or the message has another type than SOCK_DIAG_BY_FAMILY; or its
--- payload, the bytes from offset 16 to its length, is rejected as a request for UNIX sockets.
+-- `RejectsUnixRequest request e`: the request is rejected with the error `e`, for one of these
+-- reasons:
+-- - `no_message`: its bytes do not start with a netlink message.
+-- - `other_type`: the message has another type than SOCK_DIAG_BY_FAMILY.
+-- - `no_request`: its payload is rejected as a request for UNIX sockets.
 pub data RejectsUnixRequest (request : List ℕ) (e : DecodeError) : Type 0 where
   no_message : IsMessageError request e → RejectsUnixRequest request e
   other_type : (h : NetlinkHeader) → HasHeader request h → h.message_type ≢ SOCK_DIAG_BY_FAMILY
       → e ≡ UnknownMessageType h.message_type → RejectsUnixRequest request e
   no_request : (h : NetlinkHeader) → HasHeader request h → h.message_type ≡ SOCK_DIAG_BY_FAMILY
-      → parse_record unix_request tt (take (h.length - 16) (drop 16 request)) ≡ Err e
+      → parsed_request h request ≡ Err e
       → RejectsUnixRequest request e
 
 -- `IsWritableMessage payload`: a message with this payload is writable: its inner message is
@@ -88,20 +96,19 @@ abbrev pub IsWritableMessage : Payload Message → Type 0
 IsWritableMessage payload = HoldsOfInnerMessage message_codec.is_writable payload
     × (16 + length (payload_bytes message_codec.serialized payload) ≤ 4294967295)
 
--- the message of the reply is writable
+-- `IsWritableReplyMessage reply`: the message of the reply is writable
 abbrev pub IsWritableReplyMessage : ReplyValue unix_response_spec → Type 0
 IsWritableReplyMessage reply =
     IsWritableMessage (netlink.InnerMessage (message_of unix_response reply))
 
 -- `IsUnixRequestMessage request`: the request starts with a netlink message of type
--- SOCK_DIAG_BY_FAMILY whose payload, the bytes from offset 16 to its length, parses as a request
--- for UNIX sockets
+-- SOCK_DIAG_BY_FAMILY whose payload parses as a request for UNIX sockets
 abbrev pub IsUnixRequestMessage : List ℕ → Type 0
-IsUnixRequestMessage request = (h : NetlinkHeader) × (asked : UnixRequest)
+IsUnixRequestMessage request = (h : NetlinkHeader) × (requested : UnixRequest)
     × HasHeader request h × (h.message_type ≡ SOCK_DIAG_BY_FAMILY)
-    × (parse_record unix_request tt (take (h.length - 16) (drop 16 request)) ≡ Ok asked)
+    × (parsed_request h request ≡ Ok requested)
 
--- `AnswerFails request replies e`: why there is no answer, by the error:
+-- `AnswerFails request replies error`: what holds if `answer` returns this error:
 -- - `Request e`: the request is rejected with `e`.
 -- - `Unwritable`: the request is accepted, and the message of some reply is not writable.
 -- - `Memory`: the request is accepted, and an allocation failed.
@@ -111,19 +118,21 @@ AnswerFails request replies errors.Unwritable =
     IsUnixRequestMessage request × ¬ AllByRecursion IsWritableReplyMessage replies
 AnswerFails request replies errors.Memory = IsUnixRequestMessage request
 
--- a reply as parsers return it, whose message is writable
+-- `IsWritableReply reply`: a reply as parsers return it, whose message is writable. Parsers of
+-- replies have no parameter (`tt`).
 pub record IsWritableReply (reply : ReplyValue unix_response_spec) : Type 0 where
   -- each number fits its field
-  pub in_range : (response_codec unix_response_spec).is_in_range reply
-  pub normal : (response_codec unix_response_spec).is_normal tt reply
+  pub is_in_range : (response_codec unix_response_spec).is_in_range reply
+  pub is_normal : (response_codec unix_response_spec).is_normal tt reply
   -- each attribute fits `nla_len`, and the reply has at most 4,294,967,295 bytes
-  pub fits : (response_codec unix_response_spec).is_writable reply
+  pub is_writable : (response_codec unix_response_spec).is_writable reply
   -- the message, with its header of 16 bytes, fits `nlmsg_len`
-  pub short : 16 + length (response_bytes unix_response_spec reply) ≤ 4294967295
+  pub fits_length_field : 16 + length (response_bytes unix_response_spec reply) ≤ 4294967295
 
--- `IsCompleteDump datagram replies`: the dump over the datagram ends with NLMSG_DONE and error
--- number 0 (`pos 0`), and its messages are these replies
+-- `IsCompleteDump datagram replies`: the dump over this datagram has exactly these replies as
+-- messages: none before it (`[]`), and no other ones. It ends with NLMSG_DONE and error number 0
+-- (`pos 0`).
 pub record IsCompleteDump (datagram : List ℕ) (replies : List (ReplyValue unix_response_spec))
     : Type 0 where
-  pub dump : DumpOfDatagrams (IsItemOf message_codec) [] (datagram ∷ [])
-      (map (message_of unix_response) replies) (Ok (Done, Some (pos 0)))
+  pub dump : DumpOfDatagrams (IsItemOf message_codec) ([], datagram ∷ [])
+      (map (message_of unix_response) replies, Ok (Done, Some (pos 0)))

@@ -11,8 +11,8 @@ use Rattle.sock_diag_replies.specs.declared.response.Reply.{Reply}
 use Rattle.sock_diag_replies.specs.ResponseModel.{response_model}
 use Rattle.sock_diag_replies.specs.UnixResponseSpec.{unix_response_spec}
 
--- `unix_response_model reply`: the model of an owned reply about a UNIX socket: the same header,
--- and the model of each attribute, in which lists and names have no capacity
+-- `unix_response_model reply`: the model of an owned reply about a UNIX socket: the same header (`λ
+-- h. h`), and the model of each attribute, in which lists and names have no capacity
 abbrev pub unix_response_model : Reply UnixResponseHeader
     (UnixNla (SocketName (Vec ℕ Global)) (Vec ℕ Global) DefaultNla) → ReplyValue unix_response_spec
 unix_response_model = response_model (λ h. h) unix_nla_model

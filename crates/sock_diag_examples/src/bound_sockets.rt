@@ -17,11 +17,11 @@ use sock_diag_replies::unix::nlas::NameView;
 /// Returns `false` if there is no such attribute, or if it is an abstract name. Returns the first
 /// decode error if the reply is invalid.
 pub fn is_bound_to(reply: &[u8], path: &[u8]) -> Result<bool, DecodeError>
-    // `v`: the value that the reply parses as. `value_of_kind`: the value of an attribute of this
-    // kind.
+    // `v`: the value that the reply parses as; its codec has no parameter (`tt`).
+    // `first_content_of`: the value of the first attribute of this kind.
     ensures value { IfOk result (λ bound.
-        (v : ReplyValue unix_response_spec) × (response_codec unix_response_spec).parses reply.now
-        tt v
+        (v : ReplyValue unix_response_spec)
+        × (response_codec unix_response_spec).parses reply.now tt v
         × (IsTrue bound
         ↔ (first_content_of (value_of_kind unix_attribute_set UNIX_DIAG_NAME) v.nlas
         ≡ Some (Pathname path.now)))) }

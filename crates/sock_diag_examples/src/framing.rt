@@ -6,8 +6,9 @@ ghost use Rattle.netlink_core.specs.Attribute.{IsFramingError};
 
 use netlink_core::{DecodeError, NlasIterator};
 
-/// Counts the attributes that the bytes consist of, without parsing their values. Returns the first
-/// framing error if, after some attributes or none, bytes are left that do not start with one.
+/// Returns the number of attributes that the bytes consist of, without parsing their values. If
+/// zero or more attributes (`before` in the contract) are followed by bytes that do not start with
+/// an attribute, returns the framing error of these bytes.
 #[tactic(auto, using(crate::proofs::Counted::counting_rules))]
 pub fn count_attributes(bytes: &[u8]) -> Result<usize, DecodeError>
     ensures count { IfOk result (λ count. (attributes : List Attribute)

@@ -24,7 +24,7 @@ pub const IFLA_IFNAME: u16 = 3;
 pub const IFLA_MTU: u16 = 4;
 
 /// Length of `struct ifinfomsg` in bytes; the attributes follow it.
-const HEADER: usize = 16;
+const IFINFOMSG_LEN: usize = 16;
 
 /// Name and MTU of an interface, from a message of type `RTM_NEWLINK`.
 #[derive(Debug, Drop, PartialEq, Eq)]
@@ -49,6 +49,7 @@ pub enum LinkError {
 }
 
 impl From<DecodeError> for LinkError {
+    // `e`: what `from` returns for the error.
     ghost from_gives = { λ error e. e ≡ link_error_of error };
 
     fn from(error: DecodeError) -> LinkError {
@@ -65,22 +66,25 @@ impl From<DecodeError> for LinkError {
 ///   UTF-8, or an MTU that does not have four bytes. Or `e` is `Memory`, if an allocation for a
 ///   name failed.
 pub fn parse_link(alloc: Global, payload: &[u8]) -> Result<Link, LinkError>
-    // `found`: what each attribute decodes to, in order. `last_or None`: the last element of a
-    // list.
+    // `found`: what each attribute decodes to (`decodes_link`), in order; the attributes follow the
+    // 16 bytes of `struct ifinfomsg`. `name_in`, `mtu_in`: the name or the MTU, if it decodes to
+    // one. `last_or None`: the last element of a list, or `None` if it is empty. `string_content`:
+    // the bytes of a `String`, if there is one.
     ensures value { IfOk result (λ link. (found : List LinkAttribute) × (16 ≤ length payload.now)
         × DecodeTo decodes_link (drop 16 payload.now) found
         × (string_content link.name ≡ last_or None (filter_map name_in found))
         × (link.mtu ≡ last_or None (filter_map mtu_in found))) }
+    // `LinkFails payload error`: what the list above says of this error.
     ensures error { IfErr result (LinkFails payload.now) }
 {
-    if payload.len() < HEADER {
+    if payload.len() < IFINFOMSG_LEN {
         return Err(LinkError::TooShort { got: payload.len() });
     }
     let mut link = Link {
         name: None,
         mtu: None,
     };
-    for item in NlasIterator::new(&payload[HEADER..]) {
+    for item in NlasIterator::new(&payload[IFINFOMSG_LEN..]) {
         let attribute = item?;
         match attribute.kind() {
             IFLA_IFNAME => link.name = Some(parse_string(alloc, attribute.value())?),
@@ -91,16 +95,17 @@ pub fn parse_link(alloc: Global, payload: &[u8]) -> Result<Link, LinkError>
     Ok(link)
 }
 
-/// Compares two interfaces by `==`, which is true if and only if their names and their MTUs are
-/// equal.
+/// States that `==` of two interfaces is true if and only if their names and their MTUs are equal.
+/// A program writes `v == w`.
 pub fn equal_links(v: &Link, w: &Link) -> bool
+    // `string_content`: the bytes of a `String`, if there is one.
     ensures { IsTrue result
         ↔ ((string_content v.now.name ≡ string_content w.now.name) × (v.now.mtu ≡ w.now.mtu)) }
 {
     v == w
 }
 
-/// Compares two errors by `==`, which is true if and only if they are equal.
+/// States that `==` of two errors is true if and only if they are equal.
 pub fn equal_link_errors(v: &LinkError, w: &LinkError) -> bool
     ensures { IsTrue result ↔ (v.now ≡ w.now) }
 {
@@ -113,22 +118,26 @@ pub fn equal_link_errors(v: &LinkError, w: &LinkError) -> bool
 /// framing error if the bytes do not start with an attribute, and with `Memory` if an allocation
 /// fails.
 pub fn attribute_key(alloc: Global, attribute: &[u8]) -> Result<Vec<u8>, CanonError>
-    // `first_attribute_codec []`: the codec of one attribute of which no kind is known, so that it
-    // parses as itself.
+    // `first_attribute_codec []`: the codec of one attribute, of which no kind is known (`[]`), so
+    // that it parses as itself. It has no parameter (`tt`). `attribute_bytes a`: the header, the
+    // value and the padding of the attribute `a`.
     ensures written { IfOk result (λ key.
         (a : Attribute) × (first_attribute_codec []).parses attribute.now tt a
         × (key.items ≡ attribute_bytes a)) }
-    // The condition `FitsLengthField` holds of every attribute that was parsed.
-    ensures equal_bytes { IfOk result (λ key. (other : List ℕ) (theirs : Attribute) → IsBytes other
-        → (first_attribute_codec []).parses other tt theirs
-        → FitsLengthField theirs
-        → ((attribute_bytes theirs ≡ key.items)
-        ↔ (first_attribute_codec []).equivalent tt attribute.now other)) }
-    // `CanonicalFails parses rejects is_writable`: the error by the values that the bytes parse as,
-    // the errors that reject them, and the writable values.
-    ensures err { IfErr result (canon.CanonicalFails (λ a.
-        (first_attribute_codec []).parses attribute.now tt a)
-        (λ e. (first_attribute_codec []).rejects attribute.now tt e) FitsLengthField) }
+    // For all other bytes: if they parse as an attribute, it has the same canonical form if and
+    // only if the bytes are equivalent. The condition `FitsLengthField` holds of every attribute
+    // that was parsed.
+    ensures equal_bytes { IfOk result (λ key. (bytes : List ℕ) (other : Attribute) → IsBytes bytes
+        → (first_attribute_codec []).parses bytes tt other
+        → FitsLengthField other
+        → ((attribute_bytes other ≡ key.items)
+        ↔ (first_attribute_codec []).equivalent tt attribute.now bytes)) }
+    // `CanonicalFails parses rejects is_writable`: what holds by the error. `Refused(e)`: the bytes
+    // are rejected with `e`. `Unwritable`: they parse as an attribute that does not fit its length
+    // field. `Memory`: they parse as one that does.
+    ensures err { IfErr result (canon.CanonicalFails
+        ((first_attribute_codec []).parses attribute.now tt)
+        ((first_attribute_codec []).rejects attribute.now tt) FitsLengthField) }
 {
     canonical::<DefaultNla>(alloc, attribute, ())
 }

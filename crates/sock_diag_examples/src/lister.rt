@@ -3,7 +3,7 @@
 ghost use Rattle.std.specs.Prelude.{◌≡◌, ◌↔◌, List, Result, Some, IfOk, IsTrue, map};
 ghost use Rattle.std.specs.Iterator.{Drains};
 ghost use Rattle.std.specs.List.{filter_map};
-ghost use Rattle.netlink_core.specs.declared.error.DecodeError.{DecodeError as Fault};
+ghost use Rattle.netlink_core.specs.declared.error.DecodeError.{DecodeError as DecodeErrorModel};
 ghost use Rattle.netlink_packet_sock_diag.specs.DumpWalk.{YieldsPayloadView};
 ghost use Rattle.netlink_packet_sock_diag.specs.PayloadViewModel.{PayloadView, payload_view_model};
 ghost use Rattle.netlink_packet_sock_diag.specs.MessageViewModel.{message_view_model};
@@ -35,8 +35,11 @@ pub enum Line {
 /// Returns the lines of a datagram, in order: one for each message except `NLMSG_NOOP`, and one for
 /// remaining bytes that are not a message. Fails only if an allocation fails.
 pub fn list(alloc: Global, datagram: &[u8]) -> Result<Vec<Line>, AllocError>
+    // `AreLinesOf datagram lines`: these are the lines of the items of the datagram, in order. An
+    // `Err` is an allocation failure, of which nothing is stated.
     ensures { IfOk result (λ lines. AreLinesOf datagram.now lines.items) }
 {
+    // Proof only: what the iterator yields are the items of the datagram.
     laws::complete_views_are_the_datagram();
     lines_of(alloc, DumpViews::new(datagram))
 }
@@ -50,9 +53,11 @@ pub fn equal_lines(v: &Line, w: &Line) -> bool
 
 // Returns the lines of the items of an iterator.
 fn lines_of(alloc: Global, views: DumpViews<'_>) -> Result<Vec<Line>, AllocError>
-    ensures { IfOk result (λ lines. (given : List (Result PayloadView Fault))
-        × Drains YieldsPayloadView views.entry given
-        × (lines.items ≡ filter_map line_of (map (map_ok payload_view_model) given))) }
+    // `items`: what the iterator yields until its end (`Drains`). `map (map_ok payload_view_model)
+    // items`: their models. `filter_map line_of`: the lines of those that have one.
+    ensures { IfOk result (λ lines. (items : List (Result PayloadView DecodeErrorModel))
+        × Drains YieldsPayloadView views.entry items
+        × (lines.items ≡ filter_map line_of (map (map_ok payload_view_model) items))) }
 {
     let mut lines = Vec::new(alloc);
     for item in views {
@@ -65,6 +70,8 @@ fn lines_of(alloc: Global, views: DumpViews<'_>) -> Result<Vec<Line>, AllocError
 
 // Returns the line of an item, if it has one.
 fn line_for(item: Result<PayloadView<'_>, DecodeError>) -> Option<Line>
+    // `line_of item`: the line of an item, `None` for `NLMSG_NOOP`. `map_ok payload_view_model
+    // item`: the model of the payload, or the decode error.
     ensures { result ≡ line_of (map_ok payload_view_model item.entry) }
 {
     match item {
@@ -78,6 +85,8 @@ fn line_for(item: Result<PayloadView<'_>, DecodeError>) -> Option<Line>
 
 // Returns the line of a socket.
 fn socket_line(message: &SockDiagView<'_>) -> Line
+    // `socket_of message`: the line of a message, `None` for a request. A borrowed message is
+    // always a reply, so it has a line (`Some`).
     ensures { Some result ≡ socket_of (message_view_model message.now) }
 {
     match message {

@@ -11,7 +11,7 @@ use sock_diag_attributes::unix::nlas::NlaView;
 
 /// Returns the inode of the peer, a little-endian u32: the value of an attribute of a reply about a
 /// UNIX socket, if its kind is `UNIX_DIAG_PEER` (2) and its value has four bytes. Otherwise returns
-/// `None`.
+/// `None`. In the contract `buffered_attribute nla.now` is the attribute in `nla`.
 pub fn peer(nla: &NlaBuffer<'_>) -> Option<u32>
     ensures { SomeIff result
         ((attribute_kind (buffered_attribute nla.now) ≡ UNIX_DIAG_PEER)

@@ -2,9 +2,8 @@
 //! datagram.
 
 ghost use Rattle.std.specs.Prelude.{◌≡◌, ◌↔◌, ◌++◌, ℕ, List, map, IsTrue, OnOk, IfOk, IfErr};
-ghost use Rattle.std.specs.Prelude.{vec_items};
 ghost use Rattle.std.specs.List.{AllByRecursion, flat_map};
-ghost use Rattle.netlink_core.specs.NetlinkMessageModel.{payload_model};
+ghost use Rattle.netlink_core.specs.NetlinkMessageModel.{owned_payload_model};
 ghost use Rattle.netlink_packet_sock_diag.specs.MessageModel.{message_model};
 ghost use Rattle.sock_diag_examples.specs.UnixResponseModel.{unix_response_model};
 ghost use Rattle.netlink_core.specs.Response.{ReplyValue};
@@ -13,7 +12,7 @@ ghost use Rattle.sock_diag_examples.specs.TestKernel.{IsWritableReply, AnswerFai
 ghost use Rattle.sock_diag_examples.specs.TestKernel.{IsWritableMessage, IsAnswer, IsCompleteDump};
 ghost use Rattle.sock_diag_examples.specs.TestKernel.{IsWritableReplyMessage};
 ghost use Rattle.sock_diag_examples.specs.TestKernel.{numbered_message_bytes, reply_message_bytes};
-ghost use Rattle.sock_diag_examples.specs.private.TestKernel.{AppendFails};
+ghost use Rattle.sock_diag_examples.specs.private.TestKernel.{FailsUnless};
 ghost use Rattle.sock_diag_examples.specs.declared.test_kernel.AnswerError.TheVariants as errors;
 
 use netlink_core::{
@@ -37,6 +36,7 @@ pub enum AnswerError {
 }
 
 impl From<DecodeError> for AnswerError {
+    // `e`: what `from` returns for the error.
     ghost from_gives = { λ error e. e ≡ errors.Request error };
 
     fn from(error: DecodeError) -> AnswerError {
@@ -45,6 +45,7 @@ impl From<DecodeError> for AnswerError {
 }
 
 impl From<AllocError> for AnswerError {
+    // `e`: what `from` returns, for any argument (`_`).
     ghost from_gives = { λ _ e. e ≡ errors.Memory };
 
     fn from(_e: AllocError) -> AnswerError {
@@ -53,6 +54,7 @@ impl From<AllocError> for AnswerError {
 }
 
 impl<T: Drop> From<AllocFailed<T>> for AnswerError {
+    // `e`: what `from` returns, for any argument (`_`).
     ghost from_gives = { λ _ e. e ≡ errors.Memory };
 
     fn from(_e: AllocFailed<T>) -> AnswerError {
@@ -82,6 +84,10 @@ pub fn answer(
     request: &[u8],
     replies: &[UnixResponse],
 ) -> Result<Vec<u8>, AnswerError>
+    // `IsAnswer request replies datagram`: the request is valid, and the datagram has the message
+    // of each reply and then `NLMSG_DONE`, all with its sequence number. `AnswerFails request
+    // replies error`: what the list above says of this error. `unix_response_model`: the model of a
+    // reply, its header and its decoded attributes.
     ensures answer { IfOk result (λ datagram.
         IsAnswer request.now (map unix_response_model replies.now)
         datagram.items) }
@@ -95,9 +101,11 @@ pub fn answer(
         }));
     }
     let payload = &request[NETLINK_HEADER_LEN..header.length as usize];
+    // The request is only checked.
     let _asked = UnixRequest::parse(alloc, payload)?;
     let mut datagram = Vec::new(alloc);
     push_replies(alloc, &mut datagram, header.sequence_number, replies)?;
+    // Four zero bytes are the error number 0: the dump is complete.
     let end = NetlinkPayload::Done(vec![in alloc; 0; 4]?);
     push_message(alloc, &mut datagram, header.sequence_number, end)?;
     Ok(datagram)
@@ -106,27 +114,36 @@ pub fn answer(
 /// The dump over an answer is complete and has the caller's replies, if each is in range and in
 /// normal form, and its message is writable. Proof only: the contract states the property.
 pub fn answer_is_a_complete_dump()
+    // `IsAnswer request replies datagram`: what `answer` ensures of its result. `IsWritableReply`:
+    // the reply is in range and in normal form, and its message is writable. `IsCompleteDump
+    // datagram replies`: the dump over the datagram has exactly these replies, and ends with
+    // `NLMSG_DONE` and error number 0.
     ensures { (request : List ℕ) (replies : List (ReplyValue unix_response_spec))
         (datagram : List ℕ)
         → IsAnswer request replies datagram
         → AllByRecursion IsWritableReply replies → IsCompleteDump datagram replies }
 {
+    // Proof only: the properties from which this one follows.
     netlink_core::laws::items_of_concatenation::<SockDiagMessage>();
     laws::finalized_message_round_trips();
     laws::reply_lengths_are_multiples_of_four();
 }
 
-// Appends a message for each reply.
+// Appends a message for each reply. Fails if one of these messages is not writable, or an
+// allocation fails.
 fn push_replies(
     alloc: Global,
     datagram: &mut Vec<u8>,
     sequence_number: u32,
     replies: &[UnixResponse],
 ) -> Result<(), AnswerError>
+    // `flat_map (reply_message_bytes sequence_number) replies`: the bytes of the message of each
+    // reply, concatenated. `FailsUnless are_writable error`: the error is `Memory`, or it is
+    // `Unwritable` and `are_writable` does not hold.
     ensures added { OnOk result (datagram.new.items ≡ datagram.old.items
         ++ flat_map (reply_message_bytes sequence_number) (map unix_response_model replies.now)) }
     ensures err { IfErr result
-        (AppendFails (AllByRecursion IsWritableReplyMessage
+        (FailsUnless (AllByRecursion IsWritableReplyMessage
         (map unix_response_model replies.now))) }
 {
     for reply in replies {
@@ -135,16 +152,19 @@ fn push_replies(
     Ok(())
 }
 
-// Appends the message of a reply.
+// Appends the message of a reply. Fails if this message is not writable, or an allocation fails.
 fn push_reply(
     alloc: Global,
     datagram: &mut Vec<u8>,
     sequence_number: u32,
     reply: &UnixResponse,
 ) -> Result<(), AnswerError>
+    // `reply_message_bytes sequence_number reply`: the bytes of the message of the reply.
+    // `FailsUnless are_writable error`: the error is `Memory`, or it is `Unwritable` and
+    // `are_writable` does not hold.
     ensures added { OnOk result (datagram.new.items ≡ datagram.old.items
         ++ reply_message_bytes sequence_number (unix_response_model reply.now)) }
-    ensures err { IfErr result (AppendFails
+    ensures err { IfErr result (FailsUnless
         (IsWritableReplyMessage (unix_response_model reply.now))) }
 {
     let message = SockDiagMessage::UnixResponse(Box::new(
@@ -168,10 +188,14 @@ fn push_message(
     sequence_number: u32,
     payload: NetlinkPayload<SockDiagMessage>,
 ) -> Result<(), AnswerError>
+    // `owned_payload_model message_model payload`: the model of the payload, in which bytes are
+    // a list, and an inner message is a `Message`. `numbered_message_bytes sequence_number
+    // payload`: the bytes of the message with this payload. `FailsUnless are_writable error`: the
+    // error is `Memory`, or it is `Unwritable` and `are_writable` does not hold.
     ensures added { OnOk result (datagram.new.items ≡ datagram.old.items
-        ++ numbered_message_bytes sequence_number (payload_model vec_items message_model payload)) }
-    ensures err { IfErr result (AppendFails
-        (IsWritableMessage (payload_model vec_items message_model payload))) }
+        ++ numbered_message_bytes sequence_number (owned_payload_model message_model payload)) }
+    ensures err { IfErr result (FailsUnless
+        (IsWritableMessage (owned_payload_model message_model payload))) }
 {
     let header = NetlinkHeader {
         flags: NLM_F_MULTI,

@@ -9,10 +9,10 @@ use std::io;
 use std::io::{ErrorKind, Read, Write};
 use std::process::Abort;
 
-/// The index of a call that is never made.
+/// The index of a call that is never made. As the size of a chunk: no limit.
 const NEVER: usize = usize::MAX;
 
-/// Denotes the flush among the indices of calls.
+/// Denotes the flush, as the index of the call that fails (`fails_at`).
 const FLUSH: usize = usize::MAX - 1;
 
 /// The errors of calls that fail.
@@ -37,7 +37,7 @@ const ERRORS: [ErrorKind; 14] = [
 #[derive(Clone, Copy)]
 struct Pace {
     /// Limit of the bytes that a call moves.
-    most: usize,
+    limit: usize,
     /// Growth of this limit after each call.
     growth: usize,
     /// Index of the call that fails.
@@ -46,59 +46,66 @@ struct Pace {
     error: usize,
 }
 
-/// Returns the pace of a stream that never fails and moves at most `most` bytes in a call.
-fn steady(most: usize) -> Pace {
+/// Returns the pace of a stream that never fails and moves at most `limit` bytes in a call.
+fn steady(limit: usize) -> Pace {
     Pace {
-        most,
+        limit,
         growth: 0,
         fails_at: NEVER,
         error: 0,
     }
 }
 
-/// Returns the pace of a stream with one call that fails.
-fn failing(most: usize, fails_at: usize, error: usize) -> Pace {
+/// Returns the pace of a stream that moves at most `limit` bytes in a call. The call with the index
+/// `fails_at` fails, with the error at the index `error` of `ERRORS`.
+fn failing(limit: usize, fails_at: usize, error: usize) -> Pace {
     Pace {
         fails_at,
         error,
-        ..steady(most)
+        ..steady(limit)
     }
 }
 
-/// Returns the error of the call that fails.
+/// Returns the error of the call that fails at this pace.
 fn failure(pace: &Pace) -> io::Error {
     let kind = ERRORS.get(pace.error).copied();
     io::Error::from(kind.unwrap_or(ErrorKind::Other))
 }
 
+/// Returns the number of line ends in the text.
 fn line_count(text: &[u8]) -> usize {
     text.iter().filter(|byte| **byte == b'\n').count()
 }
 
-/// Lengths of the first 0, 1, 2 and 3 answers in bytes.
-const ENDS: [usize; 4] = [0, 52, 104, 114];
+/// Numbers of bytes of the first 0, 1, 2 and 3 answers in `OUTPUT`, with their line feeds.
+const ANSWER_ENDS: [usize; 4] = [0, 52, 104, 114];
 
 /// A reader that returns its bytes at a pace, and records whether an answer that was due had not
 /// been written.
 #[derive(Drop)]
 struct PacedReader<'a> {
-    rest: &'a [u8],
+    /// Bytes that were not read.
+    remaining: &'a [u8],
     pace: Pace,
+    /// Number of calls.
     calls: usize,
     /// Number of bytes that the last call requested.
-    asked: usize,
+    requested: usize,
+    /// Number of lines that were read.
     lines: usize,
+    /// Number of answers that were written.
     answered: &'a Cell<usize>,
+    /// Whether, before some call, the numbers of lines and of answers differed.
     is_late: bool,
 }
 
 impl<'a> PacedReader<'a> {
-    fn new(rest: &'a [u8], pace: Pace, answered: &'a Cell<usize>) -> PacedReader<'a> {
+    fn new(remaining: &'a [u8], pace: Pace, answered: &'a Cell<usize>) -> PacedReader<'a> {
         PacedReader {
-            rest,
+            remaining,
             pace,
             calls: 0,
-            asked: 0,
+            requested: 0,
             lines: 0,
             answered,
             is_late: false,
@@ -110,37 +117,40 @@ impl Read for PacedReader<'_> {
     fn read(&mut self, buf: &mut [u8]) -> io::Result<usize> {
         let call = self.calls;
         self.calls = call.saturating_add(1);
-        self.asked = buf.len();
+        self.requested = buf.len();
         if self.answered.get() != self.lines {
             self.is_late = true;
         }
         if call == self.pace.fails_at {
             return Err(failure(&self.pace));
         }
-        let count = self.pace.most.min(self.rest.len()).min(buf.len());
-        self.pace.most = self.pace.most.saturating_add(self.pace.growth);
-        let (given, rest) = self.rest.split_at(count);
-        buf[..count].copy_from_slice(given);
-        self.lines = self.lines.saturating_add(line_count(given));
-        self.rest = rest;
+        let count = self.pace.limit.min(self.remaining.len()).min(buf.len());
+        self.pace.limit = self.pace.limit.saturating_add(self.pace.growth);
+        let (bytes, remaining) = self.remaining.split_at(count);
+        buf[..count].copy_from_slice(bytes);
+        self.lines = self.lines.saturating_add(line_count(bytes));
+        self.remaining = remaining;
         Ok(count)
     }
 }
 
-/// A writer that accepts bytes at a pace, and counts the lines.
+/// A writer that accepts bytes at a pace, and counts the answers for the reader.
 #[derive(Drop)]
 struct PacedWriter<'a> {
-    taken: Vec<u8>,
+    written: Vec<u8>,
     pace: Pace,
+    /// Number of writes.
     calls: usize,
+    /// Number of answers that were written.
     answered: &'a Cell<usize>,
+    /// Number of flushes.
     flushes: usize,
 }
 
 impl<'a> PacedWriter<'a> {
     fn new(alloc: Global, pace: Pace, answered: &'a Cell<usize>) -> PacedWriter<'a> {
         PacedWriter {
-            taken: Vec::new(alloc),
+            written: Vec::new(alloc),
             pace,
             calls: 0,
             answered,
@@ -156,11 +166,11 @@ impl Write for PacedWriter<'_> {
         if call == self.pace.fails_at {
             return Err(failure(&self.pace));
         }
-        let count = self.pace.most.min(buf.len());
-        self.pace.most = self.pace.most.saturating_add(self.pace.growth);
-        let taken = &buf[..count];
-        self.taken.extend_from_slice(taken)?;
-        let lines = self.answered.get().saturating_add(line_count(taken));
+        let count = self.pace.limit.min(buf.len());
+        self.pace.limit = self.pace.limit.saturating_add(self.pace.growth);
+        let accepted = &buf[..count];
+        self.written.extend_from_slice(accepted)?;
+        let lines = self.answered.get().saturating_add(line_count(accepted));
         self.answered.set(lines);
         Ok(count)
     }
@@ -174,16 +184,18 @@ impl Write for PacedWriter<'_> {
     }
 }
 
-/// Returns whether the call that fails, if any, was the last one.
+/// Returns whether the call at the index `fails_at` was the last one of `calls` calls; `true` if no
+/// such call fails.
 fn ended_at(calls: usize, fails_at: usize) -> bool {
     fails_at >= FLUSH || calls == fails_at.saturating_add(1)
 }
 
-/// Asserts that a run has this outcome, and has written these bytes. Before each read, all answers
-/// that are due have been written. A read requests 8 KiB. A call that failed is not repeated. If a
-/// write accepts everything, there is at most one write more than there are reads. There is one
-/// flush, unless a read or a write failed.
-fn ends(
+/// Asserts that a run over `text`, with the paces of its reads and of its writes, has this outcome
+/// and has written `written`. Asserts also: Before each read, all answers that are due have been
+/// written. A read requests 8 KiB. A call that failed is not repeated. If a write accepts
+/// everything, there is at most one write more than there are reads. There is one flush, unless a
+/// read or a write failed.
+fn assert_run(
     rt: &impl Abort,
     alloc: Global,
     text: &[u8],
@@ -196,39 +208,48 @@ fn ends(
     let mut input = PacedReader::new(text, reads, &answered);
     let mut output = PacedWriter::new(alloc, writes, &answered);
     assert!(rt; run(alloc, &mut input, &mut output) == outcome);
-    assert!(rt; output.taken.as_slice() == written);
-    assert!(rt; !input.is_late && input.asked == 8192);
+    assert!(rt; output.written.as_slice() == written);
+    assert!(rt; !input.is_late && input.requested == 8192);
     assert!(rt; ended_at(input.calls, reads.fails_at) && ended_at(output.calls, writes.fails_at));
-    assert!(rt; writes.most != NEVER || output.calls <= input.calls.saturating_add(1));
+    assert!(rt; writes.limit != NEVER || output.calls <= input.calls.saturating_add(1));
     let is_flushed = outcome.is_ok() || writes.fails_at == FLUSH;
     assert!(rt; (output.flushes == 1) == is_flushed && output.flushes <= 1);
 }
 
+/// Checks each read that fails, also the one at the end of the text. The answers to the lines that
+/// were read before are written.
 #[test]
 fn each_read_fails(rt: HostRuntime) {
     let text = INPUT.as_bytes();
-    for most in 1..10 {
-        for fails_at in 0..=text.len().div_ceil(most) {
-            let read = most.saturating_mul(fails_at).min(text.len());
-            let end = ENDS.get(line_count(&text[..read])).copied().unwrap_or(0);
+    for limit in 1..10 {
+        for fails_at in 0..=text.len().div_ceil(limit) {
+            let read = limit.saturating_mul(fails_at).min(text.len());
+            let end = ANSWER_ENDS
+                .get(line_count(&text[..read]))
+                .copied()
+                .unwrap_or(0);
             let written = OUTPUT.as_bytes().get(..end).unwrap_or(b"");
-            let paces = (failing(most, fails_at, most), steady(most));
+            // The last argument selects another error for each limit.
+            let paces = (failing(limit, fails_at, limit), steady(limit));
             let failed = Err(RunError::Read);
-            ends(&rt, rt.alloc(), text, paces, failed, written);
+            assert_run(&rt, rt.alloc(), text, paces, failed, written);
         }
     }
 }
 
+/// Checks each write that fails. What was accepted before is written.
 #[test]
 fn each_write_fails(rt: HostRuntime) {
     let whole = OUTPUT.as_bytes();
-    for most in 1..10 {
-        let read = if most == 1 { 1 } else { NEVER };
-        for fails_at in 0..whole.len().div_ceil(most) {
-            let written = &whole[..most.saturating_mul(fails_at).min(whole.len())];
-            let paces = (steady(read), failing(most, fails_at, most));
+    for limit in 1..10 {
+        // With writes of one byte, reads have one byte too.
+        let read = if limit == 1 { 1 } else { NEVER };
+        for fails_at in 0..whole.len().div_ceil(limit) {
+            let written = &whole[..limit.saturating_mul(fails_at).min(whole.len())];
+            // The last argument selects another error for each limit.
+            let paces = (steady(read), failing(limit, fails_at, limit));
             let failed = Err(RunError::Write);
-            ends(&rt, rt.alloc(), INPUT.as_bytes(), paces, failed, written);
+            assert_run(&rt, rt.alloc(), INPUT.as_bytes(), paces, failed, written);
         }
     }
 }
@@ -238,12 +259,14 @@ fn each_write_fails(rt: HostRuntime) {
 #[test]
 fn ends_of_a_run(rt: HostRuntime) {
     let unended = INPUT.strip_suffix('\n').unwrap_or("");
+    // The first line without its line feed, and its answer.
     let (first, first_answer) = (
         INPUT.get(..56).unwrap_or(""),
         OUTPUT.get(..52).unwrap_or(""),
     );
     let failed = Err(RunError::Write);
-    for (text, most, fails_at, outcome, written) in [
+    // `limit` and `fails_at` are about the writer: a limit of 0 accepts no bytes.
+    for (text, limit, fails_at, outcome, written) in [
         (INPUT, NEVER, FLUSH, failed, OUTPUT),
         (INPUT, 1, FLUSH, failed, OUTPUT),
         (INPUT, 0, NEVER, failed, ""),
@@ -253,9 +276,9 @@ fn ends_of_a_run(rt: HostRuntime) {
         (unended, 1, NEVER, Ok(()), OUTPUT),
         (first, NEVER, NEVER, Ok(()), first_answer),
     ] {
-        let paces = (steady(NEVER), failing(most, fails_at, 1));
+        let paces = (steady(NEVER), failing(limit, fails_at, 1));
         let (text, written) = (text.as_bytes(), written.as_bytes());
-        ends(&rt, rt.alloc(), text, paces, outcome, written);
+        assert_run(&rt, rt.alloc(), text, paces, outcome, written);
     }
 }
 
@@ -273,25 +296,27 @@ fn each_error_of_a_stream(rt: HostRuntime) {
             let reads = failing(NEVER, read_fails, error);
             let paces = (reads, failing(NEVER, write_fails, error));
             let (text, written) = (INPUT.as_bytes(), written.as_bytes());
-            ends(&rt, rt.alloc(), text, paces, Err(failed), written);
+            assert_run(&rt, rt.alloc(), text, paces, Err(failed), written);
         }
     }
 }
 
-/// Asserts that all answers are written if reads, writes or both move at most `most` bytes in a
+/// Asserts that all answers are written if reads, writes or both move at most `limit` bytes in a
 /// call.
-fn answers_in_pieces(rt: &impl Abort, alloc: Global, text: &[u8], written: &[u8], most: usize) {
-    for (read, write) in [(most, NEVER), (NEVER, most), (most, most)] {
+fn assert_run_in_chunks(rt: &impl Abort, alloc: Global, text: &[u8], written: &[u8], limit: usize) {
+    for (read, write) in [(limit, NEVER), (NEVER, limit), (limit, limit)] {
         let paces = (steady(read), steady(write));
-        ends(rt, alloc, text, paces, Ok(()), written);
+        assert_run(rt, alloc, text, paces, Ok(()), written);
     }
 }
 
-/// The start of a netlink message that ends a dump and has 70,000 more bytes.
+/// The start of a line with a netlink message of type `NLMSG_DONE`, whose payload has 70,000 bytes.
 const DONE: &str = "netlink 80110100030000000000000000000000";
 
-/// The shortest lines, which have the longest answers for their length; a line that is longer than
-/// the buffer that a run retains; and a line with a long answer.
+/// In each row: a long line, and its answer, both without the last line feed. The lines: many empty
+/// lines, which have the longest answers for their length; a line that is longer than the buffer
+/// that a run retains; and a line with a long answer. This answer has the fields of the netlink
+/// header and the payload.
 const LONG: [(Repeated, Repeated); 3] = [
     (("", "\n", 9_000, ""), ("", "bad line\n", 9_000, "bad line")),
     (("unixreq ", "00", 70_000, ""), ("ok 01", "00", 23, "")),
@@ -301,7 +326,8 @@ const LONG: [(Repeated, Repeated); 3] = [
     ),
 ];
 
-/// Returns many lines, one that may be longer than any read, and three more lines.
+/// Returns 100 times `lines`, then the line `long`, which may be longer than any read, and `lines`
+/// once more.
 fn among_lines(rt: &impl Abort, alloc: Global, lines: &str, long: Repeated) -> String {
     let many = lines.repeat(alloc, 100).expect(rt, "memory");
     let long = repeated(rt, alloc, long);
@@ -315,15 +341,16 @@ fn chunks_of_any_size(rt: HostRuntime) {
     for (long, answered) in LONG {
         let text = among_lines(&rt, alloc, INPUT, long);
         let written = among_lines(&rt, alloc, OUTPUT, answered);
-        for most in [
+        for limit in [
             1, 2, 3, 7, 64, 1_000, 4_095, 4_096, 4_097, 5_003, 8_191, 8_192, 8_193, 100_003,
         ] {
-            answers_in_pieces(&rt, alloc, text.as_bytes(), written.as_bytes(), most);
+            assert_run_in_chunks(&rt, alloc, text.as_bytes(), written.as_bytes(), limit);
         }
     }
 }
 
-/// Two lines of 1 MiB, the second one with an answer of 1 MiB.
+/// In each row: a line of 1 MiB, and its answer. The first line is a UNIX request of 24 bytes with
+/// others after it. The second one is an `NLMSG_DONE`, whose answer has 1 MiB, too.
 const LONGEST: [(Repeated, Repeated); 2] = [
     (("unixreq ", "00", 524_288, ""), ("ok 01", "00", 23, "")),
     (
@@ -345,14 +372,15 @@ fn longest_lines(rt: HostRuntime) {
         let text = repeated(&rt, alloc, long);
         let written = repeated(&rt, alloc, answered);
         let written = [written.as_str(), "\n"].concat(alloc).expect(&rt, "memory");
-        for most in [1, 8_191] {
-            answers_in_pieces(&rt, alloc, text.as_bytes(), written.as_bytes(), most);
+        for limit in [1, 8_191] {
+            assert_run_in_chunks(&rt, alloc, text.as_bytes(), written.as_bytes(), limit);
         }
     }
 }
 
-/// Asserts that `times` equal texts are answered by equal texts, at these paces.
-fn answers_many(
+/// Asserts that the lines, repeated `times` times, are answered by the answers, repeated as often,
+/// at these paces of reads and of writes.
+fn assert_run_of_many(
     rt: &impl Abort,
     alloc: Global,
     (lines, answers): (&str, &str),
@@ -361,10 +389,11 @@ fn answers_many(
 ) {
     let text = lines.as_bytes().repeat(alloc, times).expect(rt, "memory");
     let written = answers.as_bytes().repeat(alloc, times).expect(rt, "memory");
-    ends(rt, alloc, &text, paces, Ok(()), &written);
+    assert_run(rt, alloc, &text, paces, Ok(()), &written);
 }
 
-/// Checks a hundred thousand lines, and a million reads and writes of one byte or of odd sizes.
+/// Checks a hundred thousand lines (`INPUT` has three), and a million reads and writes of one byte
+/// or of odd sizes.
 #[test]
 fn many_lines_and_reads(rt: HostRuntime) {
     for (times, read, write) in [
@@ -375,11 +404,12 @@ fn many_lines_and_reads(rt: HostRuntime) {
         (6_000, 8_191, 1_021),
     ] {
         let paces = (steady(read), steady(write));
-        answers_many(&rt, rt.alloc(), (INPUT, OUTPUT), times, paces);
+        assert_run_of_many(&rt, rt.alloc(), (INPUT, OUTPUT), times, paces);
     }
 }
 
-/// Checks reads of 1 byte, then of 8, of 15, and so on, to 8 KiB, and such writes.
+/// Checks reads of 1 byte, then of 8, of 15, and so on, to 8 KiB, and such writes. These sizes add
+/// up to almost 5 MB: so long are the input of the first run and the output of the second.
 #[test]
 fn chunks_that_grow(rt: HostRuntime) {
     let growing = Pace {
@@ -387,9 +417,9 @@ fn chunks_that_grow(rt: HostRuntime) {
         ..steady(1)
     };
     let paces = (growing, steady(NEVER));
-    answers_many(&rt, rt.alloc(), (INPUT, OUTPUT), 28_000, paces);
+    assert_run_of_many(&rt, rt.alloc(), (INPUT, OUTPUT), 28_000, paces);
     let paces = (steady(NEVER), growing);
-    answers_many(&rt, rt.alloc(), ("\n", "bad line\n"), 540_000, paces);
+    assert_run_of_many(&rt, rt.alloc(), ("\n", "bad line\n"), 540_000, paces);
 }
 
 /// Checks that one run answers lines of each size as `answer` does.
@@ -406,12 +436,12 @@ fn lines_of_each_size(rt: HostRuntime) {
         written.extend_from_slice(&answered).expect(&rt, "memory");
         written.push(b'\n').expect(&rt, "memory");
     }
-    for most in [7, NEVER] {
-        answers_in_pieces(&rt, alloc, &text, &written, most);
+    for limit in [7, NEVER] {
+        assert_run_in_chunks(&rt, alloc, &text, &written, limit);
     }
 }
 
-/// Checks a text of each byte. It has two lines.
+/// Checks a text of each byte. It has two lines, since one byte is a line feed.
 #[test]
 fn each_byte_is_read(rt: HostRuntime) {
     let alloc = rt.alloc();
@@ -419,13 +449,20 @@ fn each_byte_is_read(rt: HostRuntime) {
     for byte in 0..=u8::MAX {
         text.push(byte).expect(&rt, "memory");
     }
-    for most in [1, 3, 256] {
-        answers_in_pieces(&rt, alloc, &text, b"bad line\nbad line\n", most);
+    for limit in [1, 3, 256] {
+        assert_run_in_chunks(&rt, alloc, &text, b"bad line\nbad line\n", limit);
     }
 }
 
-/// Asserts that a run writes to `errors` why it failed, and nothing else.
-fn reports(rt: &impl Abort, alloc: Global, read_fails: usize, write_fails: usize, want: &str) {
+/// Asserts that a run writes `expected` to standard error, if the read with the index `read_fails`
+/// and the write with the index `write_fails` fail. Reads and writes move one byte.
+fn assert_reported(
+    rt: &impl Abort,
+    alloc: Global,
+    read_fails: usize,
+    write_fails: usize,
+    expected: &str,
+) {
     let answered = Cell::new(0);
     let (mut reads, mut writes) = (steady(1), steady(1));
     reads.fails_at = read_fails;
@@ -434,17 +471,17 @@ fn reports(rt: &impl Abort, alloc: Global, read_fails: usize, write_fails: usize
     let mut output = PacedWriter::new(alloc, writes, &answered);
     let mut errors = Vec::new(alloc);
     let _status = run_to_status(alloc, false, &mut input, &mut output, &mut errors);
-    assert!(rt; errors.as_slice() == want.as_bytes());
+    assert!(rt; errors.as_slice() == expected.as_bytes());
 }
 
 #[test]
 fn reports_on_errors_why_it_failed(rt: HostRuntime) {
-    for (read_fails, write_fails, want) in [
+    for (read_fails, write_fails, expected) in [
         (0, NEVER, "sockdiag: reading failed\n"),
         (30, NEVER, "sockdiag: reading failed\n"),
         (NEVER, FLUSH, "sockdiag: writing failed\n"),
         (NEVER, NEVER, ""),
     ] {
-        reports(&rt, rt.alloc(), read_fails, write_fails, want);
+        assert_reported(&rt, rt.alloc(), read_fails, write_fails, expected);
     }
 }

@@ -3,11 +3,12 @@ use Rattle.std.specs.Prelude.{⊤}
 use Rattle.sock_diag_examples.specs.declared.test_kernel.AnswerError.{AnswerError}
 use Rattle.sock_diag_examples.specs.declared.test_kernel.AnswerError.TheVariants as errors
 
--- `AppendFails are_writable e`: why a function that appends messages fails, by the error. It never
--- rejects the request.
--- - `Unwritable`: not all of the messages are writable (`are_writable` does not hold).
--- - `Memory`: an allocation failed.
-abbrev pub AppendFails : Type 0 → AnswerError → Type 0
-AppendFails are_writable (errors.Request e) = ⊥
-AppendFails are_writable errors.Unwritable = ¬ are_writable
-AppendFails are_writable errors.Memory = ⊤
+-- `FailsUnless are_writable e`: what holds if a function that appends messages returns the error
+-- `e`. `are_writable` states that all of these messages are writable.
+-- - `Unwritable`: `are_writable` does not hold.
+-- - `Memory`: an allocation failed; nothing else is stated (`⊤`).
+-- - `Request` is never returned (`⊥`).
+abbrev pub FailsUnless : Type 0 → AnswerError → Type 0
+FailsUnless are_writable (errors.Request e) = ⊥
+FailsUnless are_writable errors.Unwritable = ¬ are_writable
+FailsUnless are_writable errors.Memory = ⊤

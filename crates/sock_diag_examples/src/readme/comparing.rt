@@ -13,11 +13,13 @@ use netlink_packet_sock_diag::unix::UnixResponseView;
 /// the same order, except for ignored bits such as padding. Returns the decode error of the first
 /// reply if it is invalid, or else the error of the second.
 pub fn are_same_reply(one: &[u8], other: &[u8]) -> Result<bool, DecodeError>
+    // The codec of these replies has no parameter (`tt`).
     ensures value { IfOk result (λ same.
         IsTrue same ↔ (response_codec unix_response_spec).equivalent tt one.now
         other.now) }
-    ensures accepted { OnOk result (IsUnixReply one.now × IsUnixReply other.now) }
     // `IsUnixReply`: the bytes are a valid reply about a UNIX socket.
+    ensures accepted { OnOk result (IsUnixReply one.now × IsUnixReply other.now) }
+    // The error of the first reply, or of the second if the first is valid.
     ensures error { IfErr result (λ e. (response_codec unix_response_spec).rejects one.now tt e
         ⊎ (IsUnixReply one.now × (response_codec unix_response_spec).rejects other.now tt e)) }
 {
@@ -29,8 +31,9 @@ pub fn are_same_reply(one: &[u8], other: &[u8]) -> Result<bool, DecodeError>
 /// the reply is not writable or the buffer is too short; the buffer is unchanged. Returns the first
 /// decode error if the reply is invalid.
 pub fn rewrite(bytes: &[u8], buffer: &mut [u8]) -> Result<Option<usize>, DecodeError>
-    // `v`: the value that the reply parses as. If the result is `None` and `v` is writable, the
-    // buffer is shorter than the bytes of `v`.
+    // `v`: the value that the reply parses as, and `response_bytes .. v` its canonical form. If the
+    // result is `None`, the buffer is unchanged, and it is too short if `v` is writable. If it is
+    // `Some(count)`, `v` is writable and has `count` bytes, which the buffer starts with.
     ensures value { IfOk result (λ written. (v : ReplyValue unix_response_spec)
         × (response_codec unix_response_spec).parses bytes.now tt v
         × MatchOption written

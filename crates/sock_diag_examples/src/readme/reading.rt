@@ -1,8 +1,4 @@
 //! Parsing a borrowed reply.
-//!
-//! `path` returns the path in the first `UNIX_DIAG_NAME` of a reply about a UNIX socket. It returns
-//! `None` if the reply has no such attribute, if the name is abstract, or for a reply about an IPv4
-//! or IPv6 socket. It returns the first decode error if the payload is rejected.
 
 ghost use Rattle.std.specs.Prelude.{◌≡◌, IfOk, IfErr};
 ghost use Rattle.netlink_packet_sock_diag.specs.Message.{Message, message_codec};
@@ -12,7 +8,11 @@ use netlink_core::DecodeError;
 use netlink_packet_sock_diag::SockDiagView;
 use netlink_packet_sock_diag::unix::nlas::NameView;
 
-/// Returns the path that a UNIX socket is bound to, if the payload of this message type has one.
+/// Returns the path in the first `UNIX_DIAG_NAME` of a reply about a UNIX socket, which is the
+/// payload of a message of this type. Returns `None` if the reply has no such attribute, if the
+/// name is abstract, or for a reply about an IPv4 or IPv6 socket. Returns the first decode error if
+/// the payload is rejected. In the contract `path_of m` is this path for the message `m` that the
+/// payload parses as.
 pub fn path<'a>(payload: &'a [u8], message_type: u16) -> Result<Option<&'a [u8]>, DecodeError>
     ensures value { IfOk result (λ path. (m : Message)
         × message_codec.parses payload.entry.now message_type m

@@ -17,15 +17,15 @@ use std::alloc::{AllocError, Global};
 /// attribute is `UNIX_DIAG_NAME`. The path is not checked: the reply is in normal form only if the
 /// path is not empty and contains no NUL. Fails only if an allocation fails.
 pub fn listener(alloc: Global, inode: u32, path: &[u8]) -> Result<UnixResponse, AllocError>
-    // The type is 1 (SOCK_STREAM), and the state is 10 (TCP_LISTEN).
     ensures header { IfOk result
         (λ reply. reply.header ≡ record {
-          kind = 1;
-          state = 10;
+          kind = SOCK_STREAM;
+          state = TCP_LISTEN;
           inode = inode;
           cookie = replicate 8 0;
         }) }
-    // `value_as_decoded`: a value of this kind, as a decoded attribute of the set.
+    // The reply has exactly one attribute: `value_as_decoded` makes a decoded attribute of this
+    // kind from its value.
     ensures name { IfOk result
         (λ reply. (unix_response_model reply).nlas
         ≡ value_as_decoded unix_attribute_set UNIX_DIAG_NAME

@@ -2,7 +2,7 @@
 //! 6.18 sent the bytes of the netlink and packet replies. The bytes of the vsock and XDP replies
 //! and of the requests are derived by hand from the kernel's headers.
 
-use super::shows;
+use super::assert_debug;
 use netlink_core::{DecodeError, Emitable, write_new};
 use sock_diag_any::AnySockDiagView;
 use sock_diag_any::laws::{equal_raw_headers, equal_raw_reply_views};
@@ -54,14 +54,15 @@ fn decoded(rt: &impl Abort, alloc: Global, row: &str) -> Vec<u8> {
 }
 
 /// Asserts that the value serializes to the bytes in hexadecimal.
-fn writes<T: Emitable>(rt: &impl Abort, alloc: Global, value: &T, row: &str) {
+fn assert_emits<T: Emitable>(rt: &impl Abort, alloc: Global, value: &T, row: &str) {
     let written = write_new(alloc, value).expect(rt, "unwritable");
     assert!(rt; written == decoded(rt, alloc, row), "{written:?}");
 }
 
 /// Asserts the `Debug` output of a reply after `more` copies of [`OTHER`] are appended to it: the
-/// names of its variant and type, its bytes, and the number of its attributes.
-fn shows_reply(
+/// names of its variant and type (`before`), its bytes, the number of its attributes (`count`
+/// without the copies), and the closing parentheses (`after`).
+fn assert_debug_of_reply(
     rt: &impl Abort,
     alloc: Global,
     row: &str,
@@ -73,16 +74,17 @@ fn shows_reply(
     let bytes = decoded(rt, alloc, digits.as_str());
     let count = count.saturating_add(more);
     let text = format!(in alloc; "{before} {{ bytes: {bytes:?}, count: {count} }}{after}");
-    is_shown(rt, alloc, &bytes, text.expect(rt, "memory").as_str());
+    assert_debug_of_bytes(rt, alloc, &bytes, text.expect(rt, "memory").as_str());
 }
 
-/// Asserts the `Debug` output of the reply in the bytes.
-fn is_shown(rt: &impl Abort, alloc: Global, bytes: &[u8], text: &str) {
+/// Asserts the `Debug` output of the reply in the bytes, parsed under `SOCK_DIAG_BY_FAMILY` (20).
+fn assert_debug_of_bytes(rt: &impl Abort, alloc: Global, bytes: &[u8], text: &str) {
     let reply = AnySockDiagView::parse(bytes, 20).expect(rt, "refused");
-    shows(rt, alloc, &reply, text);
+    assert_debug(rt, alloc, &reply, text);
 }
 
-/// Returns the number of packets dropped at the netlink socket that a reply describes.
+/// Returns the number of packets dropped at the netlink socket that a reply describes; `None` if
+/// the reply lacks it.
 fn dropped_packets(reply: &[u8]) -> Result<Option<u32>, DecodeError> {
     let reply = NetlinkResponseView::parse(reply)?;
     let Some(memory) = netlink::memory(&reply)? else {
@@ -98,15 +100,16 @@ fn netlink_socket_that_linux_sent(rt: HostRuntime) {
     let reply = NetlinkResponseView::parse(&bytes).expect(&rt, "refused");
     let text = "RawHeader(NetlinkResponseHeader { kind: 3, protocol: 0, state: 7, port: 6250, \
         destination_port: 0, destination_group: 0, inode: 87039, cookie: 4097 })";
-    shows(&rt, alloc, &reply.header(), text);
+    assert_debug(&rt, alloc, &reply.header(), text);
     assert!(&rt; equal_raw_reply_views(&reply, &reply));
     assert!(&rt; equal_raw_headers(&reply.header(), &reply.header()));
     let flags = netlink::flags(&reply).expect(&rt, "refused");
+    // The bits of the groups 1 and 5 are 1 and 16.
     let text = "(Some([17, 0, 0, 0, 0, 0, 0, 0]), Some(32))";
-    shows(&rt, alloc, &(netlink::groups(&reply), flags), text);
+    assert_debug(&rt, alloc, &(netlink::groups(&reply), flags), text);
     let text = "Some(RawNla(NlaBuffer { type_word: 1, value: [17, 0, 0, 0, 0, 0, 0, 0] }))";
-    shows(&rt, alloc, &reply.attributes().next(), text);
-    shows(&rt, alloc, &dropped_packets(&bytes), "Ok(Some(0))");
+    assert_debug(&rt, alloc, &reply.attributes().next(), text);
+    assert_debug(&rt, alloc, &dropped_packets(&bytes), "Ok(Some(0))");
 }
 
 #[test]
@@ -116,16 +119,16 @@ fn packet_socket_that_linux_sent(rt: HostRuntime) {
     let reply = PacketResponseView::parse(&bytes).expect(&rt, "refused");
     let text = "RawHeader(PacketResponseHeader { kind: 3, protocol: 2048, inode: 87040, \
         cookie: 4099 })";
-    shows(&rt, alloc, &reply.header(), text);
+    assert_debug(&rt, alloc, &reply.header(), text);
     let text = "Ok(Some(PacketInfo { interface: 1, version: 0, reserve: 0, copy_threshold: 0, \
         timestamp: 0, flags: 1 }))";
-    shows(&rt, alloc, &packet::info(&reply), text);
+    assert_debug(&rt, alloc, &packet::info(&reply), text);
     let text = "Ok(Some(PacketRing { block_size: 4096, blocks: 2, frame_size: 2048, frames: 4, \
         retire_timeout: 0, private_size: 0, features: 0 }))";
-    shows(&rt, alloc, &packet::receive_ring(&reply), text);
+    assert_debug(&rt, alloc, &packet::receive_ring(&reply), text);
     let fanout = packet::fanout(&reply).expect(&rt, "refused");
     let text = "(Some(7), Some([6, 0, 0, 0, 255, 255, 0, 0]))";
-    shows(&rt, alloc, &(fanout, packet::filter(&reply)), text);
+    assert_debug(&rt, alloc, &(fanout, packet::filter(&reply)), text);
 }
 
 #[test]
@@ -136,7 +139,7 @@ fn fields_of_a_vsock_header(rt: HostRuntime) {
         "RawHeader(VsockResponseHeader { kind: 1, state: 10, shutdown: 0, source_context: 2, \
         source_port: 22, destination_context: 4294967295, destination_port: 4294967295, \
         inode: 20490, cookie: 5 })";
-    shows(&rt, rt.alloc(), &reply.header(), text);
+    assert_debug(&rt, rt.alloc(), &reply.header(), text);
 }
 
 #[test]
@@ -145,26 +148,28 @@ fn fields_of_an_xdp_socket(rt: HostRuntime) {
     let bytes = decoded(&rt, alloc, XDP);
     let reply = XdpResponseView::parse(&bytes).expect(&rt, "refused");
     let text = "RawHeader(XdpResponseHeader { kind: 3, inode: 11, cookie: 6 })";
-    shows(&rt, alloc, &reply.header(), text);
+    assert_debug(&rt, alloc, &reply.header(), text);
     let text = "Ok(Some(XdpUmem { size: 4194304, id: 2, pages: 1024, chunk_size: 4096, \
         headroom: 0, interface: 3, queue: 1, flags: 1, references: 1 }))";
-    shows(&rt, alloc, &xdp::shared_memory(&reply), text);
+    assert_debug(&rt, alloc, &xdp::shared_memory(&reply), text);
     let text = "Ok(Some(XdpInfo { interface: 3, queue: 1 }))";
-    shows(&rt, alloc, &xdp::info(&reply), text);
+    assert_debug(&rt, alloc, &xdp::info(&reply), text);
     let text = "Ok(Some(XdpStatistics { received_dropped: 1, received_invalid: 2, \
         received_full: 3, fill_ring_empty: 4, sent_invalid: 5, send_ring_empty: 6 }))";
-    shows(&rt, alloc, &xdp::statistics(&reply), text);
+    assert_debug(&rt, alloc, &xdp::statistics(&reply), text);
 }
 
 #[test]
 fn requests(rt: HostRuntime) {
     let alloc = rt.alloc();
+    // Listening sockets, of state 10.
     let vsock = VsockRequest {
         states: 0x400,
         cookie: 0,
     };
     let row = "280000000004000000000000000000000000000000000000";
-    writes(&rt, alloc, &vsock, row);
+    assert_emits(&rt, alloc, &vsock, row);
+    // Sockets of all protocols (`NDIAG_PROTO_ALL`).
     let netlink = NetlinkRequest {
         protocol: 255,
         inode: 0,
@@ -172,10 +177,12 @@ fn requests(rt: HostRuntime) {
         cookie: 0,
     };
     let row = "10ff0000000000000b0000000000000000000000";
-    writes(&rt, alloc, &netlink, row);
+    assert_emits(&rt, alloc, &netlink, row);
 }
 
-/// Replies, and the parts of their `Debug` output, as in [`shows_reply`].
+/// In each row: a reply, and the parts of its `Debug` output: the names of its variant and type,
+/// the number of its attributes, and the closing parentheses, as [`assert_debug_of_reply`] takes
+/// them.
 const REPLIES: [(&str, (&str, usize, &str)); 6] = [
     (NETLINK, ("Netlink(NetlinkResponseView", 3, ")")),
     (PACKET, ("Packet(PacketResponseView", 7, ")")),
@@ -188,24 +195,24 @@ const REPLIES: [(&str, (&str, usize, &str)); 6] = [
 #[test]
 fn debug_texts(rt: HostRuntime) {
     for (row, parts) in &REPLIES {
-        shows_reply(&rt, rt.alloc(), row, 0, *parts);
-        shows_reply(&rt, rt.alloc(), row, 1, *parts);
-        shows_reply(&rt, rt.alloc(), row, 300, *parts);
-        shows_reply(&rt, rt.alloc(), row, 10_000, *parts);
+        assert_debug_of_reply(&rt, rt.alloc(), row, 0, *parts);
+        assert_debug_of_reply(&rt, rt.alloc(), row, 1, *parts);
+        assert_debug_of_reply(&rt, rt.alloc(), row, 300, *parts);
+        assert_debug_of_reply(&rt, rt.alloc(), row, 10_000, *parts);
     }
 }
 
 /// Asserts that a reply of any family serializes to its bytes.
-fn is_written(rt: &impl Abort, alloc: Global, row: &str) {
+fn assert_emits_its_bytes(rt: &impl Abort, alloc: Global, row: &str) {
     let bytes = decoded(rt, alloc, row);
     let reply = AnySockDiagView::parse(&bytes, 20).expect(rt, "refused");
-    writes(rt, alloc, &reply, row);
+    assert_emits(rt, alloc, &reply, row);
 }
 
 /// Asserts that a reply is rejected with an error that has this text.
-fn is_rejected(rt: &impl Abort, alloc: Global, row: &str, text: &str) {
+fn assert_rejected(rt: &impl Abort, alloc: Global, row: &str, text: &str) {
     let bytes = decoded(rt, alloc, row);
-    let error = AnySockDiagView::parse(&bytes, 20).err().expect(rt, "read");
+    let error = AnySockDiagView::parse(&bytes, 20).err().expect(rt, "accepted");
     let shown = format!(in alloc; "{error}").expect(rt, "memory");
     assert!(rt; shown.as_str() == text, "{row}");
 }
@@ -216,9 +223,10 @@ const WRITABLE: [&str; 5] = [NETLINK, PACKET, VSOCK, XDP, UNIX];
 #[test]
 fn of_any_family(rt: HostRuntime) {
     for row in &WRITABLE {
-        is_written(&rt, rt.alloc(), row);
+        assert_emits_its_bytes(&rt, rt.alloc(), row);
     }
+    // A netlink reply (family 16) with a truncated header, and the family 29.
     let cut = "FamilyResponseHeader { family: 16 }: buffer of 5 bytes, at least 28 needed";
-    is_rejected(&rt, rt.alloc(), "1003000701", cut);
-    is_rejected(&rt, rt.alloc(), "1d03", "unknown address family 29");
+    assert_rejected(&rt, rt.alloc(), "1003000701", cut);
+    assert_rejected(&rt, rt.alloc(), "1d03", "unknown address family 29");
 }

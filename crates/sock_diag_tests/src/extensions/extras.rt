@@ -2,7 +2,7 @@
 //! are derived by hand from sock_diag(7) and `linux/inet_diag.h`, except for the bytes that Linux
 //! sent, as noted below.
 
-use super::shows;
+use super::assert_debug;
 use netlink_core::{DecodeError, FamilyView, NlaBuffer, NlasIterator};
 use sock_diag_extras::{
     AckAttributes, AckView, AttributeRecord, AttributeRecords, BbrInfo, BpfStorage, DctcpInfo,
@@ -41,17 +41,17 @@ where
     text
 }
 
-/// Returns the `Debug` output of the record in the bytes, and whether it serializes to the same
-/// bytes.
+/// Returns the `Debug` output of the record in the bytes, and `true` if it serializes to the same
+/// bytes, else `false`.
 fn record<T: AttributeRecord + Debug + Drop>(
     rt: &impl Abort,
     alloc: Global,
     bytes: &[u8],
 ) -> String {
     let parsed = read_attribute_record::<T>(bytes).expect(rt, "too short");
-    let mut back = vec![in alloc; 1; bytes.len()].expect(rt, "memory");
-    write_attribute_record(&parsed, &mut back);
-    let is_same = back.as_slice() == bytes;
+    let mut serialized = vec![in alloc; 1; bytes.len()].expect(rt, "memory");
+    write_attribute_record(&parsed, &mut serialized);
+    let is_same = serialized.as_slice() == bytes;
     format!(in alloc; "{parsed:?} {is_same}").expect(rt, "memory")
 }
 
@@ -75,13 +75,15 @@ fn acknowledgement(rt: &impl Abort, alloc: Global, ack: Option<AckView<'_>>) -> 
     format!(in alloc; "{numbers:?} {attributes}").expect(rt, "memory")
 }
 
-/// Returns the number, and the length and the sequence number of the request.
+/// Returns the error number of an acknowledgement, and the length and the sequence number of its
+/// request.
 fn acknowledged(ack: &AckView<'_>) -> (i32, usize, Option<u32>) {
     let sequence = ack.request_header().map(|header| header.sequence_number);
     (ack.number(), ack.request().len(), sequence)
 }
 
-/// Returns the message, the offset, the length of the policy and what [`missing`] returns as text.
+/// Returns as text, in this order: the message, the offset, the length of the policy, and what
+/// [`missing`] returns.
 fn attributes_text(rt: &impl Abort, alloc: Global, parsed: &AckAttributes<'_>) -> String {
     let policy = parsed.policy().map(|policy| policy.len());
     let message = parsed.message().expect(rt, "refused");
@@ -90,8 +92,8 @@ fn attributes_text(rt: &impl Abort, alloc: Global, parsed: &AckAttributes<'_>) -
     format!(in alloc; "{message:?} {offset:?} {policy:?} {missing:?}").expect(rt, "memory")
 }
 
-/// Returns the kind of a missing attribute, the offset of its nest, and the cookie, if there are
-/// any.
+/// Returns the kind of a missing attribute, the offset of the nest that lacks it, and the cookie;
+/// `None` for each that is not there.
 fn missing<'a>(
     rt: &impl Abort,
     parsed: &AckAttributes<'a>,
@@ -101,7 +103,8 @@ fn missing<'a>(
     (kind, nest, parsed.cookie())
 }
 
-/// Returns the upper layer protocol of a connection as text: its name, and fields of TLS and MPTCP.
+/// Returns the upper layer protocol of a connection as text: its name, and fields of TLS and MPTCP
+/// if the value has them.
 fn upper_protocol(rt: &impl Abort, alloc: Global, value: &[u8]) -> Result<String, DecodeError> {
     let info = UlpInfo::parse(value)?;
     let name = info.name()?;
@@ -116,7 +119,8 @@ fn upper_protocol(rt: &impl Abort, alloc: Global, value: &[u8]) -> Result<String
     Ok(format!(in alloc; "{name:?}{tls}{subflow}").expect(rt, "memory"))
 }
 
-/// Returns fields of TLS as text.
+/// Returns fields of TLS as text: `tls_numbers`, and whether it sends without copying, and expects
+/// no padding.
 fn tls_text(rt: &impl Abort, alloc: Global, tls: &TlsInfo) -> Result<String, DecodeError> {
     let numbers = tls_numbers(tls)?;
     let flags = (tls.sends_without_copy(), tls.expects_no_padding());
@@ -131,7 +135,7 @@ fn tls_numbers(tls: &TlsInfo) -> Result<(Option<u64>, Option<u64>), DecodeError>
     Ok((version, receiving))
 }
 
-/// Returns fields of MPTCP as text.
+/// Returns fields of a subflow of MPTCP as text: those of `subflow_numbers`.
 fn subflow_text(
     rt: &impl Abort,
     alloc: Global,
@@ -161,8 +165,8 @@ const MPTCP_FIELDS: [(MptcpField, &str); 24] = with_names![
     EndpLaminarMax, LastDataSent, LastDataRecv, LastAckRecv
 ];
 
-/// Returns the fields of `struct mptcp_info` that the bytes contain in hexadecimal, and the number
-/// of bytes after them.
+/// Returns, in hexadecimal, the fields of `struct mptcp_info` that the bytes contain, with `-` for
+/// each field that they lack; and the number of bytes after them.
 fn connection(rt: &impl Abort, alloc: Global, bytes: &[u8]) -> String {
     let info = MptcpInfoBytes::new(bytes);
     let mut text = String::new(alloc);
@@ -184,7 +188,8 @@ fn number_text(rt: &impl Abort, alloc: Global, number: Option<u64>) -> String {
     text.expect(rt, "memory")
 }
 
-/// Returns the map id and the value of each storage of BPF programs as text.
+/// Returns the map id and the value of each storage of BPF programs in the value of an attribute as
+/// text.
 fn storages(rt: &impl Abort, alloc: Global, value: &[u8]) -> String {
     let mut text = String::new(alloc);
     for item in NlasIterator::new(value) {
@@ -194,7 +199,8 @@ fn storages(rt: &impl Abort, alloc: Global, value: &[u8]) -> String {
     text
 }
 
-/// Returns the map id and the value of one storage as text, or `other` if the attribute is none.
+/// Returns the map id and the value of one storage as text, or `other` if the attribute is not a
+/// storage.
 fn storage(rt: &impl Abort, alloc: Global, nla: &NlaBuffer) -> String {
     let line = match BpfStorage::parse(nla).expect(rt, "refused") {
         Some(parsed) => {
@@ -206,8 +212,8 @@ fn storage(rt: &impl Abort, alloc: Global, nla: &NlaBuffer) -> String {
     line.expect(rt, "memory")
 }
 
-/// Returns the content of the bytes as text. The word before them in a row selects the parser; a
-/// number is the flags of an `NLMSG_ERROR`.
+/// Returns the content of the bytes as text. The word, with which a row starts, selects the parser;
+/// a number is the flags of an `NLMSG_ERROR`.
 fn content_text(rt: &impl Abort, alloc: Global, word: &str, bytes: &[u8]) -> String {
     match word {
         "reply" => inet_items(rt, alloc, bytes),
@@ -220,6 +226,7 @@ fn content_text(rt: &impl Abort, alloc: Global, word: &str, bytes: &[u8]) -> Str
         "storages" => storages(rt, alloc, bytes),
         "ulp" => upper_protocol_or_error(rt, alloc, bytes),
         "mptcp" => connection(rt, alloc, bytes),
+        // The flags `NLM_F_MULTI` (2) and `NLM_F_ACK_TLVS` (512).
         "done" => acknowledgement(rt, alloc, AckView::of_done(514, bytes)),
         flags => error_message(rt, alloc, flags, bytes),
     }
@@ -248,15 +255,25 @@ fn upper_protocol_or_error(rt: &impl Abort, alloc: Global, value: &[u8]) -> Stri
     text.expect(rt, "memory")
 }
 
-/// Returns the content of an `NLMSG_ERROR` with these flags as text.
+/// Returns the content of an `NLMSG_ERROR` as text. The flags are a decimal number.
 fn error_message(rt: &impl Abort, alloc: Global, flags: &str, bytes: &[u8]) -> String {
-    let flags = flags.parse::<u16>().expect(rt, "a number");
+    let flags = flags.parse::<u16>().expect(rt, "no number");
     acknowledgement(rt, alloc, AckView::of_error(flags, bytes))
 }
 
-// A row has a word, bytes in hexadecimal, and after `|` the expected text. Linux 6.18 sent the
-// bytes of the rows 512, 256 and `done`, of the first rows 768 and 0, of the `ulp` row about MPTCP,
-// and of the first two rows `mptcp`.
+// A row has a word, bytes in hexadecimal, and after `|` the expected text, which `content_text`
+// makes of the bytes by the word. Linux 6.18 sent the bytes of the rows 512, 256 and `done`, of the
+// first rows 768 and 0, of the `ulp` row about MPTCP, and of the first two rows `mptcp`.
+//
+// A number in place of the word is the flags of an `NLMSG_ERROR`: 256 is `NLM_F_CAPPED`, 512 is
+// `NLM_F_ACK_TLVS`, and 768 is both. The text of an acknowledgement has what `acknowledged`
+// returns, and then the text of `attributes_text`. In the first row 0 the length field of the
+// request is 17; in those with `nothing` it is 15, less than a header, and 21, more than there are
+// bytes.
+//
+// The last two rows `ulp` have errors. The text of `mptcp` has the fields of `MPTCP_FIELDS` in
+// order, in hexadecimal, and then the number of bytes after them. In the third row `mptcp` each
+// byte is its own offset. The rows after it lack fields.
 const ROWS: &str = "\
 reply |
 reply 08000200010203040500080001000000|\
@@ -353,9 +370,9 @@ storages 0400020014000180080002000900000005000300070000000c000180080003000100000
 other;Some(9) Some([7]);None Some([1, 0, 0, 0]);";
 
 /// Asserts that the content of the bytes in a row is the text in it.
-fn row_holds(rt: &impl Abort, alloc: Global, row: &str) {
-    let (given, text) = row.split_once('|').expect(rt, "no text");
-    let (word, digits) = given.split_once(' ').expect(rt, "no word");
+fn assert_row(rt: &impl Abort, alloc: Global, row: &str) {
+    let (input, text) = row.split_once('|').expect(rt, "no text");
+    let (word, digits) = input.split_once(' ').expect(rt, "no word");
     let bytes = hex::decode(alloc, digits).expect(rt, "digits");
     let shown = content_text(rt, alloc, word, &bytes);
     assert!(rt; shown.as_str() == text, "{row}");
@@ -364,34 +381,35 @@ fn row_holds(rt: &impl Abort, alloc: Global, row: &str) {
 #[test]
 fn rows(rt: HostRuntime) {
     for row in ROWS.lines() {
-        row_holds(&rt, rt.alloc(), row);
+        assert_row(&rt, rt.alloc(), row);
     }
 }
 
 /// Asserts what `Debug` prints for two fields of `struct tcp_info` (total retransmissions, and
 /// bytes received with the ECN mark CE), and for whether the bytes contain all of the port's
 /// record.
-fn shows_tcp_fields(rt: &impl Abort, alloc: Global, bytes: &[u8], text: &str) {
+fn assert_tcp_fields(rt: &impl Abort, alloc: Global, bytes: &[u8], text: &str) {
     let info = TcpInfoBytes::new(bytes);
     let resent = info.get(TcpField::TotalRetrans);
     let marked = info.get(TcpField::ReceivedCeBytes);
-    shows(rt, alloc, &(resent, marked, info.whole().is_some()), text);
+    assert_debug(rt, alloc, &(resent, marked, info.whole().is_some()), text);
 }
 
 /// Checks values of several lengths. A field has a value only if the bytes contain all of it.
 #[test]
 fn as_far_as_the_bytes_go(rt: HostRuntime) {
+    // `tcpi_total_retrans` is the `u32` at offset 100. The `u32` at 272 with the bytes 0, 1 is 256.
     let mut value = [0; 281];
     value[100] = 7;
     value[273] = 1;
-    shows_tcp_fields(&rt, rt.alloc(), &value[..103], "(None, None, false)");
-    shows_tcp_fields(&rt, rt.alloc(), &value[..104], "(Some(7), None, false)");
-    shows_tcp_fields(&rt, rt.alloc(), &value[..275], "(Some(7), None, true)");
-    shows_tcp_fields(&rt, rt.alloc(), &value, "(Some(7), Some(256), true)");
+    assert_tcp_fields(&rt, rt.alloc(), &value[..103], "(None, None, false)");
+    assert_tcp_fields(&rt, rt.alloc(), &value[..104], "(Some(7), None, false)");
+    assert_tcp_fields(&rt, rt.alloc(), &value[..275], "(Some(7), None, true)");
+    assert_tcp_fields(&rt, rt.alloc(), &value, "(Some(7), Some(256), true)");
 }
 
-/// Checks a record with a key that Linux 6.18 sent. It is padded with zeros, and 7 bytes remain
-/// after the record.
+/// Checks a record of 100 bytes, whose start, up to the key, Linux 6.18 sent. It is padded with
+/// zeros, and 7 bytes remain after the record.
 #[test]
 fn signatures(rt: HostRuntime) {
     let digits = "022006007f000002000000000000000000000000736563726574";
@@ -399,12 +417,12 @@ fn signatures(rt: HostRuntime) {
     value.resize(107, 0).expect(&rt, "memory");
     let mut records = AttributeRecords::<Md5Signature>::new(&value);
     let parsed = records.next().expect(&rt, "too short");
-    is_signature(&rt, &parsed);
+    assert_signature(&rt, &parsed);
     assert!(&rt; records.next().is_none() && records.rest().len() == 7);
 }
 
-/// Asserts that the record is the one of the test above.
-fn is_signature(rt: &impl Abort, parsed: &Md5Signature) {
+/// Asserts that the record is the one of `signatures`: for 127.0.0.2/32, with the key `secret`.
+fn assert_signature(rt: &impl Abort, parsed: &Md5Signature) {
     assert!(rt; parsed.family == 2 && parsed.prefix_length == 32 && parsed.key_length == 6);
     assert!(rt; parsed.address.starts_with(&[127, 0, 0, 2]) && parsed.key.starts_with(b"secret\0"));
 }
@@ -419,8 +437,14 @@ fn attribute(rt: &impl Abort, alloc: Global, value: &[u8]) -> Vec<u8> {
 }
 
 /// Asserts that `Debug` prints the value as this text, in parentheses after the name.
-fn wraps<T: Debug>(rt: &impl Abort, alloc: Global, value: &T, name: &str, text: &str) {
-    shows(
+fn assert_debug_in_parentheses<T: Debug>(
+    rt: &impl Abort,
+    alloc: Global,
+    value: &T,
+    name: &str,
+    text: &str,
+) {
+    assert_debug(
         rt,
         alloc,
         value,
@@ -435,22 +459,22 @@ fn in_parentheses(rt: &impl Abort, alloc: Global, name: &str, text: &str) -> Str
 
 /// Asserts that `Debug` prints the bytes of each type that borrows an attribute with this value, or
 /// the value itself.
-fn values_have_texts_of(rt: &impl Abort, alloc: Global, value: &[u8]) {
+fn assert_debug_of_views(rt: &impl Abort, alloc: Global, value: &[u8]) {
     let bytes = attribute(rt, alloc, value);
     let nested = NestedNlas::parse(&bytes).expect(rt, "refused");
     let text = fields_text(rt, alloc, "NestedNlas", &bytes);
-    shows(rt, alloc, &nested, text.as_str());
-    wraps(rt, alloc, &UlpInfo(nested), "UlpInfo", text.as_str());
-    wraps(rt, alloc, &TlsInfo(nested), "TlsInfo", text.as_str());
-    wraps(
+    assert_debug(rt, alloc, &nested, text.as_str());
+    assert_debug_in_parentheses(rt, alloc, &UlpInfo(nested), "UlpInfo", text.as_str());
+    assert_debug_in_parentheses(rt, alloc, &TlsInfo(nested), "TlsInfo", text.as_str());
+    assert_debug_in_parentheses(
         rt,
         alloc,
         &SubflowInfo(nested),
         "SubflowInfo",
         text.as_str(),
     );
-    wraps(rt, alloc, &BpfStorage(nested), "BpfStorage", text.as_str());
-    wraps(
+    assert_debug_in_parentheses(rt, alloc, &BpfStorage(nested), "BpfStorage", text.as_str());
+    assert_debug_in_parentheses(
         rt,
         alloc,
         &AckAttributes(nested),
@@ -458,9 +482,9 @@ fn values_have_texts_of(rt: &impl Abort, alloc: Global, value: &[u8]) {
         text.as_str(),
     );
     let text = fields_text(rt, alloc, "TcpInfoBytes", value);
-    shows(rt, alloc, &TcpInfoBytes::new(value), text.as_str());
+    assert_debug(rt, alloc, &TcpInfoBytes::new(value), text.as_str());
     let text = fields_text(rt, alloc, "MptcpInfoBytes", value);
-    shows(rt, alloc, &MptcpInfoBytes::new(value), text.as_str());
+    assert_debug(rt, alloc, &MptcpInfoBytes::new(value), text.as_str());
 }
 
 /// Returns the text of a struct of this name with one field, `bytes`.
@@ -468,13 +492,14 @@ fn fields_text(rt: &impl Abort, alloc: Global, name: &str, bytes: &[u8]) -> Stri
     format!(in alloc; "{name} {{ bytes: {bytes:?} }}").expect(rt, "memory")
 }
 
+/// Lengths of the values of the attributes that `Debug` prints.
 const VALUE_SIZES: [usize; 7] = [0, 1, 2, 232, 280, 300, 65_531];
 
 #[test]
 fn values_have_texts(rt: HostRuntime) {
     for &size in &VALUE_SIZES {
         let value = vec![in rt.alloc(); 7; size].expect(&rt, "memory");
-        values_have_texts_of(&rt, rt.alloc(), &value);
+        assert_debug_of_views(&rt, rt.alloc(), &value);
     }
 }
 
@@ -482,8 +507,10 @@ fn values_have_texts(rt: HostRuntime) {
 fn acknowledgements_and_items_have_texts(rt: HostRuntime) {
     let alloc = rt.alloc();
     let text = "AckView { number: 1, request: [], attributes: [9] }";
+    // The flag is `NLM_F_ACK_TLVS`, so what follows the error number is attributes.
     let ack = AckView::of_done(512, &[1, 0, 0, 0, 9]).expect(&rt, "too short");
-    shows(&rt, alloc, &ack, text);
+    assert_debug(&rt, alloc, &ack, text);
+    // A peer of 1 byte instead of 4, with a flag bit in its type field, and two bytes more.
     let bytes = reply(&rt, alloc, 1, 16, &[5, 0, 2, 128, 7, 0, 0, 0, 0, 0]);
     let reply = LenientUnixReply::parse(&bytes).expect(&rt, "refused");
     let mut attributes = reply.attributes();
@@ -491,10 +518,11 @@ fn acknowledgements_and_items_have_texts(rt: HostRuntime) {
     let text = "[Some(Err(Attribute(NlaBuffer { type_word: 32770, value: [7] }, WrongLength { \
         kind: Some(2), got: 1, need: 4 }))), Some(Err(Framing(AttributeHeaderCut { left: 2 }))), \
         None]";
-    shows(&rt, alloc, &three, text);
+    assert_debug(&rt, alloc, &three, text);
 }
 
-/// The fields of `struct tcp_info`, in order, each with its name. Only the test of `Debug` uses it.
+/// The fields of `struct tcp_info`, in order, each with its name. Only the test of `Debug` output
+/// uses them.
 const TCP_FIELDS: [(TcpField, &str); 68] = with_names![
     TcpField: State, CaState, Retransmits, Probes, Backoff, Options, Wscale,
     DeliveryRateAppLimited, Rto, Ato, SndMss, RcvMss, Unacked, Sacked, Lost, Retrans, Fackets,
@@ -526,25 +554,29 @@ const SUBFLOW_FIELDS: [(SubflowField, &str); 10] = with_names![
 ];
 
 /// Asserts that `Debug` prints each value as its name.
-fn have_names<T: Debug>(rt: &impl Abort, alloc: Global, values: &[(T, &str)]) {
+fn assert_debug_names<T: Debug>(rt: &impl Abort, alloc: Global, values: &[(T, &str)]) {
     for (value, name) in values {
-        shows(rt, alloc, value, *name);
+        assert_debug(rt, alloc, value, *name);
     }
 }
 
 #[test]
 fn fields_have_texts(rt: HostRuntime) {
-    have_names(&rt, rt.alloc(), &TCP_FIELDS);
-    have_names(&rt, rt.alloc(), &MPTCP_FIELDS);
-    have_names(&rt, rt.alloc(), &OPTIONS);
-    have_names(&rt, rt.alloc(), &TLS_FIELDS);
-    have_names(&rt, rt.alloc(), &SUBFLOW_FIELDS);
+    assert_debug_names(&rt, rt.alloc(), &TCP_FIELDS);
+    assert_debug_names(&rt, rt.alloc(), &MPTCP_FIELDS);
+    assert_debug_names(&rt, rt.alloc(), &OPTIONS);
+    assert_debug_names(&rt, rt.alloc(), &TLS_FIELDS);
+    assert_debug_names(&rt, rt.alloc(), &SUBFLOW_FIELDS);
 }
 
 /// Asserts that `Debug` prints the record that consists of zeros as this text.
-fn zeros_have_text<T: AttributeRecord + Debug + Drop>(rt: &impl Abort, alloc: Global, text: &str) {
+fn assert_debug_of_zeros<T: AttributeRecord + Debug + Drop>(
+    rt: &impl Abort,
+    alloc: Global,
+    text: &str,
+) {
     let record = read_attribute_record::<T>(&[0; 128]).expect(rt, "too short");
-    shows(rt, alloc, &record, text);
+    assert_debug(rt, alloc, &record, text);
 }
 
 /// The `Debug` output of the address that consists of zeros.
@@ -564,6 +596,6 @@ Md5Signature { family: 0, prefix_length: 0, key_length: 0, address: [0, 0, 0, 0,
 
 #[test]
 fn records_have_texts(rt: HostRuntime) {
-    zeros_have_text::<StoredAddress>(&rt, rt.alloc(), NO_ADDRESS);
-    zeros_have_text::<Md5Signature>(&rt, rt.alloc(), NO_SIGNATURE);
+    assert_debug_of_zeros::<StoredAddress>(&rt, rt.alloc(), NO_ADDRESS);
+    assert_debug_of_zeros::<Md5Signature>(&rt, rt.alloc(), NO_SIGNATURE);
 }

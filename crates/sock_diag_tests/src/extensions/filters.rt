@@ -1,6 +1,6 @@
 //! Tests of programs against those that ss(8) sends, of requests, and of `Debug` outputs.
 
-use super::{is_text, shows};
+use super::{assert_debug, assert_text};
 use netlink_core::Emitable;
 use sock_diag_filters::uses::listening_on;
 use sock_diag_filters::{
@@ -12,8 +12,8 @@ use std::net::{IpAddr, Ipv4Addr, Ipv6Addr};
 use std::process::Abort;
 
 /// Asserts that the filter assembles to the program in hexadecimal.
-fn assembles(rt: &impl Abort, alloc: Global, filter: &Filter, program: &str) {
-    is_hex(rt, alloc, &assembled(rt, alloc, filter), program);
+fn assert_assembles(rt: &impl Abort, alloc: Global, filter: &Filter, program: &str) {
+    assert_hex(rt, alloc, &assembled(rt, alloc, filter), program);
 }
 
 /// Returns the program of the filter.
@@ -21,15 +21,15 @@ fn assembled(rt: &impl Abort, alloc: Global, filter: &Filter) -> Vec<u8> {
     assemble(alloc, filter).expect(rt, "refused")
 }
 
-/// Asserts that the digits of the bytes are these.
-fn is_hex(rt: &impl Abort, alloc: Global, bytes: &[u8], digits: &str) {
+/// Asserts that the bytes have these digits in hexadecimal.
+fn assert_hex(rt: &impl Abort, alloc: Global, bytes: &[u8], digits: &str) {
     let encoded = hex::encode(alloc, bytes).expect(rt, "memory");
-    is_text(rt, encoded.as_str(), digits);
+    assert_text(rt, encoded.as_str(), digits);
 }
 
 /// Asserts that the condition assembles to the program in hexadecimal.
-fn one_assembles(rt: &impl Abort, alloc: Global, condition: Condition, program: &str) {
-    assembles(rt, alloc, &Filter::Condition(condition), program);
+fn assert_condition_assembles(rt: &impl Abort, alloc: Global, condition: Condition, program: &str) {
+    assert_assembles(rt, alloc, &Filter::Condition(condition), program);
 }
 
 /// Checks the programs that ss(8) sends for `dst [::1]:53`, `autobound`, `cgroup /` (with the id
@@ -41,13 +41,13 @@ fn conditions_are_those_of_ss(rt: HostRuntime) {
         port: Some(53),
     };
     let program = "081c20000a8000003500000000000000000000000000000000000001";
-    one_assembles(&rt, rt.alloc(), Condition::Destination(local), program);
+    assert_condition_assembles(&rt, rt.alloc(), Condition::Destination(local), program);
     for (condition, program) in &PROGRAMS {
-        one_assembles(&rt, rt.alloc(), *condition, program);
+        assert_condition_assembles(&rt, rt.alloc(), *condition, program);
     }
 }
 
-/// Conditions, and their programs in hexadecimal.
+/// In each row: a condition, and its program in hexadecimal.
 const PROGRAMS: [(Condition, &str); 4] = [
     (Condition::AutoBound, "06040800"),
     (Condition::Cgroup(0), "0d0c10000000000000000000"),
@@ -72,7 +72,7 @@ fn a_filter_is_that_of_ss(rt: HostRuntime) {
     let high = Filter::Condition(Condition::SourcePort(Comparison::AtLeast, 1024));
     let program =
         "02082c000000000405080c0000006300010418000710140002080000ffffffff0a00000001040800";
-    assembles(&rt, rt.alloc(), &Filter::And(&high, &either), program);
+    assert_assembles(&rt, rt.alloc(), &Filter::And(&high, &either), program);
 }
 
 /// A dump request for listening IPv4 sockets, with the sequence number 9, the program of
@@ -84,10 +84,12 @@ const ASKED: &str = "\
 #[test]
 fn requests_are_written(rt: HostRuntime) {
     let alloc = rt.alloc();
+    // No port is at least 443 and at most 80, which is not an error.
     assert!(rt; listening_on(alloc, 443, 80, 9).is_ok());
     let message = listening_on(alloc, 80, 443, 9).expect(&rt, "refused");
-    let view = RequestView::parse(&message).expect(&rt, "a request");
+    let view = RequestView::parse(&message).expect(&rt, "no request");
     assert!(rt; view.protocol == 6);
+    // The request for TCP (6), with the program of `autobound` and the protocol MPTCP (262).
     let program = RequestAttribute::Program(&[6, 4, 8, 0]);
     let request = RequestWithAttributes {
         header: view.header,
@@ -97,13 +99,13 @@ fn requests_are_written(rt: HostRuntime) {
     assert!(rt; request.is_writable());
     let mut bytes = vec![in alloc; 0; request.buffer_len()].expect(&rt, "memory");
     request.emit(&mut bytes);
-    is_hex(&rt, alloc, &bytes, ASKED);
+    assert_hex(&rt, alloc, &bytes, ASKED);
 }
 
-/// Requests derived by hand from the kernel's headers, each with its `Debug` output: to close the
-/// UNIX socket with inode 0x1234, followed by an attribute; for netlink sockets of all protocols,
-/// with their memory counters; for packet sockets; for listening vsock sockets; for XDP sockets;
-/// and for IPv6 sockets.
+/// In each row: a request in hexadecimal, `|`, and its `Debug` output. The requests were derived by
+/// hand from the kernel's headers: to close the UNIX socket with inode 0x1234, followed by an
+/// attribute; for netlink sockets of all protocols, with their memory counters; for packet sockets;
+/// for listening vsock sockets; for XDP sockets; and for IPv6 sockets.
 const BY_FAMILY: &str = "\
 2c0000001500050009000000000000000100000002040000341200000100000000000000000000ff04000900|\
 Ok(Unix(RecordRequestView { header: NetlinkHeader { length: 44, message_type: 21, flags: 5, \
@@ -134,7 +136,7 @@ extensions: ExtensionFlags(0), states: StateFlags(2), socket_id: SocketId { sour
 destination_port: 54321, source_address: ::1, destination_address: ::1, interface_id: 3, \
 cookie: [0, 0, 0, 0, 0, 0, 0, 255] } }, protocol: 6, program: None }))";
 
-/// The `Debug` output of the parsed [`ASKED`].
+/// The end of a row for [`ASKED`]: `|`, and the `Debug` output of the parsed request.
 const ASKED_TEXT: &str = "|\
 Ok(Inet(RequestView { header: NetlinkHeader { length: 88, message_type: 20, flags: 769, \
 sequence_number: 9, port_number: 0 }, request: InetRequest { family: 2, protocol: 6, \
@@ -142,27 +144,34 @@ extensions: ExtensionFlags(0), states: StateFlags(1024), socket_id: SocketId { s
 destination_port: 0, source_address: 0.0.0.0, destination_address: 0.0.0.0, interface_id: 0, \
 cookie: [0, 0, 0, 0, 0, 0, 0, 0] } }, protocol: 262, program: Some([6, 4, 8, 0]) }))";
 
-/// Asserts that `Debug` prints the result of parsing a request as the text in the row.
-fn is_shown(rt: &impl Abort, alloc: Global, row: &str) {
+/// Checks a row. It has a request in hexadecimal, `|`, and what `Debug` prints for the result of
+/// parsing it.
+fn assert_request_row(rt: &impl Abort, alloc: Global, row: &str) {
     let (digits, text) = row.split_once('|').expect(rt, "no text");
     let bytes = hex::decode(alloc, digits).expect(rt, "digits");
-    shows(rt, alloc, &AnyRequestView::parse(&bytes), text);
+    assert_debug(rt, alloc, &AnyRequestView::parse(&bytes), text);
 }
 
 #[test]
 fn requests_are_read(rt: HostRuntime) {
     for row in BY_FAMILY.lines() {
-        is_shown(&rt, rt.alloc(), row);
+        assert_request_row(&rt, rt.alloc(), row);
     }
     let asked = [ASKED, ASKED_TEXT].concat(rt.alloc()).expect(&rt, "memory");
-    is_shown(&rt, rt.alloc(), asked.as_str());
+    assert_request_row(&rt, rt.alloc(), asked.as_str());
 }
 
 /// Asserts that `Debug` and `Display` print the error of `assemble` as these texts.
-fn fails(rt: &impl Abort, alloc: Global, error: AssembleError, name: &str, text: &str) {
-    shows(rt, alloc, &error, name);
+fn assert_error_texts(
+    rt: &impl Abort,
+    alloc: Global,
+    error: AssembleError,
+    name: &str,
+    text: &str,
+) {
+    assert_debug(rt, alloc, &error, name);
     let shown = format!(in alloc; "{error}").expect(rt, "memory");
-    is_text(rt, shown.as_str(), text);
+    assert_text(rt, shown.as_str(), text);
 }
 
 /// Checks the texts of errors of `assemble`.
@@ -170,13 +179,13 @@ fn fails(rt: &impl Abort, alloc: Global, error: AssembleError, name: &str, text:
 fn errors_have_texts(rt: HostRuntime) {
     let alloc = rt.alloc();
     let text = "a filter of more than 65531 bytes";
-    fails(&rt, alloc, AssembleError::TooLong, "TooLong", text);
-    fails(&rt, alloc, AssembleError::Memory, "Memory", "out of memory");
+    assert_error_texts(&rt, alloc, AssembleError::TooLong, "TooLong", text);
+    assert_error_texts(&rt, alloc, AssembleError::Memory, "Memory", "out of memory");
 }
 
 /// Asserts that `Debug` prints the condition as this text.
-fn is_shown_as(rt: &impl Abort, alloc: Global, condition: Condition, text: &str) {
-    shows(rt, alloc, &condition, text);
+fn assert_condition_debug(rt: &impl Abort, alloc: Global, condition: Condition, text: &str) {
+    assert_debug(rt, alloc, &condition, text);
 }
 
 /// Checks the `Debug` output of conditions on addresses.
@@ -188,23 +197,24 @@ fn conditions_on_addresses_have_texts(rt: HostRuntime) {
         port: None,
     };
     let text = "Source(Host { prefix: Some(Prefix { address: 127.0.0.1, bits: 8 }), port: None })";
-    is_shown_as(&rt, alloc, Condition::Source(local), text);
+    assert_condition_debug(&rt, alloc, Condition::Source(local), text);
+    // Any address.
     let any = Host {
         prefix: None,
         port: Some(53),
     };
     let text = "Destination(Host { prefix: None, port: Some(53) })";
-    is_shown_as(&rt, alloc, Condition::Destination(any), text);
+    assert_condition_debug(&rt, alloc, Condition::Destination(any), text);
     let far = Host {
         prefix: Prefix::new(IpAddr::V6(Ipv6Addr::LOCALHOST), 128),
         port: Some(53),
     };
     let text =
         "Destination(Host { prefix: Some(Prefix { address: ::1, bits: 128 }), port: Some(53) })";
-    is_shown_as(&rt, alloc, Condition::Destination(far), text);
+    assert_condition_debug(&rt, alloc, Condition::Destination(far), text);
 }
 
-/// Conditions, and their `Debug` output.
+/// In each row: a condition, and its `Debug` output.
 const CONDITIONS: [(Condition, &str); 7] = [
     (
         Condition::SourcePort(Comparison::AtLeast, 1),
@@ -232,11 +242,11 @@ const CONDITIONS: [(Condition, &str); 7] = [
 fn conditions_have_texts(rt: HostRuntime) {
     let alloc = rt.alloc();
     for (condition, text) in &CONDITIONS {
-        is_shown_as(&rt, alloc, *condition, text);
+        assert_condition_debug(&rt, alloc, *condition, text);
     }
     let program = RequestAttribute::Program(&[6, 4]);
-    shows(&rt, alloc, &program, "Program([6, 4])");
-    shows(
+    assert_debug(&rt, alloc, &program, "Program([6, 4])");
+    assert_debug(
         &rt,
         alloc,
         &RequestAttribute::Protocol(262),
@@ -245,25 +255,25 @@ fn conditions_have_texts(rt: HostRuntime) {
 }
 
 /// Asserts that an allocation for the program of a filter does not fail.
-fn has_room(rt: &impl Abort, alloc: Global, filter: &Filter) {
+fn assert_program_fits(rt: &impl Abort, alloc: Global, filter: &Filter) {
     assert!(rt; assemble(alloc, filter).err() != Some(AssembleError::Memory));
 }
 
-/// Asserts the same for the filter, and for filters of 2, 4, 8, 16, 32 and 64 times as many
-/// operations.
-fn has_room_up_to_64(rt: &impl Abort, alloc: Global, one: &Filter) {
+/// Asserts that no allocation fails for the program of the filter `one`, and of filters of 2, 4, 8,
+/// 16, 32 and 64 times as many operations.
+fn assert_programs_fit(rt: &impl Abort, alloc: Global, one: &Filter) {
     let two = Filter::And(one, one);
     let four = Filter::And(&two, &two);
     let eight = Filter::And(&four, &four);
     let of_16 = Filter::And(&eight, &eight);
     let of_32 = Filter::And(&of_16, &of_16);
-    has_room(rt, alloc, one);
-    has_room(rt, alloc, &two);
-    has_room(rt, alloc, &four);
-    has_room(rt, alloc, &eight);
-    has_room(rt, alloc, &of_16);
-    has_room(rt, alloc, &of_32);
-    has_room(rt, alloc, &Filter::And(&of_32, &of_32));
+    assert_program_fits(rt, alloc, one);
+    assert_program_fits(rt, alloc, &two);
+    assert_program_fits(rt, alloc, &four);
+    assert_program_fits(rt, alloc, &eight);
+    assert_program_fits(rt, alloc, &of_16);
+    assert_program_fits(rt, alloc, &of_32);
+    assert_program_fits(rt, alloc, &Filter::And(&of_32, &of_32));
 }
 
 /// Checks filters of 1, 2, 4 and so on up to 8,192 operations of 4 bytes.
@@ -276,6 +286,7 @@ fn programs_of_each_size(rt: HostRuntime) {
     let of_16 = Filter::And(&eight, &eight);
     let of_32 = Filter::And(&of_16, &of_16);
     let of_64 = Filter::And(&of_32, &of_32);
-    has_room_up_to_64(&rt, rt.alloc(), &one);
-    has_room_up_to_64(&rt, rt.alloc(), &Filter::And(&of_64, &of_64));
+    assert_programs_fit(&rt, rt.alloc(), &one);
+    // 128 operations, and up to 64 times as many.
+    assert_programs_fit(&rt, rt.alloc(), &Filter::And(&of_64, &of_64));
 }

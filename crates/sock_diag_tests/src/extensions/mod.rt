@@ -1,6 +1,6 @@
 //! The tests of the extensions: other families, newer attributes, lenient replies and filters.
 
-use crate::port::{is_text, shows};
+use crate::port::{assert_debug, assert_text};
 
 mod any;
 mod extras;

@@ -1,7 +1,7 @@
 //! Names and attributes of each size: no allocation fails if there is memory.
 
+use super::assert_debug;
 use super::attributes::{Subject, examine};
-use super::shows;
 use netlink_core::NlaBuffer;
 use sock_diag_attributes::unix::nlas::NlaView;
 use std::alloc::{AllocError, Global};
@@ -20,8 +20,9 @@ pub(super) fn attribute(
     Ok(bytes)
 }
 
-/// Asserts that a value is parsed, copied from its view, printed, and serialized.
-fn has_room(rt: &impl Abort, alloc: Global, subject: Subject, bytes: &[u8]) {
+/// Asserts that the bytes are parsed as a value of this type, which is copied from its view,
+/// printed and serialized.
+fn assert_fits(rt: &impl Abort, alloc: Global, subject: Subject, bytes: &[u8]) {
     let report = examine(rt, alloc, subject, bytes).expect(rt, "refused");
     assert!(rt; report.written.is_ok() && report.form.is_ok());
 }
@@ -43,7 +44,7 @@ fn name_of_size(rt: &impl Abort, alloc: Global, size: usize, first: u8) {
     let mut bytes = vec![in alloc; first; 1].expect(rt, "memory");
     bytes.resize(size, b'a').expect(rt, "memory");
     bytes.push(0).expect(rt, "memory");
-    has_room(rt, alloc, Subject::Name, &bytes);
+    assert_fits(rt, alloc, Subject::Name, &bytes);
 }
 
 #[test]
@@ -62,8 +63,9 @@ const LENGTHS: [u16; 11] = [
     516, 1_004, 1_028, 2_052, 4_100, 8_196, 10_004, 16_388, 32_772, 50_004, 65_532,
 ];
 
-/// Checks an attribute of this length and kind. Each byte of the value is `byte`.
-fn of_length(
+/// Checks an attribute of this kind, whose length is `length + more`. Each byte of the value is
+/// `byte`.
+fn assert_length_fits(
     rt: &impl Abort,
     alloc: Global,
     subject: Subject,
@@ -71,14 +73,15 @@ fn of_length(
     (kind, byte, more): (u8, u8, u16),
 ) {
     let bytes = attribute(alloc, length.saturating_add(more), kind, byte);
-    has_room(rt, alloc, subject, &bytes.expect(rt, "memory"));
+    assert_fits(rt, alloc, subject, &bytes.expect(rt, "memory"));
 }
 
-/// Checks an abstract name of one byte more, and attributes of an unknown kind.
+/// Checks an abstract name (`UNIX_DIAG_NAME`, 0) in an attribute of `length + 1` bytes, and
+/// attributes of an unknown kind (7) of `length` and `length + 3` bytes.
 fn unix_attributes_of(rt: &impl Abort, alloc: Global, length: u16) {
-    of_length(rt, alloc, Subject::UnixAttribute, length, (0, 0, 1));
-    of_length(rt, alloc, Subject::UnixAttribute, length, (7, 1, 0));
-    of_length(rt, alloc, Subject::UnixAttribute, length, (7, 1, 3));
+    assert_length_fits(rt, alloc, Subject::UnixAttribute, length, (0, 0, 1));
+    assert_length_fits(rt, alloc, Subject::UnixAttribute, length, (7, 1, 0));
+    assert_length_fits(rt, alloc, Subject::UnixAttribute, length, (7, 1, 3));
 }
 
 #[test]
@@ -91,9 +94,10 @@ fn unix_attributes(rt: HostRuntime) {
     }
 }
 
-/// Asserts that a list of `u32` is parsed, copied from its view, printed, and serialized.
-fn has_room_for_numbers(rt: &impl Abort, alloc: Global, bytes: &[u8]) {
-    has_room(rt, alloc, Subject::UnixAttribute, bytes);
+/// Asserts that the attribute, a list of `u32`, is parsed, copied from its view, printed, and
+/// serialized.
+fn assert_numbers_fit(rt: &impl Abort, alloc: Global, bytes: &[u8]) {
+    assert_fits(rt, alloc, Subject::UnixAttribute, bytes);
     let nla = NlaBuffer::new_checked(bytes).expect(rt, "refused");
     let NlaView::PendingConnections(numbers) = NlaView::parse(&nla).expect(rt, "refused") else {
         panic!(rt; "no numbers");
@@ -101,14 +105,14 @@ fn has_room_for_numbers(rt: &impl Abort, alloc: Global, bytes: &[u8]) {
     assert!(rt; numbers.to_owned(alloc).is_ok());
 }
 
-/// Lengths of lists of `u32`, from 512 to 16,382.
+/// Numbers of elements of lists of `u32`, from 512 to the most that an attribute can have.
 const COUNTS: [u16; 7] = [512, 1_000, 1_024, 4_096, 8_192, 10_000, 16_382];
 
-/// Checks a list of this many `u32`.
+/// Checks a list of this many `u32` (`UNIX_DIAG_ICONS`, 3).
 fn numbers_of(rt: &impl Abort, alloc: Global, count: u16) {
     let length = count.saturating_add(1).saturating_mul(4);
     let bytes = attribute(alloc, length, 3, 1).expect(rt, "memory");
-    has_room_for_numbers(rt, alloc, &bytes);
+    assert_numbers_fit(rt, alloc, &bytes);
 }
 
 #[test]
@@ -121,11 +125,12 @@ fn lists_of_numbers(rt: HostRuntime) {
     }
 }
 
-/// Checks a text of two bytes more, and attributes of an unknown kind.
+/// Checks a text (`INET_DIAG_CONG`, 4) in an attribute of `length + 2` bytes, and attributes of an
+/// unknown kind (3) of `length` and `length + 3` bytes.
 fn inet_attributes_of(rt: &impl Abort, alloc: Global, length: u16) {
-    of_length(rt, alloc, Subject::InetAttribute, length, (4, b'a', 2));
-    of_length(rt, alloc, Subject::InetAttribute, length, (3, 1, 0));
-    of_length(rt, alloc, Subject::InetAttribute, length, (3, 1, 3));
+    assert_length_fits(rt, alloc, Subject::InetAttribute, length, (4, b'a', 2));
+    assert_length_fits(rt, alloc, Subject::InetAttribute, length, (3, 1, 0));
+    assert_length_fits(rt, alloc, Subject::InetAttribute, length, (3, 1, 3));
 }
 
 #[test]
@@ -145,5 +150,5 @@ fn the_longest_text(rt: HostRuntime) {
     let alloc = rt.alloc();
     let long = attribute(alloc, u16::MAX, 4, b'a').expect(&rt, "memory");
     let report = examine(&rt, alloc, Subject::InetAttribute, &long).expect(&rt, "refused");
-    shows(&rt, alloc, &report.form, "Err(Unwritable)");
+    assert_debug(&rt, alloc, &report.form, "Err(Unwritable)");
 }

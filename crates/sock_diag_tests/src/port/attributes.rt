@@ -2,7 +2,7 @@
 //! sock_diag(7).
 
 use super::attribute_sizes::attribute;
-use super::{debug_text, emitted, is_text, same, shows, writes};
+use super::{assert_bytes, assert_debug, assert_emits, assert_text, debug_text, emitted};
 use netlink_core::{
     CanonError, DecodeError, DefaultNla, Emitable, NlaBuffer, Parseable, Wire, canonical,
 };
@@ -12,7 +12,8 @@ use std::alloc::Global;
 use std::fmt::Debug;
 use std::process::Abort;
 
-/// The type of a value.
+/// The type that bytes are parsed as: a name of a UNIX socket, or an attribute of a UNIX or of an
+/// internet socket.
 #[derive(Clone, Copy)]
 pub(super) enum Subject {
     Name,
@@ -27,8 +28,9 @@ pub(super) struct Report {
     /// What `Debug` prints for the owned value. This text and `copy` are empty if there are more
     /// than 300 bytes, since long texts take time.
     pub(super) owned: String,
-    /// What `Debug` prints for the view, and for a clone of its owned copy.
+    /// What `Debug` prints for the view.
     pub(super) view: String,
+    /// What `Debug` prints for a clone of the view's owned copy.
     pub(super) copy: String,
     /// Bytes of the owned value.
     pub(super) written: Result<Vec<u8>, CanonError>,
@@ -117,6 +119,8 @@ impl Viewed for inet::Nla {
     }
 }
 
+// Parses the bytes as a `T`. Returns what is known of the value, or the error that rejects the
+// bytes.
 fn examine_as<T: Viewed>(
     rt: &impl Abort,
     alloc: Global,
@@ -133,7 +137,8 @@ fn examine_as<T: Viewed>(
     })
 }
 
-/// Parses the bytes as an owned value. If they are accepted, parses them as a view too.
+/// Parses the bytes as a value of this type. Returns what is known of the owned value and of its
+/// view, or the error that rejects the bytes.
 pub(super) fn examine(
     rt: &impl Abort,
     alloc: Global,
@@ -147,19 +152,20 @@ pub(super) fn examine(
     }
 }
 
-/// Asserts that the bytes are parsed as this text, an owned value or an error.
-fn reads(rt: &impl Abort, alloc: Global, subject: Subject, bytes: &[u8], text: &str) {
+/// Asserts that `Debug` prints the result of parsing the bytes as this text: `Ok(..)` of the owned
+/// value, or `Err(..)`.
+fn assert_parses_as(rt: &impl Abort, alloc: Global, subject: Subject, bytes: &[u8], text: &str) {
     let read = match examine(rt, alloc, subject, bytes) {
         Ok(report) => format!(in alloc; "Ok({})", report.owned),
         Err(error) => format!(in alloc; "Err({error:?})"),
     };
-    is_text(rt, read.expect(rt, "memory").as_str(), text);
+    assert_text(rt, read.expect(rt, "memory").as_str(), text);
 }
 
-// Asserts that the bytes parse as an owned value and as a view, which `Debug` prints as these
-// texts, that the view's owned copy prints as the owned value does, and that the owned value
-// serializes to `written`, which is also the canonical form.
-fn told(
+// Asserts that the bytes parse as an owned value that `Debug` prints as `owned`, and as a view that
+// it prints as `viewed`. Asserts that the view's owned copy prints as the owned value does, and
+// that the owned value serializes to `written`, which is also the canonical form of the bytes.
+fn assert_views_and_values(
     rt: &impl Abort,
     alloc: Global,
     subject: Subject,
@@ -168,41 +174,46 @@ fn told(
     viewed: &str,
 ) {
     let report = examine(rt, alloc, subject, bytes).expect(rt, "refused");
-    is_text(rt, report.owned.as_str(), owned);
-    is_text(rt, report.copy.as_str(), owned);
-    is_text(rt, report.view.as_str(), viewed);
+    assert_text(rt, report.owned.as_str(), owned);
+    assert_text(rt, report.copy.as_str(), owned);
+    assert_text(rt, report.view.as_str(), viewed);
     match (&report.written, &report.form) {
         (Ok(bytes), Ok(form)) => {
-            same(rt, bytes, written);
-            same(rt, form, written);
+            assert_bytes(rt, bytes, written);
+            assert_bytes(rt, form, written);
         }
         _ => panic!(rt; "refused"),
     }
 }
 
-// Checks a row: the bytes and their canonical form, in hexadecimal, and the text of the owned
-// value. After a `|` the text of the view follows, if it differs.
-fn row(rt: &impl Abort, alloc: Global, subject: Subject, row: &str) {
+// Checks a row. It has in this order: bytes, a space, their canonical form, a space, the text of
+// the owned value; and `|` and the text of the view, if this differs. Bytes are in hexadecimal.
+fn assert_row(rt: &impl Abort, alloc: Global, subject: Subject, row: &str) {
     let (bytes, rest) = row.split_once(' ').expect(rt, "no bytes");
     let (written, texts) = rest.split_once(' ').expect(rt, "no text");
     let (owned, viewed) = texts.split_once('|').unwrap_or((texts, texts));
     let bytes = hex::decode(alloc, bytes).expect(rt, "memory");
     let written = hex::decode(alloc, written).expect(rt, "memory");
-    told(rt, alloc, subject, (&bytes, &written), owned, viewed);
+    assert_views_and_values(rt, alloc, subject, (&bytes, &written), owned, viewed);
 }
 
-fn rows(rt: &impl Abort, alloc: Global, subject: Subject, rows: &str) {
+// Checks each row, as `assert_row` does.
+fn assert_rows(rt: &impl Abort, alloc: Global, subject: Subject, rows: &str) {
     for text in rows.lines() {
-        row(rt, alloc, subject, text);
+        assert_row(rt, alloc, subject, text);
     }
 }
 
+// Names of UNIX sockets, as rows of `assert_row`: a pathname, and three abstract names, each after
+// a NUL.
 const NAMES: &str = "\
 6100 6100 Pathname([97])
 00 00 Abstract([])
 00010000 00010000 Abstract([1, 0, 0])
 000700 000700 Abstract([7, 0])";
 
+// Attributes of UNIX sockets, as rows of `assert_row`. The row of `Vfs` has a byte after its
+// record, those of `Peer` and `Shutdown` have a flag bit in the type field.
 const UNIX: &str = "\
 060000006100 0600000061000000 Name(Pathname([97]))
 090000000007000707 090000000007000707000000 Name(Abstract([7, 0, 7, 7]))
@@ -224,6 +235,8 @@ Name(Abstract([49, 99, 49, 52, 52, 48, 99, 53, 102, 53, 101, 50, 97, 53, 50, 101
 0b00078002010000040302 0b0007800201000004030200 Other(DefaultNla { kind: 32775, value: [2, 1, 0, \
 0, 4, 3, 2] })|Other(NlaBuffer { type_word: 32775, value: [2, 1, 0, 0, 4, 3, 2] })";
 
+// Attributes of internet sockets, as rows of `assert_row`. The texts have no NUL, one or two, and
+// the second one belongs to the text.
 const INET: &str = "\
 090004006375626963 0a0004006375626963000000 Congestion(\"cubic\")
 0a000400637562696300 0a0004006375626963000000 Congestion(\"cubic\")
@@ -250,55 +263,60 @@ send_queue: 6, options: 7, backlog_queue_length: Some(8), drops: Some(9) })";
 #[test]
 fn names_and_attributes(rt: HostRuntime) {
     let alloc = rt.alloc();
-    rows(&rt, alloc, Subject::Name, NAMES);
-    rows(&rt, alloc, Subject::UnixAttribute, UNIX);
-    rows(&rt, alloc, Subject::InetAttribute, INET);
+    assert_rows(&rt, alloc, Subject::Name, NAMES);
+    assert_rows(&rt, alloc, Subject::UnixAttribute, UNIX);
+    assert_rows(&rt, alloc, Subject::InetAttribute, INET);
 }
 
 #[test]
 fn information_on_a_connection(rt: HostRuntime) {
     let alloc = rt.alloc();
+    // `INET_DIAG_INFO` (2) with a value of 232 bytes, each of them 7.
     let bytes = attribute(alloc, 236, 2, 7).expect(&rt, "memory");
     let info = TcpInfo::parse(bytes.get(4..).expect(&rt, "short")).expect(&rt, "refused");
     let text = format!(in alloc; "TcpInfo({info:?})").expect(&rt, "memory");
     let subject = Subject::InetAttribute;
-    told(&rt, alloc, subject, (&bytes, &bytes), &text, &text);
+    assert_views_and_values(&rt, alloc, subject, (&bytes, &bytes), &text, &text);
 }
 
 #[test]
 fn numbers_are_shown_and_kept(rt: HostRuntime) {
     let alloc = rt.alloc();
+    // `UNIX_DIAG_ICONS` (3) with two inodes.
     let bytes = &[12, 0, 3, 0, 5, 0, 0, 0, 6, 0, 0, 0];
     let nla = NlaBuffer::new_checked(bytes).expect(&rt, "refused");
     let NlaView::PendingConnections(numbers) = NlaView::parse(&nla).expect(&rt, "refused") else {
         panic!(&rt; "no numbers");
     };
     let text = "NumbersIterator { rest: NumbersView { bytes: [5, 0, 0, 0, 6, 0, 0, 0] } }";
-    shows(&rt, alloc, &numbers.iter(), text);
+    assert_debug(&rt, alloc, &numbers.iter(), text);
     let items = [numbers.get(0), numbers.get(1), numbers.get(2)];
-    shows(
+    assert_debug(
         &rt,
         alloc,
         &(numbers.len(), items),
         "(2, [Some(5), Some(6), None])",
     );
     let owned = numbers.to_owned(alloc).expect(&rt, "memory");
-    shows(&rt, alloc, &owned, "[5, 6]");
+    assert_debug(&rt, alloc, &owned, "[5, 6]");
 }
 
-// Checks each row: bytes in hexadecimal, and the error that rejects them.
-fn refused(rt: &impl Abort, alloc: Global, subject: Subject, rows: &str) {
+// Checks each row. It has bytes in hexadecimal, a space, and the error that rejects them, as
+// `Debug` prints it.
+fn assert_rejected_rows(rt: &impl Abort, alloc: Global, subject: Subject, rows: &str) {
     for row in rows.lines() {
         let (digits, text) = row.split_once(' ').expect(rt, "no text");
         let bytes = hex::decode(alloc, digits).expect(rt, "refused");
-        reads(rt, alloc, subject, &bytes, text);
+        assert_parses_as(rt, alloc, subject, &bytes, text);
     }
 }
 
+// Invalid names, as rows of `assert_rejected_rows`. The first one has no bytes.
 const NO_NAMES: &str = " Err(NameEmpty)
 61006200 Err(NameInnerZero { index: 1 })
 61 Err(NameWithoutEnd)";
 
+// Invalid attributes of UNIX sockets, as rows of `assert_rejected_rows`.
 const NO_UNIX: &str = "0b00010000000000000000 Err(BufferTooSmall { which: Vfs, got: 7, need: 8 })
 07000280000000 Err(WrongLength { kind: Some(2), got: 3, need: 4 })
 060003000102 Err(NotMultipleOfFour { got: 2 })
@@ -312,6 +330,7 @@ Err(BufferTooSmall { which: UnixMemInfo, got: 28, need: 36 })
 ffff0600 Err(AttributeLengthPast { length: 65535, left: 4 })
 04000000 Err(NameEmpty)";
 
+// Invalid attributes of internet sockets, as rows of `assert_rejected_rows`.
 const NO_INET: &str = "060005000102 Err(WrongLength { kind: Some(5), got: 2, need: 1 })
 04000b00 Err(WrongLength { kind: Some(11), got: 0, need: 1 })
 07000f40010203 Err(WrongLength { kind: Some(15), got: 3, need: 4 })
@@ -320,30 +339,33 @@ const NO_INET: &str = "060005000102 Err(WrongLength { kind: Some(5), got: 2, nee
 
 #[test]
 fn refusals(rt: HostRuntime) {
-    refused(&rt, rt.alloc(), Subject::Name, NO_NAMES);
-    refused(&rt, rt.alloc(), Subject::UnixAttribute, NO_UNIX);
-    refused(&rt, rt.alloc(), Subject::InetAttribute, NO_INET);
+    assert_rejected_rows(&rt, rt.alloc(), Subject::Name, NO_NAMES);
+    assert_rejected_rows(&rt, rt.alloc(), Subject::UnixAttribute, NO_UNIX);
+    assert_rejected_rows(&rt, rt.alloc(), Subject::InetAttribute, NO_INET);
 }
 
-// Asserts that the pathname serializes to these bytes, and that they are parsed as the text.
-fn path_writes(rt: &impl Abort, alloc: Global, path: &[u8], bytes: &[u8], text: &str) {
+// Asserts that the pathname serializes to these bytes, and that `Debug` prints the result of
+// parsing them as this text.
+fn assert_path_emits(rt: &impl Abort, alloc: Global, path: &[u8], bytes: &[u8], text: &str) {
     let path = Vec::from_slice(alloc, path).expect(rt, "memory");
-    writes(rt, alloc, &UnixDiagName::Pathname(path), bytes);
-    reads(rt, alloc, Subject::Name, bytes, text);
+    assert_emits(rt, alloc, &UnixDiagName::Pathname(path), bytes);
+    assert_parses_as(rt, alloc, Subject::Name, bytes, text);
 }
 
+// A pathname that is empty or starts with a NUL is parsed as an abstract name. One with another NUL
+// is rejected.
 #[test]
 fn names_that_no_parser_returns(rt: HostRuntime) {
     let alloc = rt.alloc();
-    path_writes(&rt, alloc, b"", b"\0", "Ok(Abstract([]))");
+    assert_path_emits(&rt, alloc, b"", b"\0", "Ok(Abstract([]))");
     let text = "Err(NameInnerZero { index: 1 })";
-    path_writes(&rt, alloc, b"a\0b", b"a\0b\0", text);
-    path_writes(&rt, alloc, b"\0a", b"\0a\0", "Ok(Abstract([97, 0]))");
+    assert_path_emits(&rt, alloc, b"a\0b", b"a\0b\0", text);
+    assert_path_emits(&rt, alloc, b"\0a", b"\0a\0", "Ok(Abstract([97, 0]))");
 }
 
-// Asserts that the attribute of this type and value serializes to these bytes, and that they are
-// parsed as the text.
-fn other_writes(
+// Asserts that the raw attribute of this type and value serializes to these bytes, and that `Debug`
+// prints the result of parsing them, as a UNIX attribute, as this text.
+fn assert_other_emits(
     rt: &impl Abort,
     alloc: Global,
     (type_word, value): (u16, &[u8]),
@@ -351,23 +373,25 @@ fn other_writes(
     text: &str,
 ) {
     let value = Vec::from_slice(alloc, value).expect(rt, "memory");
-    writes(
+    assert_emits(
         rt,
         alloc,
         &Nla::Other(DefaultNla::new(type_word, value)),
         bytes,
     );
-    reads(rt, alloc, Subject::UnixAttribute, bytes, text);
+    assert_parses_as(rt, alloc, Subject::UnixAttribute, bytes, text);
 }
 
+// Raw attributes of a known kind, `UNIX_DIAG_PEER`. They are not parsed as raw ones: the value of 4
+// bytes is a peer, and that of 1 byte is rejected.
 #[test]
 fn attributes_that_no_parser_returns(rt: HostRuntime) {
     let alloc = rt.alloc();
     let peer = b"\x08\0\x02\0\x01\0\0\0";
-    other_writes(&rt, alloc, (2, b"\x01\0\0\0"), peer, "Ok(Peer(1))");
+    assert_other_emits(&rt, alloc, (2, b"\x01\0\0\0"), peer, "Ok(Peer(1))");
     let short = b"\x05\0\x02\x80\x01\0\0\0";
     let text = "Err(WrongLength { kind: Some(2), got: 1, need: 4 })";
-    other_writes(&rt, alloc, (0x8002, b"\x01"), short, text);
+    assert_other_emits(&rt, alloc, (0x8002, b"\x01"), short, text);
 }
 
 // The memory of a socket with drops and without a backlog, which is serialized as 0.
@@ -389,6 +413,6 @@ fn a_memory_without_a_backlog(rt: HostRuntime) {
     let text = "Ok(MemInfo(MemInfo { receive_queue: 1, receive_queue_max: 2, \
         bottom_send_queues: 3, send_queue_max: 4, cache: 5, send_queue: 6, options: 7, \
         backlog_queue_length: Some(0), drops: Some(9) }))";
-    writes(&rt, rt.alloc(), &inet::Nla::MemInfo(memory), bytes);
-    reads(&rt, rt.alloc(), Subject::InetAttribute, bytes, text);
+    assert_emits(&rt, rt.alloc(), &inet::Nla::MemInfo(memory), bytes);
+    assert_parses_as(&rt, rt.alloc(), Subject::InetAttribute, bytes, text);
 }

@@ -28,7 +28,8 @@ const LISTENING: &str = "01010a000e4f0000a002000000000000";
 /// The header of a reply about a connected UNIX socket.
 const CONNECTED: &str = "01010100b77c00002200000000000000";
 
-/// The header of a reply about an IPv4 connection with a keepalive timer.
+/// The header of a reply about an IPv4 connection with a keepalive timer: 0x6080 milliseconds,
+/// which is 24.704 seconds.
 const INET: &str = "02010200eb1401bbc0a8b23c000000000000000000000000acd917830000000000000000000000\
 00000000005203000000000000806000000000000000000000e8030000a8da2900";
 
@@ -41,7 +42,8 @@ const PATH: &str = "01010a000e4f0000a002000000000000180000002f746d702f2e4943452d
 const ABSTRACT: &str = "01010a000e4f0000a002000000000000300000000031633134343063356635653261353265\
 2f6275732f73797374656d642f002f6275732d6170692d757365720c00040000000000800000000500060000000000";
 
-/// A reply about a connected socket at /run/user/1000/bus, with its peer.
+/// A reply about a connected socket at /run/user/1000/bus, with its peer, the queue lengths 0 and
+/// 0, and no direction shut down.
 const PEER: &str = "01010100b77c00002200000000000000170000002f72756e2f757365722f313030302f62757300\
 0008000200567900000c00040000000000000000000500060000000000";
 
@@ -60,25 +62,25 @@ fn bytes(rt: &impl Abort, alloc: Global, parts: &[&str]) -> Vec<u8> {
     hex::decode(alloc, digits.as_str()).expect(rt, "digits")
 }
 
-/// Splits a row at its first space. Returns the bytes of `front` and of the digits before the
-/// space, and the text after the space.
+/// Splits a row at its first space. Returns the bytes of the digits in `front` and in the row
+/// before the space, and the text after the space.
 fn cells<'a>(rt: &impl Abort, alloc: Global, front: &str, row: &'a str) -> (Vec<u8>, &'a str) {
-    let (digits, text) = row.split_once(' ').expect(rt, "a text");
+    let (digits, text) = row.split_once(' ').expect(rt, "no text");
     (bytes(rt, alloc, &[front, digits]), text)
 }
 
 /// Asserts that two texts are equal.
-pub(crate) fn is_text(rt: &impl Abort, shown: &str, text: &str) {
+pub(crate) fn assert_text(rt: &impl Abort, shown: &str, text: &str) {
     assert!(rt; shown == text, "{shown}");
 }
 
 /// Asserts that the bytes are equal.
-fn same(rt: &impl Abort, bytes: &[u8], wanted: &[u8]) {
-    assert!(rt; bytes == wanted, "{bytes:?}");
+fn assert_bytes(rt: &impl Abort, bytes: &[u8], expected: &[u8]) {
+    assert!(rt; bytes == expected, "{bytes:?}");
 }
 
 /// Asserts that `part` occurs in the text.
-fn has_part(rt: &impl Abort, text: &str, part: &str) {
+fn assert_contains(rt: &impl Abort, text: &str, part: &str) {
     assert!(rt; text.contains(part), "{text}");
 }
 
@@ -98,8 +100,8 @@ fn emitted<T: Emitable>(alloc: Global, value: &T) -> Result<Vec<u8>, CanonError>
 }
 
 /// Asserts that the value serializes to these bytes.
-fn writes<T: Emitable>(rt: &impl Abort, alloc: Global, value: &T, bytes: &[u8]) {
-    same(rt, &emitted(alloc, value).expect(rt, "unwritable"), bytes);
+fn assert_emits<T: Emitable>(rt: &impl Abort, alloc: Global, value: &T, bytes: &[u8]) {
+    assert_bytes(rt, &emitted(alloc, value).expect(rt, "unwritable"), bytes);
 }
 
 /// Returns what `Debug` prints for the value.
@@ -108,32 +110,33 @@ fn debug_text<T: Debug>(rt: &impl Abort, alloc: Global, value: &T) -> String {
 }
 
 /// Asserts that `Debug` prints the value as this text.
-pub(crate) fn shows<T: Debug>(rt: &impl Abort, alloc: Global, value: &T, text: &str) {
-    is_text(rt, debug_text(rt, alloc, value).as_str(), text);
+pub(crate) fn assert_debug<T: Debug>(rt: &impl Abort, alloc: Global, value: &T, text: &str) {
+    assert_text(rt, debug_text(rt, alloc, value).as_str(), text);
 }
 
 /// Asserts that `part` occurs in what `Debug` prints for the value.
-fn shows_part<T: Debug>(rt: &impl Abort, alloc: Global, value: &T, part: &str) {
-    has_part(rt, debug_text(rt, alloc, value).as_str(), part);
+fn assert_debug_contains<T: Debug>(rt: &impl Abort, alloc: Global, value: &T, part: &str) {
+    assert_contains(rt, debug_text(rt, alloc, value).as_str(), part);
 }
 
 /// Asserts that `{:#?}` prints the value as these lines.
-fn shows_lines<T: Debug>(rt: &impl Abort, alloc: Global, value: &T, lines: &str) {
+fn assert_debug_lines<T: Debug>(rt: &impl Abort, alloc: Global, value: &T, lines: &str) {
     let shown = format!(in alloc; "{value:#?}").expect(rt, "memory");
-    is_text(rt, shown.as_str(), lines);
+    assert_text(rt, shown.as_str(), lines);
 }
 
 /// Asserts that `Debug` prints the list of all items of the iterator as this text.
-fn gives<I: Iterator + Drop>(rt: &impl Abort, alloc: Global, walk: I, text: &str)
+fn assert_items<I: Iterator + Drop>(rt: &impl Abort, alloc: Global, walk: I, text: &str)
 where
     I::Item: Debug + Drop,
+    // The loop may call `next`, and the number of items left is finite, so that it ends.
     requires { I.can_next walk × IsFinite (I.remaining walk) }
 {
-    let mut answers = Vec::new(alloc);
-    for answer in walk {
-        answers.push(answer).expect(rt, "memory");
+    let mut items = Vec::new(alloc);
+    for item in walk {
+        items.push(item).expect(rt, "memory");
     }
-    shows(rt, alloc, &answers, text);
+    assert_debug(rt, alloc, &items, text);
 }
 
 /// Returns the code of the error, or 0 for a value.

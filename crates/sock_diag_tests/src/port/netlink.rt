@@ -1,7 +1,7 @@
 //! Tests of `netlink_core`.
 
 use super::attribute_sizes::SIZES;
-use super::{gives, is_text, same, shows, writes};
+use super::{assert_bytes, assert_debug, assert_emits, assert_items, assert_text};
 use netlink_core::{
     CanonError, DecodeError, DefaultNla, Emitable, MessageStrings, Nla, NlaBuffer, NlasIterator,
     Parseable, RecordBuffer, RecordName, canonical, copy_list, emit_nla, emit_nlas, emit_u32,
@@ -15,51 +15,55 @@ use std::process::Abort;
 #[test]
 fn an_attribute_is_borrowed(rt: HostRuntime) {
     let alloc = rt.alloc();
+    // An attribute of 5 bytes of type 6, with the flag `NLA_F_NESTED`, and one more byte.
     let bytes: &[u8] = &[5, 0, 6, 0x80, 2, 0xaa];
     let nla = NlaBuffer::new_checked(bytes).expect(&rt, "refused");
-    let words = [nla.length(), nla.type_word(), nla.kind()];
-    shows(&rt, alloc, &words, "[5, 32774, 6]");
+    let fields = [nla.length(), nla.type_word(), nla.kind()];
+    assert_debug(&rt, alloc, &fields, "[5, 32774, 6]");
     let flags = [nla.nested_flag(), nla.network_byte_order_flag()];
-    shows(&rt, alloc, &flags, "[true, false]");
-    let kept = DefaultNla::parse(alloc, nla)
+    assert_debug(&rt, alloc, &flags, "[true, false]");
+    let owned = DefaultNla::parse(alloc, nla)
         .expect(&rt, "refused")
         .clone(alloc)
         .expect(&rt, "refused");
     let text = "DefaultNla { kind: 32774, value: [2] }";
-    shows(&rt, alloc, &kept, text);
+    assert_debug(&rt, alloc, &owned, text);
     let record = RecordBuffer::<u8, 2>::read_prefix(bytes);
     let text = "Some(RecordBuffer { bytes: [5, 0], of: PhantomData<_> })";
-    shows(&rt, alloc, &record, text);
+    assert_debug(&rt, alloc, &record, text);
 }
 
 #[test]
 fn attributes_and_their_errors(rt: HostRuntime) {
     let alloc = rt.alloc();
+    // An attribute with 3 bytes of padding, one without a value, and one byte more.
     let two: &[u8] = &[5, 0, 7, 0, 1, 0xee, 0xee, 0xee, 4, 0, 8, 0, 1];
     let text = "[Ok(NlaBuffer { type_word: 7, value: [1] }), \
         Ok(NlaBuffer { type_word: 8, value: [] }), Err(AttributeHeaderCut { left: 1 })]";
-    gives(&rt, alloc, NlasIterator::new(two), text);
+    assert_items(&rt, alloc, NlasIterator::new(two), text);
+    // After its error the iterator yields nothing.
     let mut walk = NlasIterator::new(&two[8..]);
     let items = [walk.next(), walk.next(), walk.next(), walk.next()];
     let text = "[Some(Ok(NlaBuffer { type_word: 8, value: [] })), \
         Some(Err(AttributeHeaderCut { left: 1 })), None, None]";
-    shows(&rt, alloc, &items, text);
+    assert_debug(&rt, alloc, &items, text);
     let text = "[Ok(NlaBuffer { type_word: 7, value: [1] })]";
-    gives(&rt, alloc, NlasIterator::new(&two[..5]), text);
-    is_formed(&rt, alloc, two, "Ok([5, 0, 7, 0, 1, 0, 0, 0])");
+    assert_items(&rt, alloc, NlasIterator::new(&two[..5]), text);
+    assert_canonical_form(&rt, alloc, two, "Ok([5, 0, 7, 0, 1, 0, 0, 0])");
     let text = "Err(Refused(AttributeLengthPast { length: 5, left: 4 }))";
-    is_formed(&rt, alloc, &two[..4], text);
+    assert_canonical_form(&rt, alloc, &two[..4], text);
     let text = "Err(Refused(AttributeHeaderCut { left: 3 }))";
-    is_formed(&rt, alloc, &two[..3], text);
+    assert_canonical_form(&rt, alloc, &two[..3], text);
     let text = "Err(Refused(AttributeHeaderCut { left: 0 }))";
-    is_formed(&rt, alloc, &[], text);
+    assert_canonical_form(&rt, alloc, &[], text);
     let text = "Err(Refused(AttributeLengthUnder4 { length: 3 }))";
-    is_formed(&rt, alloc, &[3, 0, 6, 0], text);
+    assert_canonical_form(&rt, alloc, &[3, 0, 6, 0], text);
 }
 
-// Asserts that the canonical form of the bytes, as an attribute, is printed as this text.
-fn is_formed(rt: &impl Abort, alloc: Global, bytes: &[u8], text: &str) {
-    shows(rt, alloc, &canonical::<DefaultNla>(alloc, bytes, ()), text);
+// Asserts that `Debug` prints the canonical form of the attribute in the bytes, or why there is
+// none, as this text.
+fn assert_canonical_form(rt: &impl Abort, alloc: Global, bytes: &[u8], text: &str) {
+    assert_debug(rt, alloc, &canonical::<DefaultNla>(alloc, bytes, ()), text);
 }
 
 // A message of type 16 with one byte after its header and three bytes of padding, and a message of
@@ -76,20 +80,22 @@ fn messages_of_a_datagram(rt: HostRuntime) {
         Ok([16, 0, 0, 0, 3, 0, 0, 0, 0, 0, 0, 0, 0, 0, 0, 0])]";
     let cut = "[Ok([17, 0, 0, 0, 16, 0, 0, 0, 0, 0, 0, 0, 0, 0, 0, 0, 7]), \
         Err(EnvelopeCut { got: 15 })]";
-    has_messages(&rt, rt.alloc(), &TWO[..17], one);
-    has_messages(&rt, rt.alloc(), &TWO[..19], one);
-    has_messages(&rt, rt.alloc(), &TWO[..20], one);
-    has_messages(&rt, rt.alloc(), &TWO[..35], cut);
-    has_messages(&rt, rt.alloc(), &TWO, two);
+    // The first message without its padding, with a part of it, and with all of it; then with a
+    // truncated second message, and with the whole one.
+    assert_messages(&rt, rt.alloc(), &TWO[..17], one);
+    assert_messages(&rt, rt.alloc(), &TWO[..19], one);
+    assert_messages(&rt, rt.alloc(), &TWO[..20], one);
+    assert_messages(&rt, rt.alloc(), &TWO[..35], cut);
+    assert_messages(&rt, rt.alloc(), &TWO, two);
 }
 
 // Asserts that `Debug` prints the messages in the bytes, or the errors, as this text.
-fn has_messages(rt: &impl Abort, alloc: Global, bytes: &[u8], text: &str) {
-    gives(rt, alloc, MessageStrings::new(bytes), text);
+fn assert_messages(rt: &impl Abort, alloc: Global, bytes: &[u8], text: &str) {
+    assert_items(rt, alloc, MessageStrings::new(bytes), text);
 }
 
 // Returns each error, in the order of the codes.
-fn faults() -> [DecodeError; 18] {
+fn all_errors() -> [DecodeError; 18] {
     let which = RecordName::Vfs;
     let (kind, got, need) = (Some(2), 7, 8);
     let (left, index, family) = (3, 4, 5);
@@ -115,6 +121,7 @@ fn faults() -> [DecodeError; 18] {
     ]
 }
 
+// For each error of `all_errors`, in this order: its code, its text, and its `Debug` output.
 const FAULTS: &str = "\
 (1, \"out of memory\", Memory)
 (2, \"Vfs: buffer of 7 bytes, at least 8 needed\", BufferTooSmall { which: Vfs, got: 7, need: 8 })
@@ -137,31 +144,31 @@ family: 5 })
 (18, \"message length 9 is past the 7 bytes given\", EnvelopeLengthPast { length: 9, got: 7 })
 ";
 
-// Asserts that `Debug` prints the code, the text and the error as this text.
-fn tells(rt: &impl Abort, alloc: Global, error: &DecodeError, told: &str) {
+// Asserts that `Debug` prints the code of the error, its text and the error itself as `expected`.
+fn assert_code_and_text(rt: &impl Abort, alloc: Global, error: &DecodeError, expected: &str) {
     let text = format!(in alloc; "{error}").expect(rt, "memory");
-    shows(rt, alloc, &(error.number(), text, error), told);
+    assert_debug(rt, alloc, &(error.number(), text, error), expected);
 }
 
 #[test]
 fn errors_have_codes_and_texts(rt: HostRuntime) {
     let mut lines = FAULTS.lines();
-    for error in &faults() {
-        tells(&rt, rt.alloc(), error, lines.next().expect(&rt, "no line"));
+    for error in &all_errors() {
+        assert_code_and_text(&rt, rt.alloc(), error, lines.next().expect(&rt, "no line"));
     }
     let reasons = [CanonError::Unwritable, CanonError::Memory];
-    shows(&rt, rt.alloc(), &reasons, "[Unwritable, Memory]");
+    assert_debug(&rt, rt.alloc(), &reasons, "[Unwritable, Memory]");
 }
 
 #[test]
 fn record_names_have_texts(rt: HostRuntime) {
     for (name, text) in &RECORDS {
         let shown = format!(in rt.alloc(); "{name}").expect(&rt, "memory");
-        is_text(&rt, shown.as_str(), text);
+        assert_text(&rt, shown.as_str(), text);
     }
 }
 
-/// Names of the records of the port and of other families, and their texts.
+/// In each row: the name of a record, of the port or of another family, and its text.
 const RECORDS: [(RecordName, &str); 13] = [
     (RecordName::SocketId, "SocketId"),
     (RecordName::InetRequest, "InetRequest"),
@@ -193,7 +200,7 @@ const RECORDS: [(RecordName, &str); 13] = [
 // Asserts that there is memory for `size` bytes: to parse a text, to copy a list, and to clone an
 // attribute, serialize it and return its canonical form. An attribute is writable if its value has
 // at most 65,531 bytes.
-fn has_room(rt: &impl Abort, alloc: Global, size: usize) {
+fn assert_size_fits(rt: &impl Abort, alloc: Global, size: usize) {
     let bytes = vec![in alloc; b'a'; size].expect(rt, "memory");
     parse_string(alloc, &bytes).expect(rt, "refused");
     copy_list(alloc, &bytes).expect(rt, "memory");
@@ -210,10 +217,10 @@ fn has_room(rt: &impl Abort, alloc: Global, size: usize) {
 #[test]
 fn sizes(rt: HostRuntime) {
     for size in 0..301 {
-        has_room(&rt, rt.alloc(), size);
+        assert_size_fits(&rt, rt.alloc(), size);
     }
     for &size in &SIZES {
-        has_room(&rt, rt.alloc(), size);
+        assert_size_fits(&rt, rt.alloc(), size);
     }
 }
 
@@ -225,12 +232,13 @@ fn numbers_and_texts(rt: HostRuntime) {
         parse_string(alloc, b"a\0\0"),
         parse_string(alloc, b"\xff"),
     ];
-    shows(&rt, alloc, &texts, r#"[Ok(""), Ok("a\0"), Err(NotUtf8)]"#);
+    assert_debug(&rt, alloc, &texts, r#"[Ok(""), Ok("a\0"), Err(NotUtf8)]"#);
     let bytes = [parse_u8(&[7]), parse_u8(&[]), parse_u8(&[7, 8])];
     let text = "[Ok(7), Err(WrongLength { kind: None, got: 0, need: 1 }), \
         Err(WrongLength { kind: None, got: 2, need: 1 })]";
-    shows(&rt, alloc, &bytes, text);
+    assert_debug(&rt, alloc, &bytes, text);
     let short = parse_u32(&[1, 2, 3]);
+    // Of two calls of `with_kind`, the first one sets the kind.
     let words = [
         parse_u32(&[1, 2, 3, 4]),
         short,
@@ -238,20 +246,26 @@ fn numbers_and_texts(rt: HostRuntime) {
     ];
     let text = "[Ok(67305985), Err(WrongLength { kind: None, got: 3, need: 4 }), \
         Err(WrongLength { kind: Some(2), got: 3, need: 4 })]";
-    shows(&rt, alloc, &words, text);
+    assert_debug(&rt, alloc, &words, text);
 }
 
-// Asserts what `emit_value` and `emit_nla` leave in buffers of 0xff that are longer than the value
-// and the attribute.
-fn leaves<T: Nla>(rt: &impl Abort, alloc: Global, nla: &T, value: &[u8], bytes: &[u8]) {
+// Asserts what a buffer of 0xff bytes contains after a call that writes to its start: `value` after
+// `emit_value`, and `bytes` after `emit_nla`. Both are longer than what the call writes.
+fn assert_left_in_buffers<T: Nla>(
+    rt: &impl Abort,
+    alloc: Global,
+    nla: &T,
+    value: &[u8],
+    bytes: &[u8],
+) {
     let fits = nla.value_fits() && nla.value_len() <= value.len() && nla_len(nla) <= bytes.len();
     assert!(rt; fits);
     let mut buffer = vec![in alloc; 0xff; value.len()].expect(rt, "memory");
     nla.emit_value(&mut buffer);
-    same(rt, &buffer, value);
+    assert_bytes(rt, &buffer, value);
     let mut buffer = vec![in alloc; 0xff; bytes.len()].expect(rt, "memory");
     emit_nla(nla, &mut buffer);
-    same(rt, &buffer, bytes);
+    assert_bytes(rt, &buffer, bytes);
 }
 
 #[test]
@@ -259,13 +273,14 @@ fn serializers_leave_the_rest_of_a_buffer(rt: HostRuntime) {
     let alloc = rt.alloc();
     let value = Vec::from_slice(alloc, &[2]).expect(&rt, "memory");
     let nla = DefaultNla::new(0x8007, value);
-    writes(&rt, alloc, &nla, b"\x05\0\x07\x80\x02\0\0\0");
+    // Length 5, the type field, the value 2 and padding.
+    assert_emits(&rt, alloc, &nla, b"\x05\0\x07\x80\x02\0\0\0");
     let bytes = b"\x05\0\x07\x80\x02\0\0\0\xff\xff";
-    leaves(&rt, alloc, &nla, b"\x02\xff\xff", bytes);
+    assert_left_in_buffers(&rt, alloc, &nla, b"\x02\xff\xff", bytes);
     let bytes = b"\x05\0\x06\0\x03\0\0\0\xff\xff";
-    leaves(&rt, alloc, &unix::Nla::Shutdown(3), b"\x03\xff\xff", bytes);
+    assert_left_in_buffers(&rt, alloc, &unix::Nla::Shutdown(3), b"\x03\xff\xff", bytes);
     let bytes = b"\x05\0\x0b\0\x01\0\0\0\xff\xff";
-    leaves(
+    assert_left_in_buffers(
         &rt,
         alloc,
         &inet::Nla::SkV6Only(true),
@@ -273,15 +288,16 @@ fn serializers_leave_the_rest_of_a_buffer(rt: HostRuntime) {
         bytes,
     );
     let nlas = [nla, DefaultNla::new(8, Vec::new(alloc))];
+    // The attributes have 8 and 4 bytes; the buffer has 2 more.
     let mut buffer = [0xff; 14];
     assert!(rt; nlas_writable(&nlas) && nlas_len(&nlas) <= 14);
     emit_nlas(&nlas, &mut buffer);
-    same(
+    assert_bytes(
         &rt,
         &buffer,
         b"\x05\0\x07\x80\x02\0\0\0\x04\0\x08\0\xff\xff",
     );
     let mut buffer = [0xff; 6];
     emit_u32(&mut buffer, 0x0102_0304);
-    same(&rt, &buffer, b"\x04\x03\x02\x01\xff\xff");
+    assert_bytes(&rt, &buffer, b"\x04\x03\x02\x01\xff\xff");
 }

@@ -1,7 +1,9 @@
 //! What holds in each run, whichever allocations fail.
 
 use super::parsers::{Report, Subject, examine};
-use super::{ABSTRACT, CONNECTED, INET, LISTENING, PATH, SHUTDOWN, UNIX_REQUEST, code, has_part};
+use super::{
+    ABSTRACT, CONNECTED, INET, LISTENING, PATH, SHUTDOWN, UNIX_REQUEST, assert_contains, code,
+};
 use hex::FromHexError;
 use netlink_core::{
     CanonError, DecodeError, NetlinkMessage, Parseable, ParseableParametrized, RecordName,
@@ -23,10 +25,11 @@ const NINE: &str =
 /// An abstract name, two inodes and an attribute of an unknown kind.
 const OTHER: &str = "08000000006275730c00030005000000060000000500070002000000";
 
-/// The directions that are shut down, a text and an attribute of an unknown kind.
+/// The directions that are shut down, the congestion control algorithm `cubic`, and an attribute of
+/// an unknown kind.
 const INET_OTHER: &str = "05000800000000000a000400637562696300000005000300aa000000";
 
-/// A text in its canonical form, with its terminating NUL and padding.
+/// The attribute with the text `cubic` in its canonical form, with its terminating NUL and padding.
 const CUBIC: &str = "0a0004006375626963000000";
 
 /// The digits of 48 zero bytes.
@@ -45,9 +48,9 @@ fn reply(rt: &impl Abort, alloc: Global, header: &str, attributes: &str) -> Opti
     }
 }
 
-/// Returns other bytes of the same value, or `None` if an allocation fails. Byte 3 is padding in a
-/// UNIX reply and in a request. In an internet reply it is the number of retransmissions, which is
-/// ignored in the header `INET`.
+/// Returns other bytes that parse as the same value as a header and attributes, or `None` if an
+/// allocation fails. Byte 3 is changed. In a UNIX reply and in a request it is padding. In an
+/// internet reply it is the number of retransmissions, which is ignored in the header `INET`.
 fn equivalent(rt: &impl Abort, alloc: Global, header: &str, attributes: &str) -> Option<Vec<u8>> {
     let mut bytes = reply(rt, alloc, header, attributes)?;
     if let Some(byte) = bytes.get_mut(3) {
@@ -57,7 +60,7 @@ fn equivalent(rt: &impl Abort, alloc: Global, header: &str, attributes: &str) ->
 }
 
 /// Asserts that a serializer returns these bytes, unless an allocation fails.
-fn is_form(rt: &impl Abort, form: &Result<Vec<u8>, CanonError>, bytes: &[u8]) {
+fn assert_form_or_memory(rt: &impl Abort, form: &Result<Vec<u8>, CanonError>, bytes: &[u8]) {
     match form {
         Ok(form) => assert!(rt; form.as_slice() == bytes),
         Err(error) => assert!(rt; *error == CanonError::Memory),
@@ -65,15 +68,15 @@ fn is_form(rt: &impl Abort, form: &Result<Vec<u8>, CanonError>, bytes: &[u8]) {
 }
 
 /// Asserts that all serializers return these bytes, unless an allocation fails.
-fn are_forms(rt: &impl Abort, report: &Report, bytes: &[u8]) {
-    is_form(rt, &report.form, bytes);
-    is_form(rt, &report.owned_form, bytes);
-    is_form(rt, &report.view_form, bytes);
+fn assert_forms_or_memory(rt: &impl Abort, report: &Report, bytes: &[u8]) {
+    assert_form_or_memory(rt, &report.form, bytes);
+    assert_form_or_memory(rt, &report.owned_form, bytes);
+    assert_form_or_memory(rt, &report.view_form, bytes);
 }
 
 /// Asserts that each parser returns the value of the original bytes, and each serializer the
 /// canonical form, unless an allocation fails.
-fn copes(
+fn assert_parses_or_memory(
     rt: &impl Abort,
     alloc: Global,
     subject: Subject,
@@ -83,13 +86,14 @@ fn copes(
 ) {
     let report = examine(alloc, subject, bytes, Some(original), false);
     assert!(rt; report.are_original_or_memory);
-    are_forms(rt, &report, form);
+    assert_forms_or_memory(rt, &report, form);
 }
 
-/// A header, attributes, and the attributes in their canonical form.
+/// A row has a header, attributes, and the canonical form of these attributes, all in hexadecimal.
 type Row = (&'static str, &'static str, &'static str);
 
-/// Replies about UNIX sockets.
+/// Replies about UNIX sockets. If the attributes are empty, the header column has the whole reply.
+/// The last two have a list of two inodes, and an empty one.
 const UNIX: [Row; 6] = [
     (PATH, "", ""),
     (ABSTRACT, "", ""),
@@ -103,7 +107,8 @@ const UNIX: [Row; 6] = [
     (LISTENING, "04000300", "04000300"),
 ];
 
-/// Replies about IPv4 sockets.
+/// Replies about IPv4 sockets. The third has a text without a NUL, the fourth one with a NUL, and
+/// the fifth one with two, of which one belongs to the text.
 const INTERNET: [Row; 5] = [
     (INET, SHUTDOWN, SHUTDOWN),
     (INET, INET_OTHER, INET_OTHER),
@@ -112,67 +117,77 @@ const INTERNET: [Row; 5] = [
     (INET, "0b0004006375626963000000", "0b0004006375626963000000"),
 ];
 
-/// Checks a reply, and the reply as a message.
-fn copes_with_row(rt: &impl Abort, alloc: Global, subject: Subject, row: &Row) -> Option<()> {
+/// Checks the reply of a row, and the same bytes as a message. Returns `None`, without a check, if
+/// an allocation for these bytes fails.
+fn assert_row_parses_or_memory(
+    rt: &impl Abort,
+    alloc: Global,
+    subject: Subject,
+    row: &Row,
+) -> Option<()> {
     let (header, attributes, canonical) = *row;
     let bytes = reply(rt, alloc, header, attributes)?;
     let form = reply(rt, alloc, header, canonical)?;
     let original = equivalent(rt, alloc, header, canonical)?;
-    copes(rt, alloc, subject, &bytes, &original, &form);
-    copes(rt, alloc, Subject::Message, &bytes, &original, &form);
+    assert_parses_or_memory(rt, alloc, subject, &bytes, &original, &form);
+    assert_parses_or_memory(rt, alloc, Subject::Message, &bytes, &original, &form);
     Some(())
 }
 
 #[test]
 fn replies(rt: HostRuntime) {
     for row in &UNIX {
-        let _ = copes_with_row(&rt, rt.alloc(), Subject::UnixReply, row);
+        let _ = assert_row_parses_or_memory(&rt, rt.alloc(), Subject::UnixReply, row);
     }
     for row in &INTERNET {
-        let _ = copes_with_row(&rt, rt.alloc(), Subject::InetReply, row);
+        let _ = assert_row_parses_or_memory(&rt, rt.alloc(), Subject::InetReply, row);
     }
 }
 
 /// Asserts that the copy is equal to the value, unless an allocation fails.
-fn is_copy<T: PartialEq + Drop>(rt: &impl Abort, value: &T, copy: Result<T, AllocError>) {
+fn assert_copy_or_memory<T: PartialEq + Drop>(
+    rt: &impl Abort,
+    value: &T,
+    copy: Result<T, AllocError>,
+) {
     if let Ok(copy) = copy {
         assert!(rt; copy == *value);
     }
 }
 
 /// Checks the clones of a reply about a UNIX socket, and of its attributes.
-fn copies_unix(rt: &impl Abort, alloc: Global, bytes: &[u8]) {
+fn assert_unix_copies(rt: &impl Abort, alloc: Global, bytes: &[u8]) {
     let Ok(reply) = UnixResponse::parse(alloc, bytes) else {
         return;
     };
-    is_copy(rt, &reply, reply.clone(alloc));
+    assert_copy_or_memory(rt, &reply, reply.clone(alloc));
     for nla in reply.nlas.as_slice() {
-        is_copy(rt, nla, nla.clone(alloc));
+        assert_copy_or_memory(rt, nla, nla.clone(alloc));
         match nla {
-            unix::nlas::Nla::Name(name) => is_copy(rt, name, name.clone(alloc)),
-            unix::nlas::Nla::Other(other) => is_copy(rt, other, other.clone(alloc)),
+            unix::nlas::Nla::Name(name) => assert_copy_or_memory(rt, name, name.clone(alloc)),
+            unix::nlas::Nla::Other(other) => assert_copy_or_memory(rt, other, other.clone(alloc)),
             _ => {}
         }
     }
 }
 
 /// Checks the clones of a reply about an IPv4 socket, and of its attributes.
-fn copies_inet(rt: &impl Abort, alloc: Global, bytes: &[u8]) {
+fn assert_inet_copies(rt: &impl Abort, alloc: Global, bytes: &[u8]) {
     let Ok(reply) = InetResponse::parse(alloc, bytes) else {
         return;
     };
-    is_copy(rt, &reply, reply.clone(alloc));
+    assert_copy_or_memory(rt, &reply, reply.clone(alloc));
     for nla in reply.nlas.as_slice() {
-        is_copy::<inet::nlas::Nla>(rt, nla, nla.clone(alloc));
+        assert_copy_or_memory::<inet::nlas::Nla>(rt, nla, nla.clone(alloc));
     }
 }
 
 /// Checks the clones of a message, and of the request to close its socket.
-fn copies_message(rt: &impl Abort, alloc: Global, bytes: &[u8]) {
+fn assert_message_copies(rt: &impl Abort, alloc: Global, bytes: &[u8]) {
     if let Ok(message) = SockDiagMessage::parse_with_param(alloc, bytes, SOCK_DIAG_BY_FAMILY) {
-        is_copy(rt, &message, message.clone(alloc));
+        assert_copy_or_memory(rt, &message, message.clone(alloc));
         let destroy = SockDiagDestroy::new(message);
-        is_copy(rt, &destroy, destroy.clone(alloc));
+        assert_copy_or_memory(rt, &destroy, destroy.clone(alloc));
     }
 }
 
@@ -181,12 +196,12 @@ fn copies_message(rt: &impl Abort, alloc: Global, bytes: &[u8]) {
 fn clones(rt: HostRuntime) {
     let alloc = rt.alloc();
     if let Some(bytes) = reply(&rt, alloc, LISTENING, OTHER) {
-        copies_unix(&rt, alloc, &bytes);
-        copies_message(&rt, alloc, &bytes);
+        assert_unix_copies(&rt, alloc, &bytes);
+        assert_message_copies(&rt, alloc, &bytes);
     }
     if let Some(bytes) = reply(&rt, alloc, INET, INET_OTHER) {
-        copies_inet(&rt, alloc, &bytes);
-        copies_message(&rt, alloc, &bytes);
+        assert_inet_copies(&rt, alloc, &bytes);
+        assert_message_copies(&rt, alloc, &bytes);
     }
 }
 
@@ -204,19 +219,26 @@ const BOTH: &[u8] = b"\x20\0\0\0\x14\0\x02\0\x07\0\0\0\0\0\0\0\
 /// A message of type `NLMSG_DONE`.
 const DONE: &[u8] = b"\x14\0\0\0\x03\0\x02\0\x07\0\0\0\0\0\0\0\0\0\0\0";
 
-/// The first reply without the one after it, and with other padding.
+/// The first message of `BOTH`, with another byte of padding (7) in the header of its reply.
 const FIRST: &[u8] = b"\x20\0\0\0\x14\0\x02\0\x07\0\0\0\0\0\0\0\
 \x01\x01\x0a\x07\x0e\x4f\0\0\xa0\x02\0\0\0\0\0\0";
 
-/// Asserts that the message is equal to the one of other bytes, and that `part` occurs in what
-/// `Debug` prints for it, unless an allocation fails. Returns the code of the parser's error, or 0.
-fn opens(rt: &impl Abort, alloc: Global, bytes: &[u8], other: &[u8], part: &str) -> u8 {
+/// Asserts that the message in `bytes` is equal to the message in `other`, and that `part` occurs
+/// in what `Debug` prints for it, unless an allocation fails. Returns the code of the parser's
+/// error, or 0.
+fn assert_message_or_memory(
+    rt: &impl Abort,
+    alloc: Global,
+    bytes: &[u8],
+    other: &[u8],
+    part: &str,
+) -> u8 {
     let expected = NetlinkMessage::<SockDiagMessage>::deserialize(alloc, other);
     let read = NetlinkMessage::<SockDiagMessage>::deserialize(alloc, bytes);
     if code(&read) != MEMORY {
         assert!(rt; code(&expected) == MEMORY || read == expected);
         if let Ok(text) = format!(in alloc; "{read:?}") {
-            has_part(rt, text.as_str(), part);
+            assert_contains(rt, text.as_str(), part);
         }
     }
     code(&read)
@@ -230,16 +252,17 @@ fn netlink_messages(rt: HostRuntime) {
         2, sequence_number: 7, port_number: 0 }, payload: InnerMessage(UnixResponse(UnixResponse \
         { header: UnixResponseHeader { kind: 1, state: 10, inode: 20238, cookie: [160, 2, 0, 0, \
         0, 0, 0, 0] }, nlas: [] })) })";
-    assert!(rt; opens(&rt, alloc, BOTH, FIRST, text) <= MEMORY);
+    // The code is 0 or that of `Memory`.
+    assert!(rt; assert_message_or_memory(&rt, alloc, BOTH, FIRST, text) <= MEMORY);
     let text = "Ok(NetlinkMessage { header: NetlinkHeader { length: 20, message_type: 3, flags: \
         2, sequence_number: 7, port_number: 0 }, payload: Done([0, 0, 0, 0]) })";
-    assert!(rt; opens(&rt, alloc, DONE, DONE, text) <= MEMORY);
+    assert!(rt; assert_message_or_memory(&rt, alloc, DONE, DONE, text) <= MEMORY);
     let text = "Ok(NetlinkMessage { header: NetlinkHeader { length: 16, message_type: 1, flags: \
         0, sequence_number: 0, port_number: 0 }, payload: Noop })";
-    assert!(rt; opens(&rt, alloc, NOOP, NOOP, text) == 0);
+    assert!(rt; assert_message_or_memory(&rt, alloc, NOOP, NOOP, text) == 0);
 }
 
-/// All bytes of a [`Case`] are parsed.
+/// Value of `parsed` in a [`Case`]: all bytes are parsed.
 const WHOLE: usize = usize::MAX;
 
 /// Bytes that are parsed without an allocation, or rejected whichever allocations fail.
@@ -259,6 +282,7 @@ struct Case {
 /// Bytes whose parsers do not allocate: requests, and replies of at most eight attributes that have
 /// no name, no text, no number of a pending connection and no raw value.
 const VALUES: [Case; 9] = [
+    // A reply without attributes.
     Case {
         subject: Subject::UnixReply,
         header: LISTENING,
@@ -270,9 +294,11 @@ const VALUES: [Case; 9] = [
         subject: Subject::UnixReply,
         header: LISTENING,
         attributes: NINE,
+        // The header of 16 bytes and eight attributes of 8 bytes.
         parsed: 80,
         error: None,
     },
+    // An empty list of pending connections.
     Case {
         subject: Subject::UnixReply,
         header: LISTENING,
@@ -280,6 +306,7 @@ const VALUES: [Case; 9] = [
         parsed: WHOLE,
         error: None,
     },
+    // Queue lengths.
     Case {
         subject: Subject::UnixReply,
         header: CONNECTED,
@@ -287,6 +314,7 @@ const VALUES: [Case; 9] = [
         parsed: WHOLE,
         error: None,
     },
+    // Memory counters.
     Case {
         subject: Subject::UnixReply,
         header: LISTENING,
@@ -306,6 +334,7 @@ const VALUES: [Case; 9] = [
         subject: Subject::InetReply,
         header: INET,
         attributes: INET_OTHER,
+        // The header of 72 bytes and the first attribute.
         parsed: 80,
         error: None,
     },
@@ -316,6 +345,7 @@ const VALUES: [Case; 9] = [
         parsed: WHOLE,
         error: None,
     },
+    // A request for UDP sockets over IPv4.
     Case {
         subject: Subject::InetRequest,
         header: "0211000002000000",
@@ -349,6 +379,7 @@ const ERRORS: [Case; 9] = [
             need: 16,
         }),
     },
+    // The last attribute of `PATH`, of 5 bytes and 3 bytes of padding, starts at offset 52.
     Case {
         subject: Subject::UnixReply,
         header: PATH,
@@ -384,6 +415,7 @@ const ERRORS: [Case; 9] = [
         parsed: WHOLE,
         error: Some(DecodeError::AttributeHeaderCut { left: 2 }),
     },
+    // A name, and an attribute with the length field 3.
     Case {
         subject: Subject::UnixReply,
         header: LISTENING,
@@ -391,6 +423,7 @@ const ERRORS: [Case; 9] = [
         parsed: WHOLE,
         error: Some(DecodeError::AttributeLengthUnder4 { length: 3 }),
     },
+    // Two congestion control algorithms: `cubic`, and the byte 0xff.
     Case {
         subject: Subject::InetReply,
         header: INET,
@@ -401,8 +434,9 @@ const ERRORS: [Case; 9] = [
 ];
 
 /// Asserts that each parser returns the value or the error of the case, whichever allocations fail.
-/// Asserts that each serializer returns the error, or the bytes unless an allocation fails.
-fn needs_no_allocation(rt: &impl Abort, alloc: Global, case: &Case) -> Option<()> {
+/// Asserts that each serializer returns the error, or the bytes unless an allocation fails. Returns
+/// `None`, without a check, if an allocation for the bytes of the case fails.
+fn assert_needs_no_allocation(rt: &impl Abort, alloc: Global, case: &Case) -> Option<()> {
     let bytes = reply(rt, alloc, case.header, case.attributes)?;
     let bytes = bytes.get(..case.parsed).unwrap_or(&bytes);
     let original = equivalent(rt, alloc, case.header, case.attributes)?;
@@ -410,14 +444,14 @@ fn needs_no_allocation(rt: &impl Abort, alloc: Global, case: &Case) -> Option<()
     let report = examine(alloc, case.subject, bytes, Some(original), false);
     assert!(rt; report.error == case.error && report.are_equal && report.is_original);
     match case.error {
-        Some(error) => are_rejected(rt, &report, error),
-        None => are_forms(rt, &report, bytes),
+        Some(error) => assert_forms_rejected(rt, &report, error),
+        None => assert_forms_or_memory(rt, &report, bytes),
     }
     Some(())
 }
 
 /// Asserts that all serializers return the error of the parser.
-fn are_rejected(rt: &impl Abort, report: &Report, error: DecodeError) {
+fn assert_forms_rejected(rt: &impl Abort, report: &Report, error: DecodeError) {
     let refused = Err(CanonError::Refused(error));
     assert!(rt; report.form == refused);
     assert!(rt; report.owned_form == refused && report.view_form == refused);
@@ -426,14 +460,14 @@ fn are_rejected(rt: &impl Abort, report: &Report, error: DecodeError) {
 #[test]
 fn values_and_errors_that_need_no_allocation(rt: HostRuntime) {
     for case in &VALUES {
-        let _ = needs_no_allocation(&rt, rt.alloc(), case);
+        let _ = assert_needs_no_allocation(&rt, rt.alloc(), case);
     }
     for case in &ERRORS {
-        let _ = needs_no_allocation(&rt, rt.alloc(), case);
+        let _ = assert_needs_no_allocation(&rt, rt.alloc(), case);
     }
 }
 
-/// The payloads of `BOTH`, with other padding.
+/// The payloads of `BOTH`, each with another byte of padding (7) at offset 3.
 const PAYLOADS: [&[u8]; 2] = [
     b"\x01\x01\x0a\x07\x0e\x4f\0\0\xa0\x02\0\0\0\0\0\0",
     b"\x01\x01\x01\x07\xb7\x7c\0\0\x22\0\0\0\0\0\0\0",
@@ -447,8 +481,9 @@ fn both(alloc: Global) -> Option<(SockDiagMessage, SockDiagMessage)> {
     Some((first, second))
 }
 
-/// Asserts that the message at this index of a dump of `BOTH`, repeated, is the one of `BOTH`.
-fn is_in_order(
+/// Asserts that the message at this index of a dump of `BOTH`, repeated, is the first of `BOTH` if
+/// the index is even, else the second.
+fn assert_in_order(
     rt: &impl Abort,
     index: usize,
     message: &SockDiagMessage,
@@ -462,10 +497,16 @@ fn is_in_order(
 }
 
 /// Asserts that a feed succeeds, or that it returns the error of a failed allocation and the dump
-/// has failed. A dump that had failed returns that it has ended.
-fn is_fed(rt: &impl Abort, was: DumpState, fed: Result<(), DumpError>, state: DumpState) {
-    match was {
-        DumpState::Failed => assert!(rt; fed == Err(DumpError::Ended) && state == was),
+/// has failed. A dump that had failed returns that it has ended. `old_state` and `state` are the
+/// states before and after the feed, and `fed` is what it returned.
+fn assert_feed_result(
+    rt: &impl Abort,
+    old_state: DumpState,
+    fed: Result<(), DumpError>,
+    state: DumpState,
+) {
+    match old_state {
+        DumpState::Failed => assert!(rt; fed == Err(DumpError::Ended) && state == old_state),
         _ if state == DumpState::Failed => {
             assert!(rt; fed == Err(DumpError::Fault(DecodeError::Memory)));
         }
@@ -473,13 +514,13 @@ fn is_fed(rt: &impl Abort, was: DumpState, fed: Result<(), DumpError>, state: Du
     }
 }
 
-/// Feeds the datagrams to a dump, and asserts this of each feed. Returns the dump.
-fn fed(rt: &impl Abort, alloc: Global, datagrams: &[&[u8]]) -> DumpReader {
+/// Feeds the datagrams to a dump, and checks each feed by [`assert_feed_result`]. Returns the dump.
+fn fed_dump(rt: &impl Abort, alloc: Global, datagrams: &[&[u8]]) -> DumpReader {
     let mut reader = DumpReader::new(alloc);
     for datagram in datagrams {
-        let was = reader.state();
+        let old_state = reader.state();
         let fed = reader.feed(datagram);
-        is_fed(rt, was, fed, reader.state());
+        assert_feed_result(rt, old_state, fed, reader.state());
     }
     reader
 }
@@ -491,16 +532,16 @@ fn dumps(rt: HostRuntime) {
     let Some(expected) = both(rt.alloc()) else {
         return;
     };
-    let reader = fed(&rt, rt.alloc(), &[BOTH, BOTH, DONE]);
+    let reader = fed_dump(&rt, rt.alloc(), &[BOTH, BOTH, DONE]);
     for (index, message) in reader.messages().iter().enumerate() {
-        is_in_order(&rt, index, message, &expected);
+        assert_in_order(&rt, index, message, &expected);
     }
     let (state, count) = (reader.state(), reader.messages().len());
     assert!(rt; state == DumpState::Failed || (state == DumpState::Done && count == 4));
 }
 
-/// Checks the same of a dump that continues after invalid replies. A failed allocation is not an
-/// entry.
+/// Checks that the entries of a dump that continues after invalid replies are the replies of
+/// `BOTH`, or the first of them if an allocation fails. A failed allocation is not an entry.
 #[test]
 fn lossy_dumps(rt: HostRuntime) {
     let Some(expected) = both(rt.alloc()) else {
@@ -508,11 +549,11 @@ fn lossy_dumps(rt: HostRuntime) {
     };
     let mut dump = LossyDump::new(rt.alloc());
     let fed = dump.feed(BOTH);
-    is_fed(&rt, DumpState::Reading, fed, dump.state());
+    assert_feed_result(&rt, DumpState::Reading, fed, dump.state());
     assert!(rt; dump.entries().len() == 2 || dump.state() == DumpState::Failed);
     for (index, entry) in dump.entries().iter().enumerate() {
         match entry {
-            Ok(message) => is_in_order(&rt, index, message, &expected),
+            Ok(message) => assert_in_order(&rt, index, message, &expected),
             Err(_) => panic!(rt; "an error"),
         }
     }
@@ -521,6 +562,6 @@ fn lossy_dumps(rt: HostRuntime) {
 /// Checks that a dump that keeps no message never fails, whichever allocations fail.
 #[test]
 fn dumps_that_need_no_allocation(rt: HostRuntime) {
-    let reader = fed(&rt, rt.alloc(), &[NOOP, DONE]);
+    let reader = fed_dump(&rt, rt.alloc(), &[NOOP, DONE]);
     assert!(rt; reader.state() == DumpState::Done);
 }

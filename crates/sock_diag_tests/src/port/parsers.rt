@@ -10,7 +10,7 @@ use std::alloc::Global;
 use std::fmt::Debug;
 use std::process::Abort;
 
-/// The type of a value. A message is parsed under the type `SOCK_DIAG_BY_FAMILY`.
+/// The type that bytes are parsed as. A message is parsed under the type `SOCK_DIAG_BY_FAMILY`.
 #[derive(Clone, Copy)]
 pub(crate) enum Subject {
     UnixReply,
@@ -66,6 +66,7 @@ trait Parsers: Sized + PartialEq + Debug + Drop {
     fn view_form(alloc: Global, bytes: &[u8]) -> Result<Vec<u8>, CanonError>;
 }
 
+/// Calls all parsers and serializers of `T`, as [`examine`] does for a subject.
 fn examine_as<T: Parsers>(
     alloc: Global,
     bytes: &[u8],
@@ -99,7 +100,7 @@ fn error<T: Drop>(read: &Result<T, DecodeError>) -> Option<DecodeError> {
     }
 }
 
-/// Returns whether the results are equal, or one of them is `Memory`.
+/// Returns whether the result of a parser is `original`, or one of both results is `Memory`.
 fn is_or_memory<T: Parsers>(
     read: &Result<T, DecodeError>,
     original: &Result<T, DecodeError>,
@@ -127,8 +128,9 @@ fn owned_form<T: Parsers>(
     }
 }
 
-/// Calls all parsers and serializers. The report compares the value also with the one of the
-/// original bytes. Without these, the bytes themselves are the original.
+/// Calls all parsers and serializers with the bytes, and returns what they return. The report says
+/// whether the value is the one of `original`, or of `bytes` if there is no `original`. It has the
+/// `Debug` output if `with_text` is true.
 pub(crate) fn examine(
     alloc: Global,
     subject: Subject,

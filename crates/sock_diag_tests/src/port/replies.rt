@@ -1,10 +1,10 @@
-//! What `Debug` prints for replies and messages, or a part of it. A row has more digits for the
-//! bytes, a space, and that part.
+//! What `Debug` prints for replies and messages, or a part of it. A row has the digits that follow
+//! a given start, possibly none, a space, and that part.
 
 use super::parsers::{Subject, parse_all};
 use super::{
-    ABSTRACT, CONNECTED, INET, LISTENING, PATH, PEER, SHUTDOWN, bytes, cells, has_part, shows,
-    shows_lines, shows_part,
+    ABSTRACT, CONNECTED, INET, LISTENING, PATH, PEER, SHUTDOWN, assert_contains, assert_debug,
+    assert_debug_contains, assert_debug_lines, bytes, cells,
 };
 use netlink_core::{NetlinkDeserializable, NetlinkMessage, Parseable, ParseableParametrized};
 use netlink_packet_sock_diag::unix::{UnixResponse, UnixResponseView};
@@ -13,44 +13,52 @@ use std::alloc::Global;
 use std::fmt::Debug;
 use std::process::Abort;
 
-/// Asserts that the part occurs in what `Debug` prints for the result of all parsers.
-fn is_shown(rt: &impl Abort, alloc: Global, subject: Subject, reply: &[u8], part: &str) {
+/// Asserts that all parsers return the same result for the bytes `reply`, and that `part` occurs in
+/// what `Debug` prints for it.
+fn assert_report_contains(
+    rt: &impl Abort,
+    alloc: Global,
+    subject: Subject,
+    reply: &[u8],
+    part: &str,
+) {
     let report = parse_all(rt, alloc, subject, reply, None, true);
     let text = report.text.as_deref().expect(rt, "memory");
-    has_part(rt, text, part);
+    assert_contains(rt, text, part);
 }
 
-/// Asserts the same of the part in the row.
-fn shows_attribute(rt: &impl Abort, alloc: Global, subject: Subject, front: &str, row: &str) {
+/// Checks a row by [`assert_report_contains`]. It has digits, a space, and a part of the `Debug`
+/// output. The bytes that are parsed are those of `front` and of the digits.
+fn assert_attribute_row(rt: &impl Abort, alloc: Global, subject: Subject, front: &str, row: &str) {
     let (reply, part) = cells(rt, alloc, front, row);
-    is_shown(rt, alloc, subject, &reply, part);
+    assert_report_contains(rt, alloc, subject, &reply, part);
 }
 
-/// For the reply `PATH`.
+/// The row for the reply `PATH`, without digits.
 const WITH_PATH: &str = " Ok(UnixResponse { header: UnixResponseHeader { kind: 1, state: 10, \
 inode: 20238, cookie: [160, 2, 0, 0, 0, 0, 0, 0] }, nlas: [Name(Pathname([47, 116, 109, 112, 47, \
 46, 73, 67, 69, 45, 117, 110, 105, 120, 47, 49, 49, 53, 49])), ReceiveQueueLength(0, 128), \
 Shutdown(0)] })";
 
-/// For the reply `PEER`.
+/// The row for the reply `PEER`, without digits.
 const WITH_PEER: &str = " Ok(UnixResponse { header: UnixResponseHeader { kind: 1, state: 1, \
 inode: 31927, cookie: [34, 0, 0, 0, 0, 0, 0, 0] }, nlas: [Name(Pathname([47, 114, 117, 110, 47, \
 117, 115, 101, 114, 47, 49, 48, 48, 48, 47, 98, 117, 115])), Peer(31062), ReceiveQueueLength(0, \
 0), Shutdown(0)] })";
 
-/// For the header `INET` and the attribute `SHUTDOWN`.
+/// The row for the header `INET` and the attribute `SHUTDOWN`, without digits.
 const WITH_SHUTDOWN: &str = " Ok(InetResponse { header: InetResponseHeader { family: 2, state: 1, \
 timer: Some(KeepAlive(24.704s)), socket_id: SocketId { source_port: 60180, destination_port: 443, \
 source_address: 192.168.178.60, destination_address: 172.217.23.131, interface_id: 0, \
 cookie: [82, 3, 0, 0, 0, 0, 0, 0] }, recv_queue: 0, send_queue: 0, uid: 1000, inode: 2742952 }, \
 nlas: [Shutdown(0)] })";
 
-/// For the same bytes, parsed as a message.
+/// The row for the same bytes, parsed as a message.
 const INET_MESSAGE: &str =
     " Ok(InetResponse(InetResponse { header: InetResponseHeader { family: 2, \
 state: 1, timer: Some(KeepAlive(24.704s)), socket_id: SocketId { source_port: 60180, ";
 
-/// A request for UNIX sockets, parsed as a reply.
+/// A row with a request for UNIX sockets, which is parsed as a reply.
 const MESSAGE: &str = "010000000204000034120000040000000800020001000000 \
 Ok(UnixResponse(UnixResponse { header: UnixResponseHeader { kind: 0, state: 0, inode: 1026, \
 cookie: [52, 18, 0, 0, 4, 0, 0, 0] }, nlas: [Peer(1)] }))";
@@ -58,22 +66,22 @@ cookie: [52, 18, 0, 0, 4, 0, 0, 0] }, nlas: [Peer(1)] }))";
 #[test]
 fn replies_and_a_message(rt: HostRuntime) {
     let alloc = rt.alloc();
-    shows_attribute(&rt, alloc, Subject::UnixReply, PATH, WITH_PATH);
-    shows_attribute(&rt, alloc, Subject::UnixReply, PEER, WITH_PEER);
+    assert_attribute_row(&rt, alloc, Subject::UnixReply, PATH, WITH_PATH);
+    assert_attribute_row(&rt, alloc, Subject::UnixReply, PEER, WITH_PEER);
     let inet = [INET, SHUTDOWN].concat(alloc).expect(&rt, "memory");
-    shows_attribute(&rt, alloc, Subject::InetReply, &inet, WITH_SHUTDOWN);
-    shows_attribute(&rt, alloc, Subject::Message, &inet, INET_MESSAGE);
-    shows_attribute(&rt, alloc, Subject::Message, "", MESSAGE);
+    assert_attribute_row(&rt, alloc, Subject::InetReply, &inet, WITH_SHUTDOWN);
+    assert_attribute_row(&rt, alloc, Subject::Message, &inet, INET_MESSAGE);
+    assert_attribute_row(&rt, alloc, Subject::Message, "", MESSAGE);
 }
 
-/// For the reply `ABSTRACT`.
+/// The row for the reply `ABSTRACT`, without digits.
 const WITH_ABSTRACT: &str = " Ok(UnixResponse { header: UnixResponseHeader { kind: 1, state: 10, \
 inode: 20238, cookie: [160, 2, 0, 0, 0, 0, 0, 0] }, nlas: [Name(Abstract([49, 99, 49, 52, 52, 48, \
 99, 53, 102, 53, 101, 50, 97, 53, 50, 101, 47, 98, 117, 115, 47, 115, 121, 115, 116, 101, 109, \
 100, 47, 0, 47, 98, 117, 115, 45, 97, 112, 105, 45, 117, 115, 101, 114])), \
 ReceiveQueueLength(0, 128), Shutdown(0)] })";
 
-/// Attributes after the header `LISTENING`.
+/// Rows with one attribute after the header `LISTENING`.
 const LISTENING_ROWS: &str = "\
 0500068002000000 Ok(UnixResponse { header: UnixResponseHeader { kind: 1, state: 10, inode: 20238, \
 cookie: [160, 2, 0, 0, 0, 0, 0, 0] }, nlas: [Shutdown(2)] })
@@ -94,13 +102,13 @@ ffff0600 Err(AttributeLengthPast { length: 65535, left: 4 })
 2000050001000000020000000300000004000000050000000600000007000000 \
 Err(BufferTooSmall { which: UnixMemInfo, got: 28, need: 36 })";
 
-/// Attributes after the header `CONNECTED`.
+/// Rows with one attribute after the header `CONNECTED`.
 const CONNECTED_ROWS: &str = "\
 0c0004000300000007000000 Ok(UnixResponse { header: UnixResponseHeader { kind: 1, state: 1, inode: \
 31927, cookie: [34, 0, 0, 0, 0, 0, 0, 0] }, nlas: [ReceiveQueueLength(3, 7)] })
 0800020001000000 nlas: [Peer(1)] })";
 
-/// Attributes after the header `INET`.
+/// Rows with one attribute after the header `INET`.
 const INET_ROWS: &str = "\
 090004006375626963 nlas: [Congestion(\"cubic\")] })
 0a0004006375626963000000 nlas: [Congestion(\"cubic\")] })
@@ -111,7 +119,8 @@ const INET_ROWS: &str = "\
 1f00070000000000000000000000000000000000000000000000000000000000 Err(BufferTooSmall { which: \
 MemInfo, got: 27, need: 28 })";
 
-/// Whole replies, with other timers than the one of the header `INET`, and of another family.
+/// Rows with whole replies: `INET` and `SHUTDOWN`, with the timer bytes 3, 0 and 9 instead of 2,
+/// and with the family 1.
 const INET_TIMERS: &str = "\
 02010300eb1401bbc0a8b23c000000000000000000000000acd91783000000000000000000000000000000005203000000\
 000000806000000000000000000000e8030000a8da29000500080000000000 timer: Some(TimeWait), \
@@ -124,8 +133,9 @@ socket_id
 000000806000000000000000000000e8030000a8da29000500080000000000 Err(UnsupportedFamily { \
 family: 1 })";
 
-/// Payloads of messages. The first two are requests, which are parsed as replies: in the address of
-/// the first is the header of an attribute.
+/// Rows with payloads of messages. The first two are requests for internet sockets, which are
+/// parsed as replies: in the address of the first, whose family is `AF_UNIX`, is the header of an
+/// attribute.
 const MESSAGE_ROWS: &str = "\
 01010a00000000000000000000000000280007000000000000000000000000000000000000000000000000000000000000\
 00000000000000 Ok(UnixResponse(UnixResponse { header: UnixResponseHeader { kind: 1, state: 10, \
@@ -137,22 +147,28 @@ inode: 0, cookie: [0, 0, 0, 0, 0, 0, 0, 0] }, nlas: [Other(DefaultNla { kind: 7,
 01 Err(MessageTooShort { got: 1 })
 0300 Err(UnknownFamily { family: 3 })";
 
-/// Asserts the same of the parts in all rows.
-fn show_rows(rt: &impl Abort, alloc: Global, subject: Subject, front: &str, rows: &str) {
+/// Checks each row by [`assert_attribute_row`].
+fn assert_attribute_rows(
+    rt: &impl Abort,
+    alloc: Global,
+    subject: Subject,
+    front: &str,
+    rows: &str,
+) {
     for row in rows.lines() {
-        shows_attribute(rt, alloc, subject, front, row);
+        assert_attribute_row(rt, alloc, subject, front, row);
     }
 }
 
 #[test]
 fn values_and_errors(rt: HostRuntime) {
     let alloc = rt.alloc();
-    shows_attribute(&rt, alloc, Subject::UnixReply, ABSTRACT, WITH_ABSTRACT);
-    show_rows(&rt, alloc, Subject::UnixReply, LISTENING, LISTENING_ROWS);
-    show_rows(&rt, alloc, Subject::UnixReply, CONNECTED, CONNECTED_ROWS);
-    show_rows(&rt, alloc, Subject::InetReply, INET, INET_ROWS);
-    show_rows(&rt, alloc, Subject::InetReply, "", INET_TIMERS);
-    show_rows(&rt, alloc, Subject::Message, "", MESSAGE_ROWS);
+    assert_attribute_row(&rt, alloc, Subject::UnixReply, ABSTRACT, WITH_ABSTRACT);
+    assert_attribute_rows(&rt, alloc, Subject::UnixReply, LISTENING, LISTENING_ROWS);
+    assert_attribute_rows(&rt, alloc, Subject::UnixReply, CONNECTED, CONNECTED_ROWS);
+    assert_attribute_rows(&rt, alloc, Subject::InetReply, INET, INET_ROWS);
+    assert_attribute_rows(&rt, alloc, Subject::InetReply, "", INET_TIMERS);
+    assert_attribute_rows(&rt, alloc, Subject::Message, "", MESSAGE_ROWS);
 }
 
 /// A reply about a listening socket, with two attributes of each kind that a getter looks for.
@@ -165,13 +181,16 @@ const TWO_OF_EACH: &str = "01010a000e4f0000a002000000000000\
 28000500000000000300000000000000050000000000000007000000000000000000000000000000\
 05000600010000000500060002000000";
 
-/// Asserts what the getters of a reply return.
-fn gets(rt: &impl Abort, alloc: Global, reply: &str, (details, numbers): (&str, &str)) {
+/// Asserts that `Debug` prints what the getters of a reply return as these texts. `details`: peer,
+/// name, pending connections, directions that are shut down. `numbers`: the number and the limit of
+/// pending connections; the sizes of the receive and the send queue; the limit of a datagram and
+/// the memory for outgoing data.
+fn assert_getters(rt: &impl Abort, alloc: Global, reply: &str, (details, numbers): (&str, &str)) {
     let reply = bytes(rt, alloc, &[reply]);
     let reply = UnixResponse::parse(alloc, reply.as_slice()).expect(rt, "refused");
     let (peer, name) = (reply.peer(), reply.name());
     let (pending, shutdown) = (reply.pending_connections(), reply.shutdown_state());
-    shows(rt, alloc, &(peer, name, pending, shutdown), details);
+    assert_debug(rt, alloc, &(peer, name, pending, shutdown), details);
     let listening = [
         reply.number_of_pending_connection(),
         reply.max_number_of_pending_connection(),
@@ -181,7 +200,7 @@ fn gets(rt: &impl Abort, alloc: Global, reply: &str, (details, numbers): (&str, 
         reply.max_datagram_size(),
         reply.memory_used_for_outgoing_data(),
     ];
-    shows(rt, alloc, &[listening, queues, memory], numbers);
+    assert_debug(rt, alloc, &[listening, queues, memory], numbers);
 }
 
 // A getter returns the value of the first attribute of its kind. The queue lengths are those of a
@@ -191,18 +210,19 @@ fn getters(rt: HostRuntime) {
     let alloc = rt.alloc();
     let details = "(Some(1), Some(Abstract([65, 0])), Some([5]), Some(1))";
     let numbers = "[[Some(8), Some(9)], [None, None], [Some(4), Some(6)]]";
-    gets(&rt, alloc, TWO_OF_EACH, (details, numbers));
+    assert_getters(&rt, alloc, TWO_OF_EACH, (details, numbers));
     let none = "(None, None, None, None)";
     let numbers = "[[None, None], [Some(3), Some(7)], [None, None]]";
+    // A socket that does not listen (state 1), with the queue lengths 3 and 7.
     let connected = "01010100b77c000022000000000000000c0004000300000007000000";
-    gets(&rt, alloc, connected, (none, numbers));
+    assert_getters(&rt, alloc, connected, (none, numbers));
     let numbers = "[[Some(0), Some(128)], [None, None], [None, None]]";
     let details = "(None, Some(Pathname([47, 116, 109, 112, 47, 46, 73, 67, 69, 45, 117, 110, \
         105, 120, 47, 49, 49, 53, 49])), None, Some(0))";
-    gets(&rt, alloc, PATH, (details, numbers));
+    assert_getters(&rt, alloc, PATH, (details, numbers));
 }
 
-/// What `Debug` prints for a reply in the alternate form.
+/// What `{:#?}` prints for an owned reply.
 const REPLY_LINES: &str = "UnixResponse {
     header: UnixResponseHeader {
         kind: 1,
@@ -226,7 +246,7 @@ const REPLY_LINES: &str = "UnixResponse {
     ],
 }";
 
-/// What `Debug` prints for the borrowed reply.
+/// What `{:#?}` prints for the same reply, borrowed.
 const VIEW_LINES: &str = "UnixResponseView {
     bytes: [
         1,
@@ -261,13 +281,14 @@ const VIEW_LINES: &str = "UnixResponseView {
 fn lines_of_a_reply(rt: HostRuntime) {
     let reply = bytes(&rt, rt.alloc(), &[LISTENING, "0500060002000000"]);
     let view = UnixResponseView::parse(&reply).expect(&rt, "refused");
-    shows_lines(&rt, rt.alloc(), &view, VIEW_LINES);
+    assert_debug_lines(&rt, rt.alloc(), &view, VIEW_LINES);
     let reply = view.to_owned(rt.alloc()).expect(&rt, "memory");
-    shows_lines(&rt, rt.alloc(), &reply, REPLY_LINES);
+    assert_debug_lines(&rt, rt.alloc(), &reply, REPLY_LINES);
 }
 
-/// Asserts that `Debug` prints `count + 1` equal attributes of a reply.
-fn check_many(
+/// Asserts what `Debug` prints for a reply of this header and `count + 1` equal attributes, which
+/// are printed as `Shutdown(2)`.
+fn assert_debug_of_many(
     rt: &impl Abort,
     alloc: Global,
     subject: Subject,
@@ -277,30 +298,31 @@ fn check_many(
 ) {
     let many = attribute.repeat(alloc, count).expect(rt, "memory");
     let reply = bytes(rt, alloc, &[header, attribute, &many]);
-    is_shown(rt, alloc, subject, &reply, &many_text(rt, alloc, count));
+    assert_report_contains(rt, alloc, subject, &reply, &many_text(rt, alloc, count));
 }
 
-/// Returns what `Debug` prints for `count + 1` equal attributes.
+/// Returns what `Debug` prints for `count + 1` attributes `Shutdown(2)`.
 fn many_text(rt: &impl Abort, alloc: Global, count: usize) -> String {
     let many = "Shutdown(2), ".repeat(alloc, count).expect(rt, "memory");
     let parts = ["nlas: [", many.as_str(), "Shutdown(2)] })"];
     parts.concat(alloc).expect(rt, "memory")
 }
 
-/// Numbers of attributes.
+/// Numbers of attributes, less one. A reply stores up to eight inline.
 const COUNTS: [usize; 7] = [0, 1, 7, 8, 9, 300, 10_000];
 
 #[test]
 fn replies_with_many_attributes(rt: HostRuntime) {
     let (unix, inet) = ("0500060002000000", "0500080002000000");
     for &count in &COUNTS {
-        check_many(&rt, rt.alloc(), Subject::UnixReply, CONNECTED, unix, count);
-        check_many(&rt, rt.alloc(), Subject::InetReply, INET, inet, count);
+        assert_debug_of_many(&rt, rt.alloc(), Subject::UnixReply, CONNECTED, unix, count);
+        assert_debug_of_many(&rt, rt.alloc(), Subject::InetReply, INET, inet, count);
     }
 }
 
-/// Asserts what `Debug` prints for the netlink message in each row.
-fn check_messages<I: NetlinkDeserializable + Debug + Drop>(
+/// Checks each row. It has a netlink message in hexadecimal, a space, and a part of what `Debug`
+/// prints for the result of parsing it.
+fn assert_message_rows<I: NetlinkDeserializable + Debug + Drop>(
     rt: &impl Abort,
     alloc: Global,
     rows: &str,
@@ -308,12 +330,12 @@ fn check_messages<I: NetlinkDeserializable + Debug + Drop>(
     for row in rows.lines() {
         let (message, part) = cells(rt, alloc, "", row);
         let read = NetlinkMessage::<I>::deserialize(alloc, &message);
-        shows_part(rt, alloc, &read, part);
+        assert_debug_contains(rt, alloc, &read, part);
     }
 }
 
-/// A message with a reply, control messages, and rejected ones: a truncated header, two wrong
-/// lengths, and a request.
+/// Rows of [`assert_message_rows`]: a message with a reply, control messages, and rejected ones: a
+/// truncated header, two wrong lengths, and a request.
 const ENVELOPES: &str = "2000000014000200070000000000000001010a000e4f0000a002000000000000ffff \
 Ok(NetlinkMessage { header: NetlinkHeader { length: 32, message_type: 20, flags: 2, \
 sequence_number: 7, port_number: 0 }, payload: InnerMessage(UnixResponse(UnixResponse { header: \
@@ -334,26 +356,27 @@ length: 35, got: 34 })
 0000000000000000000000000000000000000000000000 Err(BufferTooSmall { which: InetResponseHeader, \
 got: 56, need: 72 })";
 
-/// Asserts that a message that was parsed has the header after `finalize`.
-fn is_finalized(rt: &impl Abort, alloc: Global, parts: &[&str], header: &str) {
+/// Parses the message in `parts`, and calls `finalize`. Asserts that then `Debug` prints its header
+/// as this text.
+fn assert_finalized(rt: &impl Abort, alloc: Global, parts: &[&str], header: &str) {
     let bytes = bytes(rt, alloc, parts);
     let mut message = NetlinkMessage::<SockDiagMessage>::deserialize(alloc, &bytes).expect(
         rt, "refused",
     );
     assert!(rt; message.is_writable());
     message.finalize();
-    shows(rt, alloc, &message.header, header);
+    assert_debug(rt, alloc, &message.header, header);
 }
 
-// The length of the second message is the number of its bytes, without the last byte of padding.
-// With the padding that is written it is one more.
+// Two bytes follow the first message. The second one lacks the last byte of its padding: its length
+// is 75 (0x4b), and 76 after `finalize`, with the padding that is serialized.
 #[test]
 fn parsed_messages_are_finalized(rt: HostRuntime) {
     let alloc = rt.alloc();
     let parts = ["20000000140002000700000000000000", LISTENING, "ffff"];
     let text = "NetlinkHeader { length: 32, message_type: 20, flags: 2, sequence_number: 7, \
         port_number: 0 }";
-    is_finalized(&rt, alloc, &parts, text);
+    assert_finalized(&rt, alloc, &parts, text);
     let parts = [
         "4b000000140002000700000000000000",
         LISTENING,
@@ -362,7 +385,7 @@ fn parsed_messages_are_finalized(rt: HostRuntime) {
     ];
     let text = "NetlinkHeader { length: 76, message_type: 20, flags: 2, sequence_number: 7, \
         port_number: 0 }";
-    is_finalized(&rt, alloc, &parts, text);
+    assert_finalized(&rt, alloc, &parts, text);
 }
 
 #[test]
@@ -374,12 +397,12 @@ fn a_borrowed_message(rt: HostRuntime) {
     );
     let text = "Ok(MessageView { header: NetlinkHeader { length: 20, message_type: 3, flags: 2, \
         sequence_number: 7, port_number: 0 }, payload: Done([0, 0, 0, 0]) })";
-    shows(&rt, rt.alloc(), &MessageView::parse(&end), text);
+    assert_debug(&rt, rt.alloc(), &MessageView::parse(&end), text);
 }
 
-/// A reply as the payload of a `SockDiagDestroy`: accepted under type 20, rejected under 21
-/// (`SOCK_DESTROY`). Then a request for IPv4 sockets under 21, rejected. The text after the bytes
-/// is part of the `Debug` output.
+/// Rows of [`assert_message_rows`]: a reply as the payload of a `SockDiagDestroy`, accepted under
+/// type 20 and rejected under 21 (`SOCK_DESTROY`); and a request for IPv4 sockets under 21,
+/// rejected.
 const DESTROY_MESSAGES: &str =
     "4c00000014000000000000000000000001010a000e4f0000a0020000000000001800\
 00002f746d702f2e4943452d756e69782f31313531000c00040000000000800000000500060000000000 payload: \
@@ -393,16 +416,16 @@ message_type: 21 })
 4800000015000103000000000000000002060000fe0f000000000000000000000000000000000000000000000000000000\
 0000000000000000000000000000000000000000000000 Err(UnknownMessageType { message_type: 21 })";
 
-// The message type is checked before the family.
+// The message type is checked before the family, which is unknown here (3).
 #[test]
 fn a_message_under_another_type(rt: HostRuntime) {
     let read = SockDiagMessage::parse_with_param(rt.alloc(), b"\x03\0", SOCK_DESTROY);
     let text = "Err(UnknownMessageType { message_type: 21 })";
-    shows(&rt, rt.alloc(), &read, text);
+    assert_debug(&rt, rt.alloc(), &read, text);
 }
 
 #[test]
 fn envelopes(rt: HostRuntime) {
-    check_messages::<SockDiagMessage>(&rt, rt.alloc(), ENVELOPES);
-    check_messages::<SockDiagDestroy>(&rt, rt.alloc(), DESTROY_MESSAGES);
+    assert_message_rows::<SockDiagMessage>(&rt, rt.alloc(), ENVELOPES);
+    assert_message_rows::<SockDiagDestroy>(&rt, rt.alloc(), DESTROY_MESSAGES);
 }

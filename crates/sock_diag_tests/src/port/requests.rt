@@ -1,6 +1,6 @@
 //! How requests are built, printed and serialized.
 
-use super::{ZEROS, bytes, same, shows};
+use super::{ZEROS, assert_bytes, assert_debug, bytes};
 use bitflags::Flags;
 use netlink_core::{
     NLM_F_DUMP, NLM_F_REQUEST, NetlinkHeader, NetlinkMessage, NetlinkPayload, NetlinkSerializable,
@@ -14,9 +14,10 @@ use std::alloc::Global;
 use std::net::{IpAddr, Ipv6Addr};
 use std::process::Abort;
 
-/// Asserts that a message with this payload, with the flags of a dump request, serializes to these
-/// bytes after `finalize`, and that the bytes after it in the buffer are unchanged.
-fn is_sent<I: NetlinkSerializable + Drop>(
+/// Asserts that a message with this payload and the flags of a dump request serializes to the bytes
+/// in `parts` after `finalize`, and that the two bytes of the buffer after them are unchanged
+/// (0xee).
+fn assert_sent<I: NetlinkSerializable + Drop>(
     rt: &impl Abort,
     alloc: Global,
     payload: NetlinkPayload<I>,
@@ -27,10 +28,11 @@ fn is_sent<I: NetlinkSerializable + Drop>(
     expected
         .extend_from_slice(&[0xee, 0xee])
         .expect(rt, "memory");
-    same(rt, &sent, &expected);
+    assert_bytes(rt, &sent, &expected);
 }
 
-/// Returns the bytes of this message, written over other bytes, and two more of these.
+/// Returns the bytes of a message with this payload, serialized to the start of a buffer, and the
+/// two bytes of the buffer after them.
 fn sent_bytes<I: NetlinkSerializable + Drop>(
     rt: &impl Abort,
     alloc: Global,
@@ -47,12 +49,13 @@ fn sent_bytes<I: NetlinkSerializable + Drop>(
     buffer
 }
 
-/// Asserts the same of a request.
-fn sends(rt: &impl Abort, alloc: Global, request: SockDiagMessage, parts: &[&str]) {
-    is_sent(rt, alloc, request.into(), parts);
+/// Checks a request by [`assert_sent`].
+fn assert_request_sent(rt: &impl Abort, alloc: Global, request: SockDiagMessage, parts: &[&str]) {
+    assert_sent(rt, alloc, request.into(), parts);
 }
 
-// The requests of each family use the flags that its module re-exports.
+// The requests of each family use the flags that its module re-exports. The state flag `LISTEN` is
+// 0x400.
 #[test]
 fn a_unix_request(rt: HostRuntime) {
     let alloc = rt.alloc();
@@ -64,9 +67,9 @@ fn a_unix_request(rt: HostRuntime) {
     });
     let text = "Ok(UnixRequest(UnixRequest { state_flags: StateFlags(1024), inode: 4660, \
         show_flags: ShowFlags(4), cookie: [255, 255, 255, 255, 255, 255, 255, 255] }))";
-    shows(&rt, alloc, &request.clone(alloc), text);
-    let wanted = "2800000014000103000000000000000001000000000400003412000004000000ffffffffffffffff";
-    sends(&rt, alloc, request, &[wanted]);
+    assert_debug(&rt, alloc, &request.clone(alloc), text);
+    let sent = "2800000014000103000000000000000001000000000400003412000004000000ffffffffffffffff";
+    assert_request_sent(&rt, alloc, request, &[sent]);
 }
 
 #[test]
@@ -84,11 +87,11 @@ fn an_inet_request_and_one_to_close(rt: HostRuntime) {
         extensions: ExtensionFlags(0), states: StateFlags(4094), socket_id: SocketId { \
         source_port: 0, destination_port: 0, source_address: 0.0.0.0, \
         destination_address: 0.0.0.0, interface_id: 0, cookie: [0, 0, 0, 0, 0, 0, 0, 0] } })))";
-    shows(&rt, alloc, &destroy.clone(alloc), text);
+    assert_debug(&rt, alloc, &destroy.clone(alloc), text);
     let front = "4800000014000103000000000000000002060000fe0f0000";
-    sends(&rt, alloc, request, &[front, ZEROS, ZEROS, ZEROS]);
+    assert_request_sent(&rt, alloc, request, &[front, ZEROS, ZEROS, ZEROS]);
     let front = "4800000015000103000000000000000002060000fe0f0000";
-    is_sent(&rt, alloc, destroy.into(), &[front, ZEROS, ZEROS, ZEROS]);
+    assert_sent(&rt, alloc, destroy.into(), &[front, ZEROS, ZEROS, ZEROS]);
 }
 
 // A value that no parser returns: an `InetRequest` with the family `AF_UNIX`, in whose address is
@@ -104,5 +107,5 @@ fn a_request_that_reads_as_a_reply(rt: HostRuntime) {
     request.socket_id.destination_address = IpAddr::V6(Ipv6Addr::UNSPECIFIED);
     let front = "4800000014000103000000000000000001010a0000000000000000000000000028000700";
     let parts = [front, ZEROS, ZEROS, "00000000"];
-    sends(&rt, alloc, SockDiagMessage::InetRequest(request), &parts);
+    assert_request_sent(&rt, alloc, SockDiagMessage::InetRequest(request), &parts);
 }

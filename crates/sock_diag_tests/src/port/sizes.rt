@@ -2,7 +2,7 @@
 
 use super::attribute_sizes::SIZES;
 use super::parsers::{Subject, parse_all};
-use super::{CONNECTED, INET, LISTENING, bytes, message_code, shows};
+use super::{CONNECTED, INET, LISTENING, assert_debug, bytes, message_code};
 use netlink_core::{
     CanonError, NLMSG_DONE, NLMSG_ERROR, NLMSG_OVERRUN, NetlinkMessage, NetlinkPayload,
 };
@@ -12,17 +12,17 @@ use netlink_packet_sock_diag::{
 use std::alloc::Global;
 use std::process::Abort;
 
-/// Numbers of attributes and of messages above 300. Tests also have each number up to 300.
+/// Numbers of attributes and of messages above 300. Tests also use each number up to 300.
 const COUNTS: [usize; 7] = [512, 1_000, 1_024, 2_048, 4_096, 8_192, 10_000];
 
 /// Asserts that all parsers accept the bytes, and that the bytes have a canonical form.
-fn accepts(rt: &impl Abort, alloc: Global, subject: Subject, bytes: &[u8]) {
+fn assert_accepted(rt: &impl Abort, alloc: Global, subject: Subject, bytes: &[u8]) {
     let report = parse_all(rt, alloc, subject, bytes, None, false);
     assert!(rt; report.error.is_none() && report.form.is_ok());
 }
 
-/// Returns a netlink message of a type.
-fn envelope(rt: &impl Abort, alloc: Global, message_type: u16, payload: &[u8]) -> Vec<u8> {
+/// Returns a netlink message with this type and this payload. Its other header fields are 0.
+fn netlink_message(rt: &impl Abort, alloc: Global, message_type: u16, payload: &[u8]) -> Vec<u8> {
     let length = u32::try_from(payload.len().saturating_add(16)).unwrap_or(0);
     let [a, b, c, d] = length.to_le_bytes();
     let [low, high] = message_type.to_le_bytes();
@@ -32,8 +32,8 @@ fn envelope(rt: &impl Abort, alloc: Global, message_type: u16, payload: &[u8]) -
     message
 }
 
-/// Asserts that a complete message is parsed.
-fn opens(rt: &impl Abort, alloc: Global, message: &[u8]) {
+/// Asserts that the netlink message is parsed, with each of the two types of inner messages.
+fn assert_message_parses(rt: &impl Abort, alloc: Global, message: &[u8]) {
     assert!(rt; message_code::<SockDiagMessage>(alloc, message) == 0);
     assert!(rt; message_code::<SockDiagDestroy>(alloc, message) == 0);
 }
@@ -50,9 +50,9 @@ fn repeated(
     bytes(rt, alloc, &[header, &attributes])
 }
 
-/// Asserts that a reply with this number of attributes is parsed, by itself and in a netlink
-/// message.
-fn reply_is_parsed(
+/// Asserts that a reply with this number of equal attributes is parsed: by itself, as a message,
+/// and in a netlink message.
+fn assert_reply_parses(
     rt: &impl Abort,
     alloc: Global,
     subject: Subject,
@@ -61,13 +61,18 @@ fn reply_is_parsed(
     count: usize,
 ) {
     let reply = repeated(rt, alloc, header, attribute, count);
-    accepts(rt, alloc, subject, &reply);
-    accepts(rt, alloc, Subject::Message, &reply);
-    opens(rt, alloc, &envelope(rt, alloc, SOCK_DIAG_BY_FAMILY, &reply));
+    assert_accepted(rt, alloc, subject, &reply);
+    assert_accepted(rt, alloc, Subject::Message, &reply);
+    assert_message_parses(
+        rt,
+        alloc,
+        &netlink_message(rt, alloc, SOCK_DIAG_BY_FAMILY, &reply),
+    );
 }
 
-/// Asserts that a reply with each number of attributes is parsed.
-fn replies_are_parsed(
+/// Asserts that a reply of this header and of equal attributes is parsed, for each number of
+/// attributes up to 300 and in [`COUNTS`].
+fn assert_replies_parse(
     rt: &impl Abort,
     alloc: Global,
     subject: Subject,
@@ -75,10 +80,10 @@ fn replies_are_parsed(
     attribute: &str,
 ) {
     for count in 0..301 {
-        reply_is_parsed(rt, alloc, subject, header, attribute, count);
+        assert_reply_parses(rt, alloc, subject, header, attribute, count);
     }
     for &count in &COUNTS {
-        reply_is_parsed(rt, alloc, subject, header, attribute, count);
+        assert_reply_parses(rt, alloc, subject, header, attribute, count);
     }
 }
 
@@ -88,56 +93,73 @@ const LARGE: [usize; 5] = [16_384, 32_768, 65_536, 100_000, 131_072];
 /// Checks lists of up to 131,072 attributes.
 #[test]
 fn long_lists(rt: HostRuntime) {
+    // `UNIX_DIAG_SHUTDOWN` (6) and `INET_DIAG_SHUTDOWN` (8) with the value 2.
     let (unix, inet) = ("0500060002000000", "0500080002000000");
     for &count in &LARGE {
-        reply_is_parsed(&rt, rt.alloc(), Subject::UnixReply, CONNECTED, unix, count);
-        reply_is_parsed(&rt, rt.alloc(), Subject::InetReply, INET, inet, count);
+        assert_reply_parses(&rt, rt.alloc(), Subject::UnixReply, CONNECTED, unix, count);
+        assert_reply_parses(&rt, rt.alloc(), Subject::InetReply, INET, inet, count);
     }
 }
 
+/// Checks attributes whose values need no allocation (`.._DIAG_SHUTDOWN`), and others that do:
+/// names of one letter.
 #[test]
 fn lists_of_attributes(rt: HostRuntime) {
     let alloc = rt.alloc();
-    replies_are_parsed(
+    assert_replies_parse(
         &rt,
         alloc,
         Subject::UnixReply,
         CONNECTED,
         "0500060002000000",
     );
-    replies_are_parsed(
+    assert_replies_parse(
         &rt,
         alloc,
         Subject::UnixReply,
         CONNECTED,
         "0600000061000000",
     );
-    replies_are_parsed(&rt, alloc, Subject::InetReply, INET, "0500080002000000");
-    replies_are_parsed(&rt, alloc, Subject::InetReply, INET, "0600040061000000");
+    assert_replies_parse(&rt, alloc, Subject::InetReply, INET, "0500080002000000");
+    assert_replies_parse(&rt, alloc, Subject::InetReply, INET, "0600040061000000");
 }
 
 /// Asserts that a payload of this size is parsed, under each type of netlink(7) whose payload is
 /// kept as bytes.
-fn payload_is_parsed(rt: &impl Abort, alloc: Global, size: usize) {
+fn assert_payload_parses(rt: &impl Abort, alloc: Global, size: usize) {
     let payload = vec![in alloc; 7; size].expect(rt, "memory");
-    opens(rt, alloc, &envelope(rt, alloc, NLMSG_ERROR, &payload));
-    opens(rt, alloc, &envelope(rt, alloc, NLMSG_DONE, &payload));
-    opens(rt, alloc, &envelope(rt, alloc, NLMSG_OVERRUN, &payload));
+    assert_message_parses(
+        rt,
+        alloc,
+        &netlink_message(rt, alloc, NLMSG_ERROR, &payload),
+    );
+    assert_message_parses(rt, alloc, &netlink_message(rt, alloc, NLMSG_DONE, &payload));
+    assert_message_parses(
+        rt,
+        alloc,
+        &netlink_message(rt, alloc, NLMSG_OVERRUN, &payload),
+    );
 }
 
 #[test]
 fn payloads(rt: HostRuntime) {
     for size in 0..301 {
-        payload_is_parsed(&rt, rt.alloc(), size);
+        assert_payload_parses(&rt, rt.alloc(), size);
     }
     for &size in &SIZES {
-        payload_is_parsed(&rt, rt.alloc(), size);
+        assert_payload_parses(&rt, rt.alloc(), size);
     }
 }
 
-/// Feeds a datagram without the end of a dump so many times to both readers of dumps. Asserts that
-/// both keep `count` messages.
-pub(super) fn keeps(rt: &impl Abort, alloc: Global, datagram: &[u8], times: usize, count: usize) {
+/// Feeds the datagram, which does not end a dump, `times` times to both readers of dumps. Asserts
+/// that each of them keeps `count` messages.
+pub(super) fn assert_dump_keeps(
+    rt: &impl Abort,
+    alloc: Global,
+    datagram: &[u8],
+    times: usize,
+    count: usize,
+) {
     let mut reader = DumpReader::new(alloc);
     let mut lossy = LossyDump::new(alloc);
     for _ in 0..times {
@@ -148,14 +170,14 @@ pub(super) fn keeps(rt: &impl Abort, alloc: Global, datagram: &[u8], times: usiz
 }
 
 /// Checks a dump of one datagram with this number of messages.
-fn is_kept_as_one(rt: &impl Abort, alloc: Global, message: &[u8], count: usize) {
+fn assert_datagram_kept(rt: &impl Abort, alloc: Global, message: &[u8], count: usize) {
     let datagram = message.repeat(alloc, count).expect(rt, "memory");
-    keeps(rt, alloc, &datagram, 1, count);
+    assert_dump_keeps(rt, alloc, &datagram, 1, count);
 }
 
 /// Returns a message with a reply that has no attributes.
 fn short_message(rt: &impl Abort, alloc: Global) -> Vec<u8> {
-    envelope(
+    netlink_message(
         rt,
         alloc,
         SOCK_DIAG_BY_FAMILY,
@@ -168,47 +190,48 @@ fn short_message(rt: &impl Abort, alloc: Global) -> Vec<u8> {
 fn dumps_of_one_datagram(rt: HostRuntime) {
     let message = short_message(&rt, rt.alloc());
     for count in 0..301 {
-        is_kept_as_one(&rt, rt.alloc(), &message, count);
+        assert_datagram_kept(&rt, rt.alloc(), &message, count);
     }
     for &count in &COUNTS {
-        is_kept_as_one(&rt, rt.alloc(), &message, count);
+        assert_datagram_kept(&rt, rt.alloc(), &message, count);
     }
 }
 
-/// Asserts that the request to close the socket of a message has an equal clone.
-fn is_copied(rt: &impl Abort, alloc: Global, message: &[u8]) {
+/// Asserts that the reply in the message, parsed as a `SockDiagDestroy`, has an equal clone.
+fn assert_clone_is_equal(rt: &impl Abort, alloc: Global, message: &[u8]) {
     let closing = NetlinkMessage::<SockDiagDestroy>::deserialize(alloc, message);
     match &closing.expect(rt, "refused").payload {
         NetlinkPayload::InnerMessage(destroy) => {
             let copy = destroy.clone(alloc).expect(rt, "memory");
             assert!(rt; copy == *destroy);
         }
-        _ => panic!(rt; "no reply"),
+        _ => panic!(rt; "no inner message"),
     }
 }
 
-/// Checks a dump of one reply with this number of attributes, and a clone of its request to close.
-fn is_kept(rt: &impl Abort, alloc: Global, header: &str, attribute: &str, count: usize) {
+/// Checks a dump of one reply with this number of attributes, and a clone of the reply as a
+/// `SockDiagDestroy`.
+fn assert_reply_kept(rt: &impl Abort, alloc: Global, header: &str, attribute: &str, count: usize) {
     let reply = repeated(rt, alloc, header, attribute, count);
-    let message = envelope(rt, alloc, SOCK_DIAG_BY_FAMILY, &reply);
-    keeps(rt, alloc, &message, 1, 1);
-    is_copied(rt, alloc, &message);
+    let message = netlink_message(rt, alloc, SOCK_DIAG_BY_FAMILY, &reply);
+    assert_dump_keeps(rt, alloc, &message, 1, 1);
+    assert_clone_is_equal(rt, alloc, &message);
 }
 
 /// Checks a dump of one reply of each family with this number of attributes.
-fn are_kept(rt: &impl Abort, alloc: Global, count: usize) {
-    is_kept(rt, alloc, CONNECTED, "0500060002000000", count);
-    is_kept(rt, alloc, INET, "0500080002000000", count);
+fn assert_replies_kept(rt: &impl Abort, alloc: Global, count: usize) {
+    assert_reply_kept(rt, alloc, CONNECTED, "0500060002000000", count);
+    assert_reply_kept(rt, alloc, INET, "0500080002000000", count);
 }
 
 /// Checks a dump of one reply with each number of attributes.
 #[test]
 fn dumps_of_one_message(rt: HostRuntime) {
     for count in 0..301 {
-        are_kept(&rt, rt.alloc(), count);
+        assert_replies_kept(&rt, rt.alloc(), count);
     }
     for &count in &COUNTS {
-        are_kept(&rt, rt.alloc(), count);
+        assert_replies_kept(&rt, rt.alloc(), count);
     }
 }
 
@@ -216,11 +239,12 @@ fn dumps_of_one_message(rt: HostRuntime) {
 #[test]
 fn dumps_of_many_datagrams(rt: HostRuntime) {
     let message = short_message(&rt, rt.alloc());
-    keeps(&rt, rt.alloc(), &message, 100_000, 100_000);
+    assert_dump_keeps(&rt, rt.alloc(), &message, 100_000, 100_000);
 }
 
-/// A header, the first four bytes of an attribute, a byte, how often the byte is repeated, and the
-/// digits that follow; and the length of the canonical form, or why there is none.
+/// A row has a header, the first four bytes of an attribute, a byte, how often this byte is
+/// repeated, and the digits that follow. Last is the length of the canonical form, or why there is
+/// none, as `Debug` prints it. Headers and attributes are in hexadecimal.
 type Long = (
     &'static str,
     &'static str,
@@ -230,12 +254,18 @@ type Long = (
     &'static str,
 );
 
+/// Replies with one long attribute.
 const LONG: [Long; 8] = [
+    // An unknown type.
     (LISTENING, "ffff0700", 1, 65_531, "", "Ok(65552)"),
+    // Texts (`INET_DIAG_CONG`): too long for a NUL; with a NUL; with a NUL, padding and an
+    // attribute; and without a NUL, which the serializer appends.
     (INET, "ffff0400", 97, 65_531, "", "Err(Unwritable)"),
     (INET, "ffff0400", 97, 65_530, "00", "Ok(65608)"),
     (INET, "ffff0400", 97, 65_530, "00000500080000", "Ok(65616)"),
     (INET, "feff0400", 97, 65_530, "", "Ok(65608)"),
+    // `INET_DIAG_INFO` with a byte after its record of 232 bytes, before padding and an attribute,
+    // and at the end; and with a record that is too short.
     (INET, "ed000200", 0, 233, "aaaaaa0500084002", "Ok(316)"),
     (INET, "ed000200", 0, 233, "", "Ok(308)"),
     (
@@ -248,7 +278,7 @@ const LONG: [Long; 8] = [
     ),
 ];
 
-/// Returns the length of the canonical form of the message, or why there is none.
+/// Returns the length of the canonical form of the bytes as a message, or why there is none.
 fn written_len(rt: &impl Abort, alloc: Global, bytes: &[u8]) -> Result<usize, CanonError> {
     match &parse_all(rt, alloc, Subject::Message, bytes, None, false).form {
         Ok(form) => Ok(form.len()),
@@ -257,17 +287,17 @@ fn written_len(rt: &impl Abort, alloc: Global, bytes: &[u8]) -> Result<usize, Ca
 }
 
 /// Returns the bytes of these digits, followed by `count` equal bytes.
-fn padded(rt: &impl Abort, alloc: Global, digits: &[&str], byte: u8, count: usize) -> Vec<u8> {
+fn followed_by(rt: &impl Abort, alloc: Global, digits: &[&str], byte: u8, count: usize) -> Vec<u8> {
     let mut padded = bytes(rt, alloc, digits);
     let len = padded.len().saturating_add(count);
     padded.resize(len, byte).expect(rt, "memory");
     padded
 }
 
-/// Returns the bytes of a row.
+/// Returns the bytes of the reply in a row.
 fn long_reply(rt: &impl Abort, alloc: Global, row: &Long) -> Vec<u8> {
     let (header, head, byte, count, back, _) = *row;
-    let mut reply = padded(rt, alloc, &[header, head], byte, count);
+    let mut reply = followed_by(rt, alloc, &[header, head], byte, count);
     let back = bytes(rt, alloc, &[back]);
     reply.extend_from_slice(&back).expect(rt, "memory");
     reply
@@ -278,6 +308,6 @@ fn long_attributes(rt: HostRuntime) {
     for row in &LONG {
         let reply = long_reply(&rt, rt.alloc(), row);
         let len = written_len(&rt, rt.alloc(), &reply);
-        shows(&rt, rt.alloc(), &len, row.5);
+        assert_debug(&rt, rt.alloc(), &len, row.5);
     }
 }

@@ -1,7 +1,9 @@
 //! Borrowed replies, the messages of a datagram, and the states of dumps.
 
-use super::sizes::keeps;
-use super::{INET, PATH, SHUTDOWN, bytes, gives, same, shows, shows_part};
+use super::sizes::assert_dump_keeps;
+use super::{
+    INET, PATH, SHUTDOWN, assert_bytes, assert_debug, assert_debug_contains, assert_items, bytes,
+};
 use netlink_core::{DecodeError, Emitable, write_new};
 use netlink_packet_sock_diag::inet::InetResponseView;
 use netlink_packet_sock_diag::unix::UnixResponseView;
@@ -12,22 +14,23 @@ use std::alloc::Global;
 use std::process::Abort;
 
 /// Asserts that the value serializes to these bytes.
-fn writes<T: Emitable>(rt: &impl Abort, alloc: Global, value: &T, parts: &[&str]) {
+fn assert_emits<T: Emitable>(rt: &impl Abort, alloc: Global, value: &T, parts: &[&str]) {
     let written = write_new(alloc, value).expect(rt, "unwritable");
-    same(rt, &written, &bytes(rt, alloc, parts));
+    assert_bytes(rt, &written, &bytes(rt, alloc, parts));
 }
 
 /// Asserts that `part` occurs in what `Debug` prints for the borrowed reply as a message, and that
 /// the message serializes to these bytes.
-fn message_writes(rt: &impl Abort, alloc: Global, reply: &[u8], part: &str, parts: &[&str]) {
+fn assert_message_emits(rt: &impl Abort, alloc: Global, reply: &[u8], part: &str, parts: &[&str]) {
     let message = SockDiagView::parse(reply, SOCK_DIAG_BY_FAMILY).expect(rt, "refused");
-    shows_part(rt, alloc, &message, part);
-    writes(rt, alloc, &message, parts);
+    assert_debug_contains(rt, alloc, &message, part);
+    assert_emits(rt, alloc, &message, parts);
 }
 
 #[test]
 fn a_borrowed_unix_reply(rt: HostRuntime) {
     let alloc = rt.alloc();
+    // With the inodes 5 and 6 of two pending connections.
     let parts = [PATH, "0c0003000500000006000000"];
     let reply = bytes(&rt, alloc, &parts);
     let view = UnixResponseView::parse(&reply).expect(&rt, "refused");
@@ -35,39 +38,41 @@ fn a_borrowed_unix_reply(rt: HostRuntime) {
         120, 47, 49, 49, 53, 49])), ReceiveQueueLength(0, 128), Shutdown(0), \
         PendingConnections(NumbersView { bytes: [5, 0, 0, 0, 6, 0, 0, 0] })]";
     let attributes = view.attributes().clone().expect(&rt, "memory");
-    gives(&rt, alloc, attributes, answers);
-    writes(&rt, alloc, &view, &parts);
+    assert_items(&rt, alloc, attributes, answers);
+    assert_emits(&rt, alloc, &view, &parts);
     let text = "UnixResponse(UnixResponseView { bytes: [1, 1, 10, 0, ";
-    message_writes(&rt, alloc, &reply, text, &parts);
+    assert_message_emits(&rt, alloc, &reply, text, &parts);
 }
 
 #[test]
 fn a_borrowed_inet_reply(rt: HostRuntime) {
     let alloc = rt.alloc();
+    // The text `cubic` without its NUL, which the serializer appends.
     let reply = bytes(&rt, alloc, &[INET, "090004006375626963000000", SHUTDOWN]);
     let view = InetResponseView::parse(&reply).expect(&rt, "refused");
     let answers = "[Congestion(\"cubic\"), Shutdown(0)]";
     let attributes = view.attributes().clone().expect(&rt, "memory");
-    gives(&rt, alloc, attributes, answers);
+    assert_items(&rt, alloc, attributes, answers);
     let parts = [INET, "0a0004006375626963000000", SHUTDOWN];
-    writes(&rt, alloc, &view, &parts);
+    assert_emits(&rt, alloc, &view, &parts);
     let text = "InetResponse(InetResponseView { bytes: [2, 1, 2, 0, 235, 20, 1, 187, 192, ";
-    message_writes(&rt, alloc, &reply, text, &parts);
+    assert_message_emits(&rt, alloc, &reply, text, &parts);
 }
 
-// The error of an attribute is the last item.
+// The error of an attribute, here a peer of 1 byte, is the last item.
 #[test]
 fn attributes_are_checked_as_they_are_given(rt: HostRuntime) {
     let alloc = rt.alloc();
     let reply = bytes(&rt, alloc, &[PATH, "0500020001000000", SHUTDOWN]);
     let (header, nlas) = UnixResponseView::walk(&reply).expect(&rt, "refused");
-    shows_part(&rt, alloc, &header, "state: 10");
+    assert_debug_contains(&rt, alloc, &header, "state: 10");
     let answers = "[Ok(Name(Pathname([47, 116, 109, 112, 47, 46, 73, 67, 69, 45, 117, 110, 105, \
         120, 47, 49, 49, 53, 49]))), Ok(ReceiveQueueLength(0, 128)), Ok(Shutdown(0)), \
         Err(WrongLength { kind: Some(2), got: 1, need: 4 })]";
-    gives(&rt, alloc, nlas, answers);
+    assert_items(&rt, alloc, nlas, answers);
 }
 
+// The framing error of the last two bytes is the last item.
 #[test]
 fn inet_attributes_are_checked_as_they_are_given(rt: HostRuntime) {
     let alloc = rt.alloc();
@@ -76,11 +81,13 @@ fn inet_attributes_are_checked_as_they_are_given(rt: HostRuntime) {
     let (_, nlas) = InetResponseView::walk(&reply).expect(&rt, "refused");
     let answers = "[Ok(Congestion(\"cubic\")), Ok(Shutdown(0)), \
         Err(AttributeHeaderCut { left: 2 })]";
-    gives(&rt, alloc, nlas, answers);
+    assert_items(&rt, alloc, nlas, answers);
 }
 
-/// Returns the digits of a message by its name. The message `odd` has 37 bytes. Any other name
-/// consists of digits, and is returned.
+/// Returns the digits of the message with this name. Any other name consists of digits, and is
+/// returned. The message `unknown` has the type 21, `error` and `lost` have the number 0xee, and
+/// `interrupted` has the flag `NLM_F_DUMP_INTR`. The message `odd` has 37 bytes, which is not a
+/// multiple of 4.
 fn digits(name: &str) -> &str {
     match name {
         "noop" => "10000000010000000000000000000000",
@@ -104,7 +111,10 @@ fn datagram(rt: &impl Abort, alloc: Global, names: &str) -> Vec<u8> {
     bytes(rt, alloc, &[text.as_str()])
 }
 
-/// In each row: datagrams, and what a `DumpReader` reports after the last one, as in `Told`.
+/// A row has datagrams, `: `, and what a `DumpReader` reports after the last one, as in
+/// `DumpReport`. Datagrams are separated by spaces. Each has the names of its messages, as for
+/// `datagram`. In the last row `reply` follows `odd` without the 3 bytes of padding, so that the
+/// next message starts at its fourth byte: its length field has the bytes 00 14 00 02.
 const DUMPS: &str = ": (Ok(()), Reading, None, 0)
 reply: (Ok(()), Reading, None, 1)
 reply done: (Ok(()), Done, Some(0), 1)
@@ -126,26 +136,27 @@ odd+reply: (Err(Fault(EnvelopeLengthPast { length: 33559552, got: 29 })), Failed
 
 /// The result of the last `feed`, the state, the error number, and the number of messages of a
 /// `DumpReader`.
-type Told = (Result<(), DumpError>, DumpState, Option<i32>, usize);
+type DumpReport = (Result<(), DumpError>, DumpState, Option<i32>, usize);
 
-/// Feeds one more reply to a dump that has ended. Asserts that this returns an error, and changes
-/// nothing that the dump reports.
-fn stays(rt: &impl Abort, alloc: Global, reader: &mut DumpReader) {
-    let before = reported(rt, alloc, reader);
+/// Feeds one more reply, with the flag `NLM_F_DUMP_INTR`, to a dump that has ended. Asserts that
+/// this returns an error, and changes nothing that the dump reports.
+fn assert_ended_dump_unchanged(rt: &impl Abort, alloc: Global, reader: &mut DumpReader) {
+    let before = report_text(rt, alloc, reader);
     let fed = reader.feed(&datagram(rt, alloc, "interrupted"));
     assert!(rt; fed == Err(DumpError::Ended));
-    assert!(rt; reported(rt, alloc, reader) == before);
+    assert!(rt; report_text(rt, alloc, reader) == before);
 }
 
 /// Returns what `Debug` prints for all that a dump reports.
-fn reported(rt: &impl Abort, alloc: Global, reader: &DumpReader) -> String {
+fn report_text(rt: &impl Abort, alloc: Global, reader: &DumpReader) -> String {
     let (state, number) = (reader.state(), reader.error_number());
     let reported = (state, number, reader.is_interrupted(), reader.messages());
     format!(in alloc; "{reported:?}").expect(rt, "memory")
 }
 
-/// Feeds the datagrams to a `DumpReader`. If the dump has ended, one more reply changes nothing.
-fn fed(rt: &impl Abort, alloc: Global, datagrams: &str) -> Told {
+/// Feeds the datagrams of a row to a `DumpReader`, and returns its report. If the dump has ended,
+/// asserts that one more reply changes nothing.
+fn report_of_dump(rt: &impl Abort, alloc: Global, datagrams: &str) -> DumpReport {
     let mut reader = DumpReader::new(alloc);
     let mut answer = Ok(());
     for names in datagrams.split(' ') {
@@ -153,7 +164,7 @@ fn fed(rt: &impl Abort, alloc: Global, datagrams: &str) -> Told {
     }
     let (state, number) = (reader.state(), reader.error_number());
     if state != DumpState::Reading {
-        stays(rt, alloc, &mut reader);
+        assert_ended_dump_unchanged(rt, alloc, &mut reader);
     }
     (answer, state, number, reader.into_messages().len())
 }
@@ -161,13 +172,20 @@ fn fed(rt: &impl Abort, alloc: Global, datagrams: &str) -> Told {
 #[test]
 fn dumps_are_read(rt: HostRuntime) {
     for row in DUMPS.lines() {
+        // The first row has no datagram: one without bytes is fed.
         let (datagrams, text) = row.split_once(": ").expect(&rt, "no text");
-        shows(&rt, rt.alloc(), &fed(&rt, rt.alloc(), datagrams), text);
+        assert_debug(
+            &rt,
+            rt.alloc(),
+            &report_of_dump(&rt, rt.alloc(), datagrams),
+            text,
+        );
     }
 }
 
-/// In each row: datagrams, and what a `LossyDump` reports after the last one: the result of the
-/// last `feed`, the state, the error number, and the error of each entry, or `None`.
+/// A row has datagrams as in `DUMPS`, `: `, and what a `LossyDump` reports after the last one: the
+/// result of the last `feed`, the state, the error number, and a list with the error of each entry,
+/// or `None`. The digits are a reply of family 17.
 const LOSSY_DUMPS: &str = "reply unknown+reply: (Ok(()), Reading, None, [None, \
 Some(UnknownMessageType { message_type: 21 }), None])
 2000000014000200070000000000000011010a000e4f0000a002000000000000 noop+reply+done: (Ok(()), Done, \
@@ -178,32 +196,33 @@ unknown+reply+00: (Err(Fault(EnvelopeCut { got: 1 })), Failed, None, \
 [Some(UnknownMessageType { message_type: 21 }), None])";
 
 /// Returns the error of each entry, if it has one.
-fn faults(rt: &impl Abort, alloc: Global, dump: LossyDump) -> Vec<Option<DecodeError>> {
-    let mut faults = Vec::new(alloc);
+fn entry_errors(rt: &impl Abort, alloc: Global, dump: LossyDump) -> Vec<Option<DecodeError>> {
+    let mut errors = Vec::new(alloc);
     for entry in dump.into_entries() {
-        faults.push(entry.err()).expect(rt, "memory");
+        errors.push(entry.err()).expect(rt, "memory");
     }
-    faults
+    errors
 }
 
-/// Feeds one more reply to a dump that has ended. Asserts that this returns an error, and changes
-/// nothing that the dump reports.
-fn lossy_stays(rt: &impl Abort, alloc: Global, dump: &mut LossyDump) {
-    let before = lossy_reported(rt, alloc, dump);
+/// Feeds one more reply, with the flag `NLM_F_DUMP_INTR`, to a dump that has ended. Asserts that
+/// this returns an error, and changes nothing that the dump reports.
+fn assert_ended_lossy_dump_unchanged(rt: &impl Abort, alloc: Global, dump: &mut LossyDump) {
+    let before = lossy_report_text(rt, alloc, dump);
     let fed = dump.feed(&datagram(rt, alloc, "interrupted"));
     assert!(rt; fed == Err(DumpError::Ended));
-    assert!(rt; lossy_reported(rt, alloc, dump) == before);
+    assert!(rt; lossy_report_text(rt, alloc, dump) == before);
 }
 
 /// Returns what `Debug` prints for all that a dump reports.
-fn lossy_reported(rt: &impl Abort, alloc: Global, dump: &LossyDump) -> String {
+fn lossy_report_text(rt: &impl Abort, alloc: Global, dump: &LossyDump) -> String {
     let (state, number) = (dump.state(), dump.error_number());
     let reported = (state, number, dump.is_interrupted(), dump.entries());
     format!(in alloc; "{reported:?}").expect(rt, "memory")
 }
 
 /// Feeds the datagrams to a `LossyDump`, and asserts that `Debug` prints its report as this text.
-fn lossy(rt: &impl Abort, alloc: Global, datagrams: &str, text: &str) {
+/// `datagrams` has the names of each datagram's messages, as for `datagram`, separated by spaces.
+fn assert_lossy_report(rt: &impl Abort, alloc: Global, datagrams: &str, text: &str) {
     let mut dump = LossyDump::new(alloc);
     let mut answer = Ok(());
     for names in datagrams.split(' ') {
@@ -211,12 +230,12 @@ fn lossy(rt: &impl Abort, alloc: Global, datagrams: &str, text: &str) {
     }
     let (state, number) = (dump.state(), dump.error_number());
     if state != DumpState::Reading {
-        lossy_stays(rt, alloc, &mut dump);
+        assert_ended_lossy_dump_unchanged(rt, alloc, &mut dump);
     }
-    shows(
+    assert_debug(
         rt,
         alloc,
-        &(answer, state, number, faults(rt, alloc, dump)),
+        &(answer, state, number, entry_errors(rt, alloc, dump)),
         text,
     );
 }
@@ -225,7 +244,7 @@ fn lossy(rt: &impl Abort, alloc: Global, datagrams: &str, text: &str) {
 fn lossy_dumps_continue_after_invalid_replies(rt: HostRuntime) {
     for row in LOSSY_DUMPS.lines() {
         let (datagrams, text) = row.split_once(": ").expect(&rt, "no text");
-        lossy(&rt, rt.alloc(), datagrams, text);
+        assert_lossy_report(&rt, rt.alloc(), datagrams, text);
     }
 }
 
@@ -235,10 +254,12 @@ fn a_long_dump_keeps_all(rt: HostRuntime) {
     let many = datagram(&rt, rt.alloc(), "reply")
         .repeat(rt.alloc(), 50_000)
         .expect(&rt, "memory");
-    keeps(&rt, rt.alloc(), &many, 2, 100_000);
+    assert_dump_keeps(&rt, rt.alloc(), &many, 2, 100_000);
 }
 
-/// In each row: a datagram, and the items that `DumpViews` yields.
+/// A row has a datagram as for `datagram`, `: `, and the list of items that `DumpViews` yields.
+/// Each item is a payload or an error. `NLMSG_DONE` does not end this iterator, a framing error
+/// does.
 const WALKS: &str = "reply: [Ok(InnerMessage(UnixResponse(UnixResponseView { bytes: [1, 1, 10, \
 0, 14, 79, 0, 0, 160, 2, 0, 0, 0, 0, 0, 0], count: 0 })))]
 noop+reply+done+reply: [Ok(Noop), Ok(InnerMessage(UnixResponse(UnixResponseView { bytes: [1, 1, \
@@ -265,6 +286,6 @@ fn datagrams_are_walked(rt: HostRuntime) {
         let (names, text) = row.split_once(": ").expect(&rt, "no text");
         let bytes = datagram(&rt, rt.alloc(), names);
         let views = DumpViews::new(&bytes).clone().expect(&rt, "memory");
-        gives(&rt, rt.alloc(), views, text);
+        assert_items(&rt, rt.alloc(), views, text);
     }
 }

@@ -2,7 +2,7 @@ use Rattle.std.proofs.Common.{◌≡◌, ◌↔◌, ℕ, Bool, Bor, IsTrue, List
 use Rattle.std.proofs.Common.{sym}
 use Rattle.std.specs.Option.{option_eq, option_map}
 use Rattle.sock_diag_attributes.specs.laws.EqualName.{names_equal}
-use Rattle.sock_diag_attributes.specs.laws.AttributeParts.{text_view_row}
+use Rattle.sock_diag_attributes.specs.laws.AttributeParts.{text_view_type}
 use Rattle.sock_diag_attributes.specs.NameModel.{socket_name_model}
 use Rattle.sock_diag_attributes.specs.declared.unix.name.SocketName.{SocketName}
 use Rattle.sock_diag_attributes.specs.declared.unix.name.SocketName.TheVariants.{Pathname}
@@ -30,6 +30,6 @@ names_path test equal (Some name) path =
 
 pub returns-clause-value : goal.returns-clause-value
 returns-clause-value c =
-    let equal = names_equal text_view_row _ (λ (b : Bor (List ℕ)). b.now) (λ _ _. refl) in
+    let equal = names_equal text_view_type _ (λ (b : Bor (List ℕ)). b.now) (λ _ _. refl) in
     let is_path = names_path _ equal c.name.result c.args.path in
     (_, c.in_ok-view.ensures.value, rw (c.eq.ensures, sym c.name.ensures) is_path)

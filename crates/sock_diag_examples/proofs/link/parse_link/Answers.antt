@@ -38,7 +38,7 @@ returns-in_err-attribute-clause-error c =
     let p = err_from_is_err_and c.from_residual.result c.from_residual.ensures.1 in
     let inv = c.loop-item.invariant in
     rw (p.1, p.2) (
-      c.if-payload-lt-HEADER.false,
+      c.if-payload-lt-IFINFOMSG_LEN.false,
       λ _. framing_error_of_all decodes_link _ _ inv.found _
           inv.walk stop.0 stop.1,
       λ memory. absurd (framing_error_is_not_memory _ _ stop.1 memory),
@@ -55,7 +55,7 @@ returns-in_err-parse_string-in-3-clause-error c =
     let p = err_from_is_err_and c.from_residual-in_err-parse_string-in-3.result
     c.from_residual-in_err-parse_string-in-3.ensures.1 in
     rw (p.1, p.2) (
-      c.if-payload-lt-HEADER.false,
+      c.if-payload-lt-IFINFOMSG_LEN.false,
       λ named. value_error_of_all decodes_link _ _ _ inv.found a _ inv.walk start
           (rejects_name a _ (sym c.kind.ensures ∙ c.in-3.is) (error named)),
       λ memory. inv.later (name_here _ _ a start (sym c.kind.ensures ∙ c.in-3.is) (wanted memory)),
@@ -105,7 +105,7 @@ returns-in_err-parse_u32-in-4-clause-error c =
     let p = err_from_is_err_and c.from_residual-in_err-parse_u32-in-4.result
     c.from_residual-in_err-parse_u32-in-4.ensures.1 in
     rw (p.1, p.2) (
-      c.if-payload-lt-HEADER.false,
+      c.if-payload-lt-IFINFOMSG_LEN.false,
       λ _. value_error_of_all decodes_link _ _ _ inv.found a _ inv.walk start
           (rejects_mtu a _ (sym c.kind.ensures ∙ c.in-4.is) (sym error)),
       λ memory. absurd (number_error_is_not_memory _ _ (sym error) memory),
@@ -150,7 +150,7 @@ pub returns-clause-value : goal.returns-clause-value
 returns-clause-value c =
     let inv = c.loop-item.invariant in (
       inv.found,
-      c.if-payload-lt-HEADER.false,
+      c.if-payload-lt-IFINFOMSG_LEN.false,
       all_attributes_decoded decodes_link _ _ inv.found inv.walk
           c.in-None.ensures.steps.0,
       inv.name,

@@ -26,10 +26,10 @@ returns c = on_ok
     c.lines_of.result
     (λ lines h. record {
       items = map (map_ok payload_view_model) h.0;
-      are = subst
+      are_items = subst
           (λ (bytes : List ℕ). AreItemsOf (IsItemOf message_codec) bytes
           (map (map_ok payload_view_model) h.0))
           c.new.ensures (c.complete_views_are_the_datagram.ensures c.new.result h.0 h.1);
-      found = h.2;
+      are_lines = h.2;
     })
     c.lines_of.ensures

@@ -7,14 +7,14 @@ returns-clause-key c = IfOk-weaker c.canonical.result _ _
     (λ key (message, is, fits, written). record {
       in_range = λ i. omega (arith, c.type_inv.reply i);
       message = message;
-      is = is;
-      fits = fits;
-      written = written;
+      parses = is;
+      is_writable = fits;
+      serialized = written;
     }) c.canonical.ensures.written
 
 pub returns-clause-equal_bytes : goal.returns-clause-equal_bytes
 returns-clause-equal_bytes c = IfOk-weaker c.canonical.result _ _
     (λ key same other theirs k.
-    let equal = same other theirs k.in_range (k.message, k.is, k.fits, k.written) in
+    let equal = same other theirs k.in_range (k.message, k.parses, k.is_writable, k.serialized) in
     (λ e. equal.0 (sym e), λ i. sym (equal.1 i)))
     c.canonical.ensures.same

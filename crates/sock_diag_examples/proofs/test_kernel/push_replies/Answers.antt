@@ -4,7 +4,7 @@ use Rattle.std.proofs.lemmas.Option.{slice_get_read}
 use Rattle.std.proofs.lemmas.Result.{err_from_is_err_and}
 use Rattle.sock_diag_examples.specs.UnixResponseModel.{unix_response_model}
 use Rattle.sock_diag_examples.specs.TestKernel.{IsWritableReplyMessage}
-use Rattle.sock_diag_examples.specs.private.TestKernel.{AppendFails}
+use Rattle.sock_diag_examples.specs.private.TestKernel.{FailsUnless}
 use Rattle.sock_diag_examples.specs.declared.test_kernel.AnswerError.{AnswerError}
 use Rattle.sock_diag_examples.specs.declared.test_kernel.AnswerError.TheVariants as errors
 use Rattle.sock_diag_examples.proofs.test_kernel.push_replies.Goals as goal
@@ -17,8 +17,8 @@ holds_at P made (y ∷ xs) zero x e all = let same : y ≡ x = cc in subst (λ z
 holds_at P made (y ∷ xs) (suc i) x e all = holds_at P made xs i x e all.1
 
 -- if the message of one reply is too long, not all are writable
-of_one : {One All : Type 0} (e : AnswerError) → (All → One) → AppendFails One e
-    → AppendFails All e
+of_one : {One All : Type 0} (e : AnswerError) → (All → One) → FailsUnless One e
+    → FailsUnless All e
 of_one (errors.Request error) each none = none
 of_one errors.Unwritable each none = λ all. none (each all)
 of_one errors.Memory each none = tt
