@@ -58,13 +58,13 @@ OTHERS = [it for it in re.findall(r"(?m)^\w+", (ROOT.parent / "crates.txt").read
 OURS = re.compile(rf"Rattle\.({'|'.join(CRATES + OTHERS)})\.specs\.(?!declared|contracts)")
 # Ghost members whose bodies need not be read. Most are laws, and their bodies are proofs. `eq`,
 # `test` and `tests` compute the result of `==`, which `eq_is_model`, `compared` and the functions
-# of laws.rt state without them. `asks` relates a line to what a private struct retains of it until
-# it is answered.
+# of laws.rt state without them. `parses_as` relates a line to what a private struct retains of it
+# until it is answered.
 LAWS = set("""laws fills exact eq_is_model bytes_by_codec writable_by_codec
     bytes_by_attribute writable_by_attribute attribute_by_model compared equivalent_reflexive
     equivalent_symmetric equivalent_transitive one_value equal_by_bytes equivalent_to_serialized
     round_trips_iff_normal same_bytes_iff_equivalent eq tests test enough keeps same
-    always_writable asks""".split())
+    always_writable parses_as""".split())
 # Private items that count as promises: functions whose clauses the READMEs of crates cite, a struct
 # whose invariant docs/DECISIONS.md cites, and the trait whose impls define what the invariant
 # names.

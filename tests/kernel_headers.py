@@ -57,7 +57,8 @@ RECORDS = [
     ("inet_request", "inet_diag_req_v2", f"""family=sdiag_family protocol=sdiag_protocol
         extensions=idiag_ext states=idiag_states {SOCKET_ID}"""),
     ("inet_response_header", "inet_diag_msg", f"""family=idiag_family state=idiag_state
-        timer.1=idiag_retrans {SOCKET_ID} timer.2=idiag_expires recv_queue=idiag_rqueue
+        timer.retransmits_of=idiag_retrans {SOCKET_ID}
+        timer.expires_of=idiag_expires recv_queue=idiag_rqueue
         send_queue=idiag_wqueue uid=idiag_uid inode=idiag_inode"""),
     ("show_request", "netlink_diag_req", """protocol=sdiag_protocol inode=ndiag_ino
         show=ndiag_show cookie=ndiag_cookie"""),
@@ -71,19 +72,19 @@ RECORDS = [
         destination_group=ndiag_dst_group inode=ndiag_ino cookie=ndiag_cookie"""),
     ("packet_header", "packet_diag_msg", """kind=pdiag_type protocol=pdiag_num inode=pdiag_ino
         cookie=pdiag_cookie"""),
-    ("packet_info", "packet_diag_info", """interface=pdi_index version=pdi_version
+    ("parse_packet_info", "packet_diag_info", """interface=pdi_index version=pdi_version
         reserve=pdi_reserve copy_threshold=pdi_copy_thresh timestamp=pdi_tstamp flags=pdi_flags"""),
-    ("packet_ring", "packet_diag_ring", """block_size=pdr_block_size blocks=pdr_block_nr
+    ("parse_packet_ring", "packet_diag_ring", """block_size=pdr_block_size blocks=pdr_block_nr
         frame_size=pdr_frame_size frames=pdr_frame_nr retire_timeout=pdr_retire_tmo
         private_size=pdr_sizeof_priv features=pdr_features"""),
     ("vsock_header", "vsock_diag_msg", """kind=vdiag_type state=vdiag_state shutdown=vdiag_shutdown
         source_context=vdiag_src_cid source_port=vdiag_src_port destination_context=vdiag_dst_cid
         destination_port=vdiag_dst_port inode=vdiag_ino cookie=vdiag_cookie"""),
     ("xdp_header", "xdp_diag_msg", "kind=xdiag_type inode=xdiag_ino cookie=xdiag_cookie"),
-    ("xdp_info", "xdp_diag_info", "interface=ifindex queue=queue_id"),
-    ("xdp_umem", "xdp_diag_umem", """size=size id=id pages=num_pages chunk_size=chunk_size
+    ("parse_xdp_info", "xdp_diag_info", "interface=ifindex queue=queue_id"),
+    ("parse_xdp_umem", "xdp_diag_umem", """size=size id=id pages=num_pages chunk_size=chunk_size
         headroom=headroom interface=ifindex queue=queue_id flags=flags references=refs"""),
-    ("xdp_statistics", "xdp_diag_stats", """received_dropped=n_rx_dropped
+    ("parse_xdp_statistics", "xdp_diag_stats", """received_dropped=n_rx_dropped
         received_invalid=n_rx_invalid received_full=n_rx_full fill_ring_empty=n_fill_ring_empty
         sent_invalid=n_tx_invalid send_ring_empty=n_tx_ring_empty"""),
     ("vegas_info", "tcpvegas_info", """enabled=tcpv_enabled rtt_count=tcpv_rttcnt rtt=tcpv_rtt
@@ -120,11 +121,12 @@ OPTIONS = """recverr is_icsk freebind hdrincl mc_loop transparent mc_all nodefra
 # A definition of a layout, and a definition that has one clause.
 LAYOUT = re.compile(
     r"^(?:abbrev|unfoldable) pub (\w+) : (?:\([^)]*\) → )?(?:Layout|RecordTable) "
-    r"|^(\w+)[^=\n]*= fields \w", re.M
+    r"|^(\w+)[^=\n]*= parse_if_long_enough \(", re.M
 )
 CLAUSE = re.compile(r"^([a-z]\w*)\b[^:=\n]*=((?:.|\n(?!\S))*)", re.M)
 LENGTH = re.compile(
-    r"plain (?:\([^)]*\)|[\w.]+) (\d+)|(?:least|size) = (\d+);|^fields \w+ \w+ (\d+)"
+    r"plain (?:\([^)]*\)|[\w.]+) (\d+)|(?:least|size) = (\d+);"
+    r"|^parse_if_long_enough \([^)]*\) (\d+)"
 )
 # The width of each kind of row, or of one element of an array.
 WIDTHS = {"u8": 1, "u16": 2, "u32": 4, "u64": 8, "be16": 2, "flags32": 4, "address": 16, "u8s": 1,
@@ -133,11 +135,17 @@ WIDTHS = {"u8": 1, "u16": 2, "u32": 4, "u64": 8, "be16": 2, "flags32": 4, "addre
 # that of the variable of a function.
 ROW = re.compile(
     rf"\b({'|'.join(WIDTHS)}) (\d+|offset|\(offset \+ \d+\)) (?:(\d+) |[\w.]+ )??"
-    r"(?:[A-Z]\w*\.(\w+)|\(λ (\w+)\. [^.]*?\b\5\.(\w+)\)?(\.\d)?)"
+    r"(?:[A-Z]\w*\.(\w+)|\(λ (\w+)\. [^.]*?((?:retransmits|expires)_of )?\b\5\.(\w+))"
 )
 # A member of a record that is only parsed, and a reference to the rows of another definition.
 PARSED = re.compile(r"(\w+) = u(32|64)_at (\d+) bytes;")
 REFERENCE = re.compile(r"\b(\w+_(?:rows|fields))\b(?: (\d+))?")
+
+
+def member_name(member, of_timer, of_variable):
+    """Returns the name of a row's member: one of the last three groups of ROW. The timer has two
+    rows, each with what it takes of the timer."""
+    return member or (f"timer.{of_timer.strip()}" if of_timer else of_variable)
 
 
 def definitions():
@@ -165,9 +173,9 @@ def number_of(text, offset):
 def members_of(name, offset=0):
     """Returns the offset and the width of each member in the rows of a definition."""
     text, members = TEXTS[name], {}
-    for kind, at, count, member, _, of_variable, part in ROW.findall(text):
+    for kind, at, count, member, _, of_timer, of_variable in ROW.findall(text):
         # The timer has two rows, which take different parts of it.
-        member = member or of_variable + (part if of_variable == "timer" else "")
+        member = member_name(member, of_timer, of_variable)
         members[member] = (number_of(at, offset), WIDTHS[kind] * int(count or 1))
     for member, bits, at in PARSED.findall(text):
         members[member] = (int(at), int(bits) // 8)
@@ -213,7 +221,7 @@ def about_record(table, struct, names):
 def about_fields(module, struct, prefix):
     """Yields the questions about the spans in a module of specs/, each with its answer there."""
     text = (CRATES / f"sock_diag_extras/specs/{module}.antt").read_text(encoding="utf-8")
-    for field, at, width in re.findall(r"span_of field\.(\w+) = \((\d+), (\d+)\)", text):
+    for field, at, width in re.findall(r"tcp_span_of field\.(\w+) = \((\d+), (\d+)\)", text):
         member = re.sub(r"(?<=[a-z\d])(?=[A-Z])", "_", field).lower()
         members = {member: (int(at), int(width))}
         yield from about_members(struct, members, {member: prefix + member})

@@ -57,13 +57,10 @@ def repeated_code(files):
 
 
 def is_unbreakable(name, line):
-    """Returns whether a line cannot be broken: the path of an import, an attribute that names
-    lemmas, a string literal, a row of a table in a doc comment, or a crate and its dependencies."""
-    line = line.strip()
-    return (
-        re.match(r"(pub )?(ghost )?use [\w.-]+(\.\{| as \w+;?)$", line)
-        or line.startswith(("#[tactic", '"', "//! |", "/// |"))
-        or name == "crates.txt" and not line.startswith("#")
+    """Returns whether a line cannot be broken: a string literal, a row of a table in a doc comment,
+    or a crate and its dependencies."""
+    return line.strip().startswith(('"', "//! |", "/// |")) or (
+        name == "crates.txt" and not line.startswith("#")
     )
 
 

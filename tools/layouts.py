@@ -48,7 +48,9 @@ def conditional_fields(test, then, other, when, only, offset):
 
 def skipped_field(at, count, each, values):
     """Returns the field of ignored bytes. A byte that is written from the tag contains the tag."""
-    written = [each] * int(count) if count else values.split(" ∷ ")
+    numbers = dict(constants())
+    written = [each] * int(count) if count else [
+        str(numbers.get(value, value)) for value in values.split(" ∷ ")]
     if not written[0].isdigit():
         return Field(int(at), 1, "u8", written[0])
     return Field(int(at), len(written), "skip", "ignored", written=tuple(written))
@@ -56,10 +58,9 @@ def skipped_field(at, count, each, values):
 
 def member_fields(row, offset):
     """Returns the fields of a row of a member: one, or two of an address."""
-    kind, at, count, member, _, variable, part = kernel_headers.ROW.search(row).groups()
+    kind, at, count, member, _, of_timer, variable = kernel_headers.ROW.search(row).groups()
     mask = MASK.match(row)
-    # The timer has two rows, which take different parts of it.
-    member = member or variable + (part if variable == "timer" else "")
+    member = kernel_headers.member_name(member, of_timer, variable)
     one = Field(kernel_headers.number_of(at, offset), kernel_headers.WIDTHS[kind] * int(count or 1),
                 kind, member, mask=int(mask[1], 16) if mask else 0)
     if kind != "address":
