@@ -1,4 +1,6 @@
 //! The owned attributes of a reply. A list of up to eight attributes needs no allocation by itself.
+//! `T` is the type of such an attribute in the replies of one family, `T.attribute_set` is the
+//! family's set of attribute types, and `T.model` is what an attribute decodes to by this set.
 #![tactic(auto, using(crate::proofs::EncodedAttributes::encoded_attributes_of_views))]
 
 ghost use Rattle.std.specs.Prelude.{◌≡◌, ◌≤◌, ◌++◌, ◌∷◌, [], length, map, Ok, IfOk, IsOk, OnOk};
@@ -17,11 +19,12 @@ use smallvec::SmallVec;
 use std::alloc::{AllocError, Global};
 use std::default::MadeWith;
 
-/// Returns attributes that decode to the same values, in the same order. Fails only if an
-/// allocation fails, and never for up to eight attributes that need no memory.
+/// Returns an owned copy of the list, whose attributes decode to the same values, in the same
+/// order. Fails only if an allocation fails, and never for up to eight attributes that need no
+/// memory.
 #[tactic(auto, using(std::proofs::lemmas::List::map_push))]
 pub fn copy_nlas<T: FamilyNla>(alloc: Global, nlas: &[T]) -> Result<SmallVec<T, 8>, AllocError>
-    // map T.model nlas: what the attributes decode to by the family's set, in order.
+    // map T.model nlas: what the attributes decode to, in order.
     ensures equal { IfOk result (λ copy. map T.model copy.items ≡ map T.model nlas.now) }
     // If there are at most eight attributes, and each needs no memory, the call does not fail: the
     // list has space for 8 without an allocation. NeedsNoMemoryIn set value: the value is of a type
@@ -52,9 +55,9 @@ pub fn own_nlas<T: FamilyNla>(
     count: usize,
     nlas: &mut SmallVec<T, 8>,
 ) -> Result<(), AllocError>
-    // decode_attribute set: the decoder of one attribute, by the family's set of attribute types.
-    // HasNoAttributeError decode bytes: neither the framing nor a value has an error. decoded_in
-    // decode bytes: what the attributes in the bytes decode to, in order.
+    // HasNoAttributeError decode bytes: neither the framing nor a value has an error.
+    // decode_attribute set: the decoder of one attribute by the set. decoded_in decode bytes: what
+    // the attributes in the bytes decode to, in order.
     requires clean { HasNoAttributeError (decode_attribute T.attribute_set) bytes.now }
     requires count { count ≡ length (decoded_in (decode_attribute T.attribute_set) bytes.now) }
     requires empty { nlas.old.items ≡ [] }
@@ -83,8 +86,8 @@ pub fn own_nlas<T: FamilyNla>(
 
 // Appends an attribute to a list. The set of the family must accept the attribute, and the list
 // must have capacity for one more. Fails only if an allocation fails, and never for a value that
-// needs no memory. If the call fails, the list is unchanged. The large kind has its own branch, so
-// that the other kinds reserve no stack for its value.
+// needs no memory. If the call fails, the list is unchanged. The large kind (`LARGE_KIND`) has its
+// own branch, so that the other kinds reserve no stack for its value.
 #[inline(always)]
 fn push_accepted<T: FamilyNla>(
     alloc: Global,
@@ -133,11 +136,11 @@ fn make_room<T: MadeWith<Global> + Drop>(
 /// `None` if a value does not fit its length field, that is, has more than 65,531 bytes, or if the
 /// attributes have more than `limit` bytes.
 pub fn values_len_within<T: FamilyNla>(nlas: &[T], limit: usize) -> Option<usize>
-    // T.model: what an attribute decodes to. `attributes`: what these decoded values serialize as
-    // (`encode_attribute`). SomeIff option condition value: the option is `Some value` if the
-    // condition holds, else `None`. AreWritableWithin attributes limit: each value fits its length
-    // field, and all attributes with headers and paddings have at most `limit` bytes. flat_map
-    // attribute_bytes: the bytes of all attributes, concatenated.
+    // `attributes`: what the decoded values serialize as (`encode_attribute`). SomeIff option
+    // condition value: the option is `Some value` if the condition holds, else `None`.
+    // AreWritableWithin attributes limit: each value fits its length field, and all attributes with
+    // headers and paddings have at most `limit` bytes. flat_map attribute_bytes: the bytes of all
+    // attributes, concatenated.
     ensures { let attributes = map (encode_attribute T.attribute_set) (map T.model nlas.now) in
         SomeIff result (AreWritableWithin attributes limit)
         (length (flat_map attribute_bytes attributes)) }
@@ -173,7 +176,7 @@ pub fn emit_values<T: FamilyNla>(nlas: &[T], buffer: &mut [u8])
     ensures written { HoldsAtStart (flat_map attribute_bytes (map (encode_attribute T.attribute_set)
         (map T.model nlas.now))) buffer.old buffer.new }
     // IsInRangeIn set value: each number of the decoded value fits its field. This is so for all
-    // Rust values; it is stated for the laws.
+    // Rust values; the codec laws require it.
     ensures in_range { AllByRecursion (IsInRangeIn T.attribute_set) (map T.model nlas.now) }
 {
     emit_nlas(nlas, buffer);

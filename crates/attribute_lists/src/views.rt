@@ -1,4 +1,6 @@
-//! The borrowed attributes of a reply.
+//! The borrowed attributes of a reply. `V` is the type of such an attribute in the replies of one
+//! family, `V.attribute_set` is the family's set of attribute types, and `V.model` is what an
+//! attribute decodes to by this set.
 
 ghost use Rattle.std.specs.Prelude.{◌≡◌, ◌≤◌, ◌↔◌, ◌+◌, ◌-◌, length, Err, OnOk, IfOk, IfErr};
 ghost use Rattle.std.specs.Prelude.{IsSome, IfSome, None, Some, SomeIff, MatchOption};
@@ -19,8 +21,8 @@ use netlink_core::{DecodeError, FamilyView, Nla, NlasIterator, emit_nla, nla_len
 /// the first error. Does not allocate.
 #[inline(always)]
 pub fn check_nlas<'a, V: FamilyView<'a> + Drop>(bytes: &'a [u8]) -> Result<usize, DecodeError>
-    // decode_attribute set: the decoder of one attribute, by the family's set of attribute types.
     // HasNoAttributeError decode bytes: neither the framing nor a value has an error.
+    // decode_attribute set: the decoder of one attribute by the set.
     ensures clean { OnOk result (HasNoAttributeError
         (decode_attribute V.attribute_set) bytes.entry.now) }
     // decoded_in decode bytes: what the attributes in the bytes decode to, in order.
@@ -49,8 +51,8 @@ pub fn check_nlas_len<'a, V: FamilyView<'a> + Drop>(
     bytes: &'a [u8],
     limit: Option<usize>,
 ) -> Result<(usize, Option<usize>), DecodeError>
-    // decode_attribute set: the decoder of one attribute, by the family's set of attribute types.
     // HasNoAttributeError decode bytes: neither the framing nor a value has an error.
+    // decode_attribute set: the decoder of one attribute by the set.
     ensures clean { OnOk result (HasNoAttributeError
         (decode_attribute V.attribute_set) bytes.entry.now) }
     // `found` is the returned pair: the number of attributes (`found.0`), and the number of bytes
@@ -124,8 +126,8 @@ fn used(limit: Option<usize>, room: Option<usize>) -> Option<usize>
 #[inline(always)]
 pub fn next_view<'a, V: FamilyView<'a>>(walk: &mut NlasIterator<'a>) -> Option<V>
     // HasNoAttributeError decode bytes: neither the framing nor a value has an error.
-    // decode_attribute set: the decoder by the family's set of attribute types. unread_bytes: the
-    // bytes that the iterator has not read yet.
+    // decode_attribute set: the decoder of one attribute by the set. unread_bytes: the bytes that
+    // the iterator has not read yet.
     requires { HasNoAttributeError (decode_attribute V.attribute_set) (unread_bytes walk.old) }
     // YieldsFirstBy model rest old result new: `rest old` is the model of the result and then
     // `rest new`; if the result is `None`, both are empty. Here `rest` is unread_values set: what
@@ -145,7 +147,7 @@ pub fn next_view<'a, V: FamilyView<'a>>(walk: &mut NlasIterator<'a>) -> Option<V
 /// the header by itself at most 4,294,967,295 bytes.
 pub fn views_len<'a, V: FamilyView<'a> + Drop>(header_len: usize, bytes: &'a [u8]) -> Option<usize>
     // HasNoAttributeError decode bytes: neither the framing nor a value has an error.
-    // decode_attribute set: the decoder by the family's set of attribute types.
+    // decode_attribute set: the decoder of one attribute by the set.
     requires clean { HasNoAttributeError (decode_attribute V.attribute_set) bytes.now }
     requires small { header_len ≤ 4294967295 }
     // encoded_attributes_in set bytes: what the attributes in the bytes serialize as, once decoded.
@@ -177,7 +179,7 @@ pub fn views_len<'a, V: FamilyView<'a> + Drop>(header_len: usize, bytes: &'a [u8
 /// most 4,294,967,295 bytes (`AreWritable`), and the buffer must be at least as long as they are.
 pub fn emit_views<'a, V: FamilyView<'a> + Drop>(bytes: &'a [u8], buffer: &mut [u8])
     // HasNoAttributeError decode bytes: neither the framing nor a value has an error.
-    // decode_attribute set: the decoder by the family's set of attribute types.
+    // decode_attribute set: the decoder of one attribute by the set.
     requires clean { HasNoAttributeError (decode_attribute V.attribute_set) bytes.now }
     // encoded_attributes_in set bytes: what the attributes in the bytes serialize as, once decoded.
     requires fits { AreWritable (encoded_attributes_in V.attribute_set bytes.now) }

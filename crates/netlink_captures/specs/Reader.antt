@@ -98,8 +98,9 @@ ReadsPacket (in_pcap file) bytes packet state' =
 ReadsPacket (in_pcapng position) bytes packet state' =
     (after : Position) × IsNextPacket position bytes packet after × (state' ≡ in_pcapng after)
 
--- `IsCaptureEnd state bytes`: the bytes, which follow the state, contain no packet: there are none
--- in a pcap file, and in a pcapng file they are some blocks without a packet
+-- `IsCaptureEnd state bytes`: the bytes that a reader in this state has left contain no packet. In
+-- a pcap file there are no such bytes. In a pcapng file they are zero or more blocks without a
+-- packet.
 abbrev pub IsCaptureEnd : CaptureState → List ℕ → Type 0
 IsCaptureEnd (in_pcap file) bytes = bytes ≡ []
 IsCaptureEnd (in_pcapng position) bytes =

@@ -1,5 +1,10 @@
 //! Captures of netlink traffic in the classic pcap format, as tcpdump(1) writes them, with the link
 //! type `LINKTYPE_NETLINK`.
+//!
+//! In the contracts, `R.left input` are the bytes that the input has left, if known.
+//! `R.failed input e` says that a read of it has failed with the error `e`.
+//! `Consumes old new bytes` says that these bytes were read. `part` are the bytes that were read
+//! before a failure.
 
 ghost use Rattle.std.specs.Prelude.{◌≡◌, ◌↔◌, ◌+◌, ◌<◌, ◌≤◌, ◌++◌, ◌⊎◌, ℕ, List, [], length, IfOk};
 ghost use Rattle.std.specs.Prelude.{IfErr, OnOk, IsTrue, MatchBool, MatchOption, MatchResult, Some};
@@ -336,19 +341,16 @@ impl FileHeader {
         input: &mut R,
         packet: &mut Vec<u8>,
     ) -> Result<Option<PacketHeader>, CaptureError>
-        // `R.left`: the remaining bytes, if known. `Keeps old new`: they are unchanged.
-        // `Consumes old new bytes`: these bytes were read. `fields`: the returned fields of the
-        // packet header. `header`: its bytes. `IsPacketRecord file header packet`: these bytes are
-        // the header of the packet, here of the one with the bytes in `packet` and with `fields`
-        // (`captured_packet bytes fields`).
+        // `Keeps old new`: nothing was read. `fields`: the returned fields of the packet header.
+        // `header`: its 16 bytes. `IsPacketRecord file header packet`: they are the header of this
+        // packet. `captured_packet bytes fields`: the packet with these bytes and fields.
         ensures read { IfOk result (λ found. MatchOption found
             (IsAtEnd (R.left input.new) × Keeps (R.left input.old) (R.left input.new))
             (λ fields. (header : List ℕ)
             × IsPacketRecord self.now header (captured_packet packet.new.items fields)
             × Consumes (R.left input.old) (R.left input.new) (header ++ packet.new.items))) }
         // `IsPacketStop file left failed part e`: `e` is the reason why no packet was read, after
-        // the bytes `part`. `left`: the remaining bytes, if known. `R.failed`: a read has failed
-        // with this error.
+        // the bytes `part`.
         ensures stopped { IfErr result (λ e. (part : List ℕ)
             × Consumes (R.left input.old) (R.left input.new) part
             × IsPacketStop self.now (R.left input.new) (R.failed input.new) part e) }
@@ -403,11 +405,10 @@ pub(crate) fn read_bytes<R: Source>(
     bytes: &mut Vec<u8>,
     count: usize,
 ) -> Result<(), CaptureError>
-    // `R.left`: the remaining bytes, if known. `Consumes old new bytes`: these bytes were read.
     ensures read { OnOk result ((length bytes.new.items ≡ count)
         × Consumes (R.left input.old) (R.left input.new) bytes.new.items) }
-    // `part`: the bytes that were read: none, since an allocation failed; or fewer than `count`,
-    // since the input is at its end or a read failed (`IsReadStop left failed e`).
+    // `part` is empty if an allocation failed. Else it has fewer than `count` bytes, and the input
+    // is at its end or a read failed (`IsReadStop left failed e`).
     ensures stopped { IfErr result (λ e. (part : List ℕ)
         × Consumes (R.left input.old) (R.left input.new) part
         × (((e ≡ Memory) × (part ≡ []))
@@ -421,10 +422,8 @@ pub(crate) fn read_bytes<R: Source>(
 /// Reads until `bytes` is full. Fails with `Truncated` if the input ends before, and with `Read` if
 /// a read failed, which is not retried.
 pub(crate) fn fill<R: Source>(input: &mut R, bytes: &mut [u8]) -> Result<(), CaptureError>
-    // `R.left`: the remaining bytes, if known. `Consumes old new bytes`: these bytes were read.
-    // `part`: the bytes that were read. `IsReadStop left failed e`: then the input is at its end,
-    // or a read failed.
     ensures filled { OnOk result (Consumes (R.left input.old) (R.left input.new) bytes.new) }
+    // `IsReadStop left failed e`: the input is at its end, or a read failed.
     ensures stopped { IfErr result (λ e. (part : List ℕ) × (length part < length bytes.old)
         × Consumes (R.left input.old) (R.left input.new) part
         × IsReadStop (R.left input.new) (R.failed input.new) e) }
@@ -445,13 +444,12 @@ pub(crate) fn fill<R: Source>(input: &mut R, bytes: &mut [u8]) -> Result<(), Cap
 /// failed. `bytes` must not be empty.
 pub(crate) fn fill_or_end<R: Source>(input: &mut R, bytes: &mut [u8]) -> Result<bool, CaptureError>
     requires { 0 < length bytes.old }
-    // `R.left`: the remaining bytes, if known. `Consumes old new bytes`: these bytes were read.
-    // `Keeps old new`: none were read.
+    // `Keeps old new`: nothing was read.
     ensures filled { IfOk result (λ is_filled. MatchBool is_filled
         (Consumes (R.left input.old) (R.left input.new) bytes.new)
         (IsAtEnd (R.left input.new) × Keeps (R.left input.old) (R.left input.new))) }
-    // `part`: the bytes that were read. If the error is `Truncated`, there is at least one.
-    // `IsReadStop left failed e`: then the input is at its end, or a read failed.
+    // If the error is `Truncated`, `part` has at least one byte. `IsReadStop left failed e`: the
+    // input is at its end, or a read failed.
     ensures stopped { IfErr result (λ e. (part : List ℕ) × (length part < length bytes.old)
         × (e ≡ CaptureError.Truncated → 0 < length part)
         × Consumes (R.left input.old) (R.left input.new) part

@@ -1,6 +1,20 @@
 //! Captures of netlink traffic in the pcapng format, as Wireshark, dumpcap(1) and tcpdump(1) write
 //! them: blocks, of which section headers, interface descriptions and packets are parsed, and all
 //! others skipped.
+//!
+//! In the contracts:
+//!
+//! - `R.left input`: the bytes that the input has left, if known. `R.failed input e`: a read of it
+//!   has failed with the error `e`.
+//! - `Consumes old new bytes`: these bytes were read. `Keeps old new`: none were. `part`: the bytes
+//!   that were read before a failure.
+//! - `position_of reader`: what the reader knows of the file: the byte order and the interfaces of
+//!   the section, and the offset of the next block.
+//! - `next_block reader order bytes`: the block of these bytes, in this byte order, at the reader's
+//!   position.
+//! - `FitsBlock bytes content`: a packet is within these bytes of its block, so it can be copied.
+//! - `MovesOver old bytes content new`: the bytes are a valid block with this content, which leads
+//!   from the position `old` to `new`.
 
 ghost use Rattle.std.specs.Prelude.{◌≡◌, ◌+◌, ◌^◌, ◌<◌, ◌≤◌, ◌++◌, ℕ, List, length, IfOk, IfErr};
 ghost use Rattle.std.specs.Prelude.{IfSome, OnOk, MatchOption};
@@ -275,23 +289,10 @@ fn simple_captured(snap_length: u32, original: u32) -> u32
 }
 
 impl PcapngReader {
-    // In the contracts below:
-    // - `R.left`: the bytes of the input that are left to read, if known. `Consumes old new bytes`:
-    //   these bytes were read. `Keeps old new`: none were read.
-    // - `R.failed`: a read failed with this error. `part`: the bytes that were read before a
-    //   failure.
-    // - `position_of reader`: what the reader knows of the file: the byte order and the interfaces
-    //   of the section, and the offset of the next block. `next_block reader order bytes`: the
-    //   block of these bytes, in this byte order, at the reader's position.
-    // - `FitsBlock bytes content`, in clauses `fits`: a packet is within the bytes of its block, so
-    //   it can be copied.
-    // - `MovesOver old bytes content new`: the bytes are a valid block with this content, which
-    //   leads from the position `old` to `new`.
-
     /// Returns a reader at the start of a file. Allocates nothing.
     pub(crate) fn new(alloc: Global) -> PcapngReader
-        // `position_of reader`: its byte order, interfaces and offset. `start_of_file`: no
-        // interfaces, offset 0, and any byte order, since a section header has its own.
+        // `start_of_file`: no interfaces, offset 0, and any byte order, since a section header has
+        // its own.
         ensures { position_of result ≡ start_of_file }
     {
         PcapngReader {
@@ -317,8 +318,7 @@ impl PcapngReader {
     /// if it is not known, and with `Length` if the length of the block, in this order, is invalid.
     fn checked_order(&self, block: &[u8]) -> Result<ByteOrder, CaptureError>
         requires { MIN_BLOCK_LEN ≤ length block.now }
-        // `checked_order position bytes`: this byte order, or the error. `position_of reader`: what
-        // the reader knows of the file.
+        // `checked_order position bytes`: this byte order, or the error.
         ensures { result ≡ checked_order (position_of self.now) block.now }
     {
         match find_order(self.order, block) {
@@ -331,8 +331,7 @@ impl PcapngReader {
     /// Parses a section header. Fails with `Length` if it has fewer than 28 bytes, and with
     /// `Version` if its major version is not 1.
     fn section_header(&self, order: ByteOrder, block: &[u8]) -> Result<Content, CaptureError>
-        // `section_header_in block`: the content, or the error. `next_block reader order bytes`:
-        // the block of these bytes, at the reader's position.
+        // `section_header_in block`: the content, or the error.
         ensures { result ≡ section_header_in (next_block self.now order block.now) }
     {
         if block.len() < MIN_SECTION_HEADER_LEN {
@@ -348,8 +347,7 @@ impl PcapngReader {
     /// `TooManyInterfaces` if the section already has `MAX_INTERFACES`, and with `Options` or
     /// `Resolution` if its options are invalid.
     fn interface(&self, order: ByteOrder, block: &[u8]) -> Result<Content, CaptureError>
-        // `interface_in block`: the content, or the error. `next_block reader order bytes`: the
-        // block of these bytes, at the reader's position.
+        // `interface_in block`: the content, or the error.
         ensures { result ≡ interface_in (next_block self.now order block.now) }
     {
         if block.len() < MIN_INTERFACE_LEN {
@@ -373,7 +371,6 @@ impl PcapngReader {
     /// not described it, and with `OtherLinkType` if its link type is not 253.
     fn find_interface(&self, number: u32) -> Result<Interface, CaptureError>
         // `interface_of position number`: this interface of the section, or the error.
-        // `position_of reader`: what the reader knows of the file.
         ensures { result ≡ interface_of (position_of self.now) number }
     {
         match self.interfaces.as_slice().get(number as usize) {
@@ -389,8 +386,7 @@ impl PcapngReader {
     fn packet_in(&self, block: &[u8], slot: PacketSlot) -> Result<Content, CaptureError>
         // No packet begins after this offset. So the offset of its end fits a `usize`.
         requires { slot.start ≤ ENHANCED_PACKET_START }
-        // `packet_in position bytes slot`: this packet, or the error. `FitsBlock bytes content`: a
-        // packet is within these bytes.
+        // `packet_in position bytes slot`: this packet, or the error.
         ensures value { result ≡ packet_in (position_of self.now) block.now slot }
         ensures fits { IfOk result (FitsBlock block.now) }
     {
@@ -416,8 +412,6 @@ impl PcapngReader {
     ) -> Result<Content, CaptureError>
         requires { MIN_ENHANCED_PACKET_LEN ≤ length block.now }
         // `timed_packet block unit timestamp`: this packet, or the error.
-        // `next_block reader order bytes`: the block of these bytes, at the reader's position.
-        // `FitsBlock bytes content`: a packet is within these bytes.
         ensures value { result
             ≡ timed_packet (next_block self.now order block.now) unit timestamp }
         ensures fits { IfOk result (FitsBlock block.now) }
@@ -451,8 +445,6 @@ impl PcapngReader {
         number: u32,
     ) -> Result<Content, CaptureError>
         // `enhanced_packet_in block number`: this packet, or the error.
-        // `next_block reader order bytes`: the block of these bytes, at the reader's position.
-        // `FitsBlock bytes content`: a packet is within these bytes.
         ensures value { result ≡ enhanced_packet_in (next_block self.now order block.now) number }
         ensures fits { IfOk result (FitsBlock block.now) }
     {
@@ -475,9 +467,7 @@ impl PcapngReader {
     /// it has no timestamp, which counts as 0. Fails with `Length` if the block is too short, or
     /// else with the error of the interface or of the packet.
     fn simple_packet(&self, order: ByteOrder, block: &[u8]) -> Result<Content, CaptureError>
-        // `simple_packet_in block`: this packet, or the error. `next_block reader order bytes`: the
-        // block of these bytes, at the reader's position. `FitsBlock bytes content`: a packet is
-        // within these bytes.
+        // `simple_packet_in block`: this packet, or the error.
         ensures value { result ≡ simple_packet_in (next_block self.now order block.now) }
         ensures fits { IfOk result (FitsBlock block.now) }
     {
@@ -508,9 +498,7 @@ impl PcapngReader {
     /// interface description or of the packet.
     fn content_by_type(&self, order: ByteOrder, block: &[u8]) -> Result<Content, CaptureError>
         requires { MIN_BLOCK_LEN ≤ length block.now }
-        // `content_by_type block`: the content, or the error. `next_block reader order bytes`: the
-        // block of these bytes, at the reader's position. `FitsBlock bytes content`: a packet is
-        // within these bytes.
+        // `content_by_type block`: the content, or the error.
         ensures value { result ≡ content_by_type (next_block self.now order block.now) }
         ensures fits { IfOk result (FitsBlock block.now) }
     {
@@ -530,9 +518,7 @@ impl PcapngReader {
     fn content(&self, order: ByteOrder, block: &[u8]) -> Result<Content, CaptureError>
         requires long { MIN_BLOCK_LEN ≤ length block.now }
         requires short { length block.now ≤ MAX_BLOCK_LEN }
-        // `content_of block`: the content, or the error. `next_block reader order bytes`: the block
-        // of these bytes, at the reader's position. `FitsBlock bytes content`: a packet is within
-        // these bytes.
+        // `content_of block`: the content, or the error.
         ensures value { result ≡ content_of (next_block self.now order block.now) }
         ensures fits { IfOk result (FitsBlock block.now) }
     {
@@ -569,8 +555,9 @@ impl PcapngReader {
         rest: &mut Vec<u8>,
     ) -> Result<ByteOrder, CaptureError>
         requires { length head.now ≡ MIN_BLOCK_LEN }
-        // On success, `head` has a valid byte order and length (`checked_order`), the two parts are
-        // as long as the length field says (`block_length`), and both are stored.
+        // `checked_order position head`: the byte order, if it and the length of the block are
+        // valid. `block_length order head`: this length, here of `head` and `rest`. Both are
+        // stored.
         ensures read { IfOk result (λ order.
             (checked_order (position_of self.old) head.now ≡ Ok order)
             × (MIN_BLOCK_LEN + length rest.new.items ≡ block_length order head.now)
@@ -579,7 +566,7 @@ impl PcapngReader {
         // Whether it fails or not, the reader does not move.
         ensures kept { position_of self.new ≡ position_of self.old }
         // `IsStopAfterHead position left failed head part e`: `e` is the reason why the block was
-        // not read after `head` and the bytes `part`. `left` are the remaining bytes, if known.
+        // not read after `head` and the bytes `part`.
         ensures stopped { IfErr result (λ e. (part : List ℕ)
             × Consumes (R.left input.old) (R.left input.new) part
             × IsStopAfterHead (position_of self.old) (R.left input.new) (R.failed input.new)
@@ -598,7 +585,6 @@ impl PcapngReader {
         // The end of the block fits the 64 bits of an offset.
         requires { (position_of self.old).offset + length self.old.block.items < 2 ^ 64 }
         // `after_block block content`: the position after the block.
-        // `next_block reader order bytes`: the block of these bytes, at the reader's position.
         ensures moved { OnOk result (position_of self.new
             ≡ after_block (next_block self.old order self.old.block.items) content) }
         ensures block { self.new.block.items ≡ self.old.block.items }
@@ -623,9 +609,7 @@ impl PcapngReader {
         rest: &mut Vec<u8>,
     ) -> Result<Content, CaptureError>
         requires { length head.now ≡ MIN_BLOCK_LEN }
-        // `more`: the bytes of the block after `head`. `MovesOver old bytes content new`: `bytes`,
-        // here the stored block, are a valid block with this content, which leads from the position
-        // `old` to `new`. `FitsBlock`: a packet is within its block.
+        // `more`: the bytes of the block after `head`. The stored block has both.
         ensures read { IfOk result (λ content. (more : List ℕ)
             × (self.new.block.items ≡ head.now ++ more)
             × Consumes (R.left input.old) (R.left input.new) more
@@ -653,9 +637,8 @@ impl PcapngReader {
         input: &mut R,
     ) -> Result<PcapngReader, CaptureError>
         requires { length head.now ≡ MIN_BLOCK_LEN }
-        // `more`: the bytes of the block after `head`. `MovesOver old bytes content new`: `bytes`,
-        // here `head` and `more`, are a valid block with this content, which leads from the
-        // position `old`, here `start_of_file`, to `new`.
+        // `more`: the bytes of the block after `head`. `start_of_file`: the position of the first
+        // block.
         ensures read { IfOk result (λ reader. (more : List ℕ) × (content : Content)
             × Consumes (R.left input.old) (R.left input.new) more
             × MovesOver start_of_file (head.now ++ more) content (position_of reader)) }
@@ -683,8 +666,7 @@ impl PcapngReader {
         rest: &mut Vec<u8>,
     ) -> Result<Option<Content>, CaptureError>
         // `None`: the input is at its end, nothing was read, and the reader did not move. A
-        // content: the bytes of the stored block were read, and the reader moved over this block
-        // (`MovesOver`). `FitsBlock`: a packet is within its block.
+        // content: the bytes of the stored block were read, and the reader moved over this block.
         ensures read { IfOk result (λ found. MatchOption found
             (IsAtEnd (R.left input.new) × Keeps (R.left input.old) (R.left input.new)
             × (position_of self.new ≡ position_of self.old))
@@ -713,7 +695,7 @@ impl PcapngReader {
     fn copy_packet(&self, slot: PacketSlot, packet: &mut Vec<u8>) -> Result<(), AllocError>
         requires { slot.start + slot.count ≤ length self.now.block.items }
         // `captured_packet bytes header`: the packet with these bytes and this header.
-        // `packet_in_slot slot bytes`: the packet in this slot of a block.
+        // `packet_in_slot slot bytes`: the packet in this slot of the block.
         ensures { OnOk result (captured_packet packet.new.items slot.header
             ≡ packet_in_slot slot self.now.block.items) }
     {
@@ -732,11 +714,10 @@ impl PcapngReader {
         input: &mut R,
         packet: &mut Vec<u8>,
     ) -> Result<Option<PacketHeader>, CaptureError>
-        // `bytes` were read. `None`: they are blocks without a packet, up to the end of the input
-        // (`IsEndOfBlocks old bytes new`). A header: they are blocks without a packet and then one
-        // with this packet (`IsNextPacket old bytes packet new`), which has the bytes in `packet`
-        // and the returned header (`captured_packet`). `old` and `new` are the positions before and
-        // after these blocks.
+        // `bytes`: those that were read. `IsEndOfBlocks old bytes new`: they are blocks without a
+        // packet, which lead from the position `old` to `new`.
+        // `IsNextPacket old bytes packet new`: they are such blocks, and then one with this packet.
+        // `captured_packet bytes header`: the packet with these bytes and this header.
         ensures read { IfOk result (λ found. (bytes : List ℕ)
             × Consumes (R.left input.old) (R.left input.new) bytes
             × MatchOption found
@@ -745,8 +726,7 @@ impl PcapngReader {
             (λ header. IsNextPacket (position_of self.old) bytes
             (captured_packet packet.new.items header) (position_of self.new))) }
         // `IsNextPacketStop position left failed part e`: `e` is the reason why no packet was read
-        // after this position. `part`: blocks without a packet, and a part of the block that
-        // failed.
+        // after this position. `part`: blocks without a packet, and bytes of the block that failed.
         ensures stopped { IfErr result (λ e. (part : List ℕ)
             × Consumes (R.left input.old) (R.left input.new) part
             × IsNextPacketStop (position_of self.old) (R.left input.new) (R.failed input.new)

@@ -1,4 +1,9 @@
 //! Captures of netlink traffic, in the pcap or the pcapng format.
+//!
+//! In the contracts, `R.left input` are the bytes that the input has left, if known.
+//! `R.failed input e` says that a read of it has failed with the error `e`.
+//! `Consumes old new bytes` says that these bytes were read. `part` are the bytes that were read
+//! before a failure.
 
 ghost use Rattle.std.specs.Prelude.{◌≡◌, ◌++◌, ◌<◌, ◌≤◌, ◌⊎◌, ℕ, List, length, IfOk, IfErr, OnOk};
 ghost use Rattle.std.specs.Prelude.{IsTrue, MatchOption, MatchResult};
@@ -34,7 +39,7 @@ pub enum CaptureReader {
 fn check_magic(bytes: &[u8]) -> Result<(), CaptureError>
     requires { 4 ≤ length bytes.now }
     // `HasMagic bytes`: they begin as a pcapng file does, or with a magic number of pcap in either
-    // byte order. `IsRejectedByMagic bytes error`: they do not, and this is their error.
+    // byte order. `IsRejectedByMagic bytes e`: they do not, and `e` is their error.
     ensures { MatchResult result (λ _. HasMagic bytes.now) (IsRejectedByMagic bytes.now) }
 {
     if is_section_header(bytes) || ByteOrder::find(bytes).is_some() {
@@ -49,12 +54,10 @@ fn check_magic(bytes: &[u8]) -> Result<(), CaptureError>
 /// `CaptureReader::open` does for these bytes.
 fn read_magic<R: Source>(input: &mut R, magic: &mut [u8]) -> Result<(), CaptureError>
     requires { length magic.old ≡ 4 }
-    // `R.left`: the remaining bytes, if known. `R.failed`: a read has failed with this error.
-    // `Consumes old new bytes`: these bytes were read. `part`: the bytes that were read.
-    // `HasMagic bytes`: they begin with a known magic number. `IsEarlyReadStop left failed part e`:
-    // `e` is the reason why reading stopped after the bytes `part`.
+    // `HasMagic bytes`: they begin with a known magic number.
     ensures read { OnOk result (HasMagic magic.new
         × Consumes (R.left input.old) (R.left input.new) magic.new) }
+    // `IsEarlyReadStop left failed part e`: `e` is the reason why reading stopped after `part`.
     ensures stopped { IfErr result (λ e. (part : List ℕ) × (length part ≤ 4)
         × Consumes (R.left input.old) (R.left input.new) part
         × IsEarlyReadStop (R.left input.new) (R.failed input.new) part e) }
@@ -73,12 +76,10 @@ fn read_magic<R: Source>(input: &mut R, magic: &mut [u8]) -> Result<(), CaptureE
 /// header of a pcap file. Fails as `CaptureReader::open` does for these bytes.
 fn read_head<R: Source>(input: &mut R, head: &mut [u8]) -> Result<(), CaptureError>
     requires { length head.old ≡ MIN_BLOCK_LEN }
-    // `R.left`: the remaining bytes, if known. `R.failed`: a read has failed with this error.
-    // `Consumes old new bytes`: these bytes were read. `part`: the bytes that were read.
-    // `HasMagic bytes`: they begin with a known magic number. `IsEarlyReadStop left failed part e`:
-    // `e` is the reason why reading stopped after the bytes `part`.
+    // `HasMagic bytes`: they begin with a known magic number.
     ensures read { OnOk result (HasMagic head.new
         × Consumes (R.left input.old) (R.left input.new) head.new) }
+    // `IsEarlyReadStop left failed part e`: `e` is the reason why reading stopped after `part`.
     ensures stopped { IfErr result (λ e. (part : List ℕ) × (length part < MIN_BLOCK_LEN)
         × Consumes (R.left input.old) (R.left input.new) part
         × IsEarlyReadStop (R.left input.new) (R.failed input.new) part e) }
@@ -93,15 +94,13 @@ fn read_head<R: Source>(input: &mut R, head: &mut [u8]) -> Result<(), CaptureErr
 /// of `FileHeader::parse`.
 fn open_pcap<R: Source>(head: &[u8], input: &mut R) -> Result<FileHeader, CaptureError>
     requires { length head.now ≡ MIN_BLOCK_LEN }
-    // `R.left`: the remaining bytes, if known. `R.failed`: a read has failed with this error.
-    // `more`, `part`: the bytes that were read (`Consumes old new bytes`).
-    // `IsFileHeader bytes header`: the bytes begin with this file header.
-    // `IsReadStop left failed e`: the input is at its end or a read failed, before 12 bytes were
-    // read. `IsFileHeaderError bytes e`: all 24 bytes were read, and are not a file header, for
-    // this reason.
+    // `more`: the bytes that were read. `IsFileHeader bytes header`: the bytes begin with this file
+    // header.
     ensures read { IfOk result (λ file. (more : List ℕ) × (length more ≡ 12)
         × IsFileHeader (head.now ++ more) file
         × Consumes (R.left input.old) (R.left input.new) more) }
+    // `IsReadStop left failed e`: the input is at its end, or a read failed.
+    // `IsFileHeaderError bytes e`: the 24 bytes are not a file header, for the reason `e`.
     ensures stopped { IfErr result (λ e. (part : List ℕ)
         × Consumes (R.left input.old) (R.left input.new) part
         × (((length part < 12)
@@ -126,13 +125,14 @@ impl CaptureReader {
     /// `FileHeader::parse`. If a pcapng file begins with an invalid block, fails with `Block`, and
     /// if an allocation failed, with `Memory`.
     pub fn open<R: Source>(alloc: Global, input: &mut R) -> Result<CaptureReader, CaptureError>
-        // `R.left`: the remaining bytes, if known. `Consumes old new bytes`: these bytes were read.
-        // `IsCaptureStart bytes state`: a capture begins with them, and the reader has this state.
+        // `IsCaptureStart bytes state`: a capture begins with these bytes, and a reader that has
+        // read them has this state. `state_of reader`: the file header of a pcap file, or the
+        // position in a pcapng file.
         ensures read { IfOk result (λ reader. (bytes : List ℕ)
             × IsCaptureStart bytes (state_of reader)
             × Consumes (R.left input.old) (R.left input.new) bytes) }
         // `IsCaptureStartStop left failed part e`: `e` is the reason why no capture was opened,
-        // after the bytes `part`. `R.failed`: a read has failed with this error.
+        // after the bytes `part`.
         ensures stopped { IfErr result (λ e. (part : List ℕ)
             × Consumes (R.left input.old) (R.left input.new) part
             × IsCaptureStartStop (R.left input.new) (R.failed input.new) part e) }
@@ -172,12 +172,10 @@ impl CaptureReader {
         input: &mut R,
         packet: &mut Vec<u8>,
     ) -> Result<Option<PacketHeader>, CaptureError>
-        // `R.left`: the remaining bytes, if known. `bytes`: the bytes that were read
-        // (`Consumes old new bytes`). `state_of reader`: the file header of a pcap file, or the
-        // position in a pcapng file. If there is no packet, the bytes are the rest of the input,
-        // and contain none (`IsCaptureEnd`). Else they lead over one packet, with the bytes in
-        // `packet` and the returned header (`captured_packet`), to the new state of the reader
-        // (`ReadsPacket`).
+        // `bytes`: those that were read. `IsCaptureEnd state bytes`: after this state they contain
+        // no packet. `state_of reader`: the file header of a pcap file, or the position in a pcapng
+        // file. `ReadsPacket old bytes packet new`: they lead from the state `old` over this packet
+        // to `new`. `captured_packet bytes header`: the packet with these bytes and this header.
         ensures read { IfOk result (λ found. (bytes : List ℕ)
             × Consumes (R.left input.old) (R.left input.new) bytes
             × MatchOption found
@@ -185,8 +183,7 @@ impl CaptureReader {
             (λ header. ReadsPacket (state_of self.old) bytes
             (captured_packet packet.new.items header) (state_of self.new))) }
         // `IsCaptureStop state left failed part e`: `e` is the reason why no packet was read after
-        // the state. `R.failed`: a read has failed with this error. `part`: the bytes that were
-        // read.
+        // this state.
         ensures stopped { IfErr result (λ e. (part : List ℕ)
             × Consumes (R.left input.old) (R.left input.new) part
             × IsCaptureStop (state_of self.old) (R.left input.new) (R.failed input.new) part e) }

@@ -236,9 +236,10 @@ impl<'a> Iterator for NlasIterator<'a> {
     /// Returns `(0, None)`: the number of items is known only after iterating.
     fn size_hint(&self) -> (usize, Option<usize>)
         ensures unknown { result ≡ (0, None) }
-        // The clauses of the trait follow from `unknown`: the lower bound is at most the number of
-        // items (`IsWithinCount`), and the upper one, if there is one, at least this number
-        // (`UpTo`). `at_most n`: of this number only the bound `n` is known.
+        // The clauses of the trait, which follow from `unknown`. IsWithinCount: the first number is
+        // at most the number of items. at_most n: there are at most `n` items, here one for each
+        // four bytes that are left, rounded up. UpTo: the second number, if there is one, is at
+        // least the number of items.
         ensures lower { IsWithinCount result.0
             (at_most ((length (unread_bytes self.now) + 3) / 4)) }
         ensures upper { IfSome result.1

@@ -43,8 +43,9 @@ impl From<AllocError> for CanonError {
     }
 }
 
-/// Returns the canonical form of the bytes: the bytes that their value serializes to. All inputs
-/// that differ only in ignored bits have the same canonical form.
+/// Returns the canonical form of the bytes: the bytes that their value serializes to. `param` is
+/// the parameter of the codec. All inputs that differ only in ignored bits have the same canonical
+/// form.
 ///
 /// Fails with `Refused` and the parser's first error, with `Unwritable` if a length of the value
 /// does not fit its field, and with `Memory` only if the value is writable.

@@ -24,7 +24,8 @@ pub trait FamilyView<'a>: Nla + PartialEq + Sized {
     /// this type rejects it.
     fn read_view(nla: &NlaBuffer<'a>) -> Result<Self, DecodeError>
         // decode_attribute set attribute: `Ok` of the decoded value, or `Err` of the value's error.
-        // buffered_attribute: the type field and the value of `nla`.
+        // buffered_attribute: the type field and the value of `nla`. model: the result as a decoded
+        // value.
         ensures value { IfOk result (λ view.
             decode_attribute attribute_set (buffered_attribute nla.now) ≡ Ok (model view)) }
         ensures error { IfErr result (λ e.
@@ -34,7 +35,8 @@ pub trait FamilyView<'a>: Nla + PartialEq + Sized {
     /// `read_view` does not fail.
     fn read_accepted(nla: &NlaBuffer<'a>) -> Self
         // decode_attribute set attribute: `Ok` of the decoded value, or `Err` of the value's error.
-        // buffered_attribute: the type field and the value of `nla`.
+        // buffered_attribute: the type field and the value of `nla`. model: the result as a decoded
+        // value.
         requires { IsOk (decode_attribute attribute_set (buffered_attribute nla.now)) }
         ensures { decode_attribute attribute_set (buffered_attribute nla.now) ≡ Ok (model result) };
 
@@ -59,7 +61,8 @@ pub trait FamilyNla: Nla + PartialEq + MadeWith<Global> + Drop + Sized {
     /// Fails only if an allocation fails, and never for a value that needs no memory.
     fn own_accepted(alloc: Global, nla: &NlaBuffer<'_>) -> Result<Self, AllocError>
         // decode_attribute set attribute: `Ok` of the decoded value, or `Err` of the value's error.
-        // buffered_attribute: the type field and the value of `nla`.
+        // buffered_attribute: the type field and the value of `nla`. model: the result as a decoded
+        // value.
         requires { IsOk (decode_attribute attribute_set (buffered_attribute nla.now)) }
         ensures equal { IfOk result (λ own.
             decode_attribute attribute_set (buffered_attribute nla.now) ≡ Ok (model own)) }
@@ -70,8 +73,8 @@ pub trait FamilyNla: Nla + PartialEq + MadeWith<Global> + Drop + Sized {
             → decode_attribute attribute_set (buffered_attribute nla.now) ≡ Ok value
             → NeedsNoMemoryIn attribute_set value → IsOk result };
 
-    /// Returns an attribute that decodes to the same value. Fails only if an allocation fails, and
-    /// never for a value that needs no memory.
+    /// Returns an owned copy, which decodes to the same value (`model`). Fails only if an
+    /// allocation fails, and never for a value that needs no memory.
     fn copy_nla(&self, alloc: Global) -> Result<Self, AllocError>
         ensures equal { IfOk result (λ copy. model copy ≡ model self.now) }
         // NeedsNoMemoryIn set value: the value is stored without an allocation.

@@ -66,8 +66,8 @@ pub fn u16s_be_at<const N: usize>(bytes: &[u8], offset: usize) -> [u16; N]
 pub fn write_bytes(bytes: &[u8], buffer: &mut [u8])
     requires { length buffer.old ≡ length bytes.now }
     ensures written { buffer.new ≡ bytes.now }
-    // Each byte is below 256. This is so for all Rust values. It is stated for the laws, in two
-    // forms: of all elements of the list, and of each index.
+    // Each byte is below 256. This is so for all Rust values; the codec laws require it. It is
+    // stated in two forms: of all elements of the list, and of each index.
     ensures in_range { AreAllBelow (2 ^ 8) bytes.now }
     ensures by_index { IsBytes bytes.now }
 {
@@ -82,7 +82,7 @@ pub fn write_u16s(numbers: &[u16], buffer: &mut [u8])
     requires { length buffer.old ≡ 2 * length numbers.now }
     // flat_map (little_bytes 2) numbers: each number in 2 bytes, little-endian, concatenated.
     ensures written { buffer.new ≡ flat_map (little_bytes 2) numbers.now }
-    // Each number fits 2 bytes. This is so for all Rust values; it is stated for the laws.
+    // Each number fits 2 bytes. This is so for all Rust values; the codec laws require it.
     ensures in_range { AreAllBelow (2 ^ 16) numbers.now }
 {
     LittleEndian::write_u16_into(numbers, buffer);
@@ -96,7 +96,7 @@ pub fn write_u32s(numbers: &[u32], buffer: &mut [u8])
     requires { length buffer.old ≡ 4 * length numbers.now }
     // flat_map (little_bytes 4) numbers: each number in 4 bytes, little-endian, concatenated.
     ensures written { buffer.new ≡ flat_map (little_bytes 4) numbers.now }
-    // Each number fits 4 bytes. This is so for all Rust values; it is stated for the laws.
+    // Each number fits 4 bytes. This is so for all Rust values; the codec laws require it.
     ensures in_range { AreAllBelow (2 ^ 32) numbers.now }
 {
     LittleEndian::write_u32_into(numbers, buffer);
@@ -110,7 +110,7 @@ pub fn write_u64s(numbers: &[u64], buffer: &mut [u8])
     requires { length buffer.old ≡ 8 * length numbers.now }
     // flat_map (little_bytes 8) numbers: each number in 8 bytes, little-endian, concatenated.
     ensures written { buffer.new ≡ flat_map (little_bytes 8) numbers.now }
-    // Each number fits 8 bytes. This is so for all Rust values; it is stated for the laws.
+    // Each number fits 8 bytes. This is so for all Rust values; the codec laws require it.
     ensures in_range { AreAllBelow (2 ^ 64) numbers.now }
 {
     LittleEndian::write_u64_into(numbers, buffer);
@@ -124,10 +124,10 @@ pub fn write_u16s_be(numbers: &[u16], buffer: &mut [u8])
     requires { length buffer.old ≡ 2 * length numbers.now }
     // flat_map (big_bytes 2) numbers: each number in 2 bytes, big-endian, concatenated.
     ensures written { buffer.new ≡ flat_map (big_bytes 2) numbers.now }
-    // Each number fits 2 bytes. This is so for all Rust values; it is stated for the laws.
+    // Each number fits 2 bytes. This is so for all Rust values; the codec laws require it.
     ensures in_range { AreAllBelow (2 ^ 16) numbers.now }
-    // The same by index, for proofs about single ports; `slice_index` is 0 for an index past the
-    // end.
+    // The same by index, for proofs about one port of a socket id; `slice_index` is 0 for an index
+    // past the end.
     ensures by_index { (index : ℕ) → slice_index numbers.now index < 2 ^ 16 }
 {
     BigEndian::write_u16_into(numbers, buffer);

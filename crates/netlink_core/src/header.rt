@@ -70,8 +70,9 @@ impl NetlinkHeader {
         requires { length buffer.old ≡ NETLINK_HEADER_LEN }
         // header_bytes header: the 16 bytes of the five fields.
         ensures written { buffer.new ≡ header_bytes self.now }
-        // FitFields fields numbers: each number fits the width of its field. This is so for all
-        // Rust values; it is stated for the laws.
+        // FitFields fields numbers: each number fits the width of its field. Here they are the five
+        // of the header (`header_fields`, `header_values`). This is so for all Rust values; the
+        // codec laws require it.
         ensures in_range { FitFields header_fields (header_values self.now) }
     {
         let (length, after_length) = buffer.split_at_mut(4);

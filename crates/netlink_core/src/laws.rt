@@ -56,9 +56,10 @@ pub fn split_is_as_stated()
     // SplitsIntoAttributes bytes attributes rest: the bytes are these attributes, each with its
     // padding, and then `rest`; here `rest` is empty.
     ensures none { (bytes : List ℕ) → SplitsIntoAttributes bytes [] [] ↔ (bytes ≡ []) }
-    // header_and_value a: the bytes of the attribute without its padding. FitsHeaderFields a: its
-    // type field has 16 bits, and its value at most 65,531 bytes. padding_length n: the number of
-    // bytes, 0 to 3, from `n` to the next multiple of 4.
+    // The first attribute is `a`; `padding` and `rest` follow it. header_and_value a: the bytes of
+    // `a` without its padding. FitsHeaderFields a: its type field has 16 bits, and its value at
+    // most 65,531 bytes. padding_length n: the number of bytes, 0 to 3, from `n` to the next
+    // multiple of 4.
     ensures some { (bytes : List ℕ) (a : Attribute) (later : List Attribute)
         → SplitsIntoAttributes bytes (a ∷ later) [] ↔ ((padding rest : List ℕ)
         × (bytes ≡ header_and_value a ++ (padding ++ rest))
@@ -80,9 +81,9 @@ pub fn one_list_of_attributes()
 /// This requires that each type field has 16 bits, and that each value fits its length field
 /// (`FitsHeaderFields`).
 pub fn serialized_attributes_are_split()
-    // AllByRecursion P list: `P` holds of each element. flat_map attribute_bytes attributes: the
-    // bytes of all attributes, each with zeros as its padding. SplitsIntoAttributes bytes
-    // attributes rest: the bytes are these attributes, each with its padding, and then `rest`.
+    // SplitsIntoAttributes bytes attributes rest: the bytes are these attributes, each with its
+    // padding, and then `rest`. flat_map attribute_bytes attributes: the bytes of all attributes,
+    // each with zeros as its padding.
     ensures { (attributes : List Attribute) → AllByRecursion FitsHeaderFields attributes
         → (rest : List ℕ)
         → SplitsIntoAttributes (flat_map attribute_bytes attributes ++ rest) attributes rest }
@@ -114,15 +115,15 @@ pub fn attributes_take_memory() -> bool
     DefaultNla::TAKES_MEMORY
 }
 
-/// For any set of attribute types, `value_of_kind` finds a value of a kind in the set under this
-/// kind (`own`). It finds no value, and no raw attribute, under another kind than its own
-/// (`other`). It finds nothing under a kind that is not in the set (`none`).
+/// `value_of_kind`, which returns the value of a decoded attribute if it has a given kind, finds a
+/// value under its own kind, if this is in the set of attribute types (`own`). It finds no value,
+/// and no raw attribute, under another kind than its own (`other`), and nothing under a kind that
+/// is not in the set (`none`).
 pub fn value_is_found_under_its_kind<T: FamilyNla>()
-    // T.attribute_set: the set of attribute types. kind_numbers set: the kinds in the set.
     // ValueOfKind set k: the type of the values of the kind `k`; raw attributes if `k` is not in
-    // the set. value_as_decoded set k x: `x`, a value of the kind `k`, as a decoded value.
-    // value_of_kind set k v: `Some` of the value if the decoded value `v` is of the kind `k`, else
-    // `None`.
+    // the set. kind_numbers set: the kinds in the set. value_of_kind set k v: `Some` of the value
+    // if the decoded value `v` is of the kind `k`, else `None`. value_as_decoded set k x: `x`, a
+    // value of the kind `k`, as a decoded value, which is a value of any kind.
     ensures own { (k : ℕ) (x : ValueOfKind T.attribute_set k)
         → Contains (kind_numbers T.attribute_set) k
         → value_of_kind T.attribute_set k (value_as_decoded T.attribute_set k x) ≡ Some x }
@@ -132,21 +133,21 @@ pub fn value_is_found_under_its_kind<T: FamilyNla>()
         → ¬ Contains (kind_numbers T.attribute_set) k → value_of_kind T.attribute_set k v ≡ None }
 {}
 
-/// If the iterator ends without an error, it has yielded the attributes that the bytes are split
-/// into. If it yields an error, it has yielded the attributes before this error, and no bytes are
-/// left.
+/// If a [`NlasIterator`](crate::NlasIterator) ends without an error, it has yielded the attributes
+/// that its bytes are split into. If it yields an error, it has yielded the attributes before this
+/// error, and no bytes are left.
 pub fn complete_iteration_is_the_split()
-    // Drains step walk items: calling `next` on `walk` until it returns `None` yields `items`. Here
-    // each item is an `Ok` (`items_without_errors`). unread_bytes walk: the bytes that the iterator
-    // has not read yet. buffered_attribute: the type field and the value of a yielded attribute.
+    // Drains step walk items: calling `next` on `walk` until it returns `None` yields `items`, each
+    // an `Ok` (`items_without_errors`). YieldsAttribute: what one call of `next` does.
     // SplitsIntoAttributes bytes attributes rest: the bytes are these attributes, each with its
-    // padding, and then `rest`, here nothing.
+    // padding, and then `rest`, here nothing. unread_bytes walk: the bytes that `walk` has not read
+    // yet. buffered_attribute: the type field and the value of an attribute that it yields.
     ensures ended { (walk : NlasIterator) (yielded : List NlaBuffer)
         → Drains YieldsAttribute walk (items_without_errors yielded)
         → SplitsIntoAttributes (unread_bytes walk) (map buffered_attribute yielded) [] }
     // YieldsThen step walk items item last: `next` yields `items` and then `item`, here the error
     // `e`, after which the iterator is `last`. SplitsUntilError has_error bytes attributes e: the
-    // bytes are these attributes, and then at least one byte more, whose error is `e`, here an
+    // bytes are these attributes, and then others, at least one, whose error is `e`. Here it is an
     // error of the framing (`IsFramingError`): values are not checked.
     ensures error { (walk last : NlasIterator) (yielded : List NlaBuffer) (e : DecodeError)
         → YieldsThen YieldsAttribute walk (items_without_errors yielded) (Some (Err e)) last
@@ -154,14 +155,16 @@ pub fn complete_iteration_is_the_split()
         × (unread_bytes last ≡ []) }
 {}
 
-/// Returns `v == w`, which is true if and only if the two values of an `Exact` type are the same.
+/// Returns `v == w`, which is true if and only if the two values are the same: a type is `Exact` if
+/// its `==` compares the whole value.
 pub fn equal_iff_same<T: Exact>(v: &T, w: &T) -> bool
     ensures { IsTrue result ↔ (v.now ≡ w.now) }
 {
     v == w
 }
 
-/// Returns a clone. Cloning a value of an `Exact` type succeeds, and the clone is the same value.
+/// Returns a clone. Cloning succeeds, and the clone is the same value: a type is `Exact` if its
+/// `clone` copies the whole value and never fails.
 pub fn copies_are_the_same<T: Exact>(v: &T) -> Result<T, AllocError>
     ensures ok { IsOk result }
     ensures same { IfOk result (λ copy. copy ≡ v.now) }
@@ -282,7 +285,7 @@ pub fn equal_messages_iff_equivalent<I: HasCodec<Param = u16>>()
 {}
 
 /// Two byte strings that have canonical forms have the same one if and only if they are equivalent
-/// (member `equivalent` of the codec of netlink messages).
+/// (member `equivalent` of `netlink_codec`, the codec of netlink messages).
 pub fn same_message_bytes_iff_equivalent<I: HasCodec<Param = u16>>()
     // HasCanonicalForm codec param bytes form: the bytes parse as a writable value, which
     // serializes to `form`.
@@ -296,10 +299,10 @@ pub fn same_message_bytes_iff_equivalent<I: HasCodec<Param = u16>>()
 /// if it is in normal form. This requires that the message is writable and in range. It holds for
 /// any function `type_of` that maps inner messages to types.
 pub fn finalized_message_round_trips<I: HasCodec<Param = u16>>()
+    // netlink_codec I.codec: the codec of netlink messages with inner messages of the type `I`.
     // finalized_header bytes type_of m: the header of the message `m`, with the length and the type
     // that the message has. `bytes` and `type_of` return the bytes and the message type of an inner
-    // message. netlink_codec I.codec: the codec of netlink messages with inner messages of the type
-    // `I`.
+    // message.
     ensures { (type_of : I.codec.Value → ℕ) (m : NetlinkMessageModel I.codec.Value)
         → (netlink_codec I.codec).is_in_range m → (netlink_codec I.codec).is_writable m
         → (m.header ≡ finalized_header I.codec.serialized type_of m)

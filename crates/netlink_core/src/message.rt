@@ -1,4 +1,5 @@
-//! Netlink messages: a header and a payload.
+//! Netlink messages: a header and a payload. `I` is the type of the inner messages, those of a
+//! protocol. `I.codec` is their codec, and `I.model` returns the model of one.
 
 ghost use Rattle.std.specs.Prelude.{◌≡◌, ◌≢◌, ◌≤◌, ◌<◌, ◌↔◌, length, IfOk, IfErr, IsTrue, ⊤};
 ghost use Rattle.netlink_core.specs.Bytes.{HoldsAtStart};
@@ -97,8 +98,8 @@ pub trait NetlinkSerializable: HasCodec<Param = u16> {
         // bytes.
         ensures written { HoldsAtStart
             (Self.codec.serialized (Self.model self.now)) buffer.old buffer.new }
-        // Each number of the message fits its field. This is so for all Rust values; it is stated
-        // for the laws.
+        // Each number of the message fits its field. This is so for all Rust values; the codec laws
+        // require it.
         ensures in_range { Self.codec.is_in_range (Self.model self.now) };
 }
 
@@ -276,8 +277,8 @@ impl<I: NetlinkSerializable> NetlinkPayload<I> {
         // bytes.
         ensures written { HoldsAtStart (payload_bytes I.codec.serialized
             (owned_payload_model I.model self.now)) buffer.old buffer.new }
-        // Each number of the inner message fits its field. This is so for all Rust values; it is
-        // stated for the laws.
+        // Each number of the inner message fits its field. This is so for all Rust values; the
+        // codec laws require it.
         ensures in_range { HoldsOfInnerMessage I.codec.is_in_range
             (owned_payload_model I.model self.now) }
     {
@@ -292,8 +293,8 @@ impl<I: NetlinkSerializable> NetlinkPayload<I> {
 }
 
 impl<I: NetlinkDeserializable> NetlinkPayload<I> {
-    // Parses the payload under the header's type. Fails with the error of the inner message, or
-    // with `Memory` if an allocation fails. An `NLMSG_NOOP` never fails.
+    // Parses the payload, which has these bytes, under the header's type. Fails with the error of
+    // the inner message, or with `Memory` if an allocation fails. An `NLMSG_NOOP` never fails.
     fn read(alloc: Global, header: &NetlinkHeader, bytes: &[u8]) -> Result<Self, DecodeError>
         // ParsesAsPayload parses bytes type payload: the bytes parse as the payload under this
         // message type; `parses` says how an inner message parses. owned_payload_model model
@@ -458,8 +459,8 @@ impl<I: NetlinkSerializable> NetlinkMessage<I> {
         // bytes.
         ensures written { HoldsAtStart ((netlink_codec I.codec).serialized
             (netlink_message_model I.model self.now)) buffer.old buffer.new }
-        // Each number of the message fits its field. This is so for all Rust values; it is stated
-        // for the laws.
+        // Each number of the message fits its field. This is so for all Rust values; the codec laws
+        // require it.
         ensures in_range { (netlink_codec I.codec).is_in_range
             (netlink_message_model I.model self.now) }
     {

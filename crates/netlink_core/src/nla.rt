@@ -1,4 +1,5 @@
-//! Serializing attributes, and the attribute of any kind.
+//! Serializing attributes, and the attribute of any kind. `T.attribute` is the attribute that a
+//! value of the type `T` serializes as.
 
 ghost use Rattle.std.specs.Prelude.{◌≡◌, ◌≤◌, ◌<◌, ◌↔◌, replicate, length, [], map, true, refl};
 ghost use Rattle.std.specs.Prelude.{IsTrue, IsOk, IfOk, SomeIff, ⊤, ◌^◌};
@@ -48,8 +49,8 @@ pub trait Nla {
         // HoldsAtStart bytes old new: `new` is `bytes`, and then what `old` has after as many
         // bytes.
         ensures written { HoldsAtStart (attribute self.now).value buffer.old buffer.new }
-        // Each number of the value fits its field. This is so for all Rust values; it is stated for
-        // the laws.
+        // Each number of the value fits its field. This is so for all Rust values; the codec laws
+        // require it.
         ensures in_range { in_range self.now };
 
     /// Returns whether the value has at most 65,531 bytes, so that its length fits the length
@@ -94,7 +95,7 @@ pub fn emit_nla<T: Nla>(nla: &T, buffer: &mut [u8])
     // HoldsAtStart bytes old new: `new` is `bytes`, and then what `old` has after as many bytes.
     ensures written { HoldsAtStart (attribute_bytes (T.attribute nla.now)) buffer.old buffer.new }
     // The type field has 16 bits, and each number of the value fits its field. This is so for all
-    // Rust values; it is stated for the laws.
+    // Rust values; the codec laws require it.
     ensures kind { (T.attribute nla.now).type_word < 2 ^ 16 }
     ensures in_range { T.in_range nla.now }
 {
@@ -191,8 +192,8 @@ pub fn emit_nlas<T: Nla>(nlas: &[T], buffer: &mut [u8])
     // HoldsAtStart bytes old new: `new` is `bytes`, and then what `old` has after as many bytes.
     ensures written { HoldsAtStart (flat_map attribute_bytes (map T.attribute nlas.now)) buffer.old
         buffer.new }
-    // Each number of each value fits its field. This is so for all Rust values; it is stated for
-    // the laws.
+    // Each number of each value fits its field. This is so for all Rust values; the codec laws
+    // require it.
     ensures in_range { AllByRecursion T.in_range nlas.now }
 {
     let mut at = 0;

@@ -53,7 +53,7 @@ pub trait Record: Exact + Sized {
         requires { length buffer.old ≡ length (record_bytes layout self.now) }
         ensures written { buffer.new ≡ record_bytes layout self.now }
         // IsInRange layout value: arrays have their lengths, and each number fits its field. This
-        // is so for all Rust values; it is stated for the laws.
+        // is so for all Rust values; the codec laws require it.
         ensures in_range { IsInRange layout self.now };
 
     // RecordLaws layout: the codec laws hold, and bytes parse as a value if and only if they
@@ -214,6 +214,7 @@ impl<T, const N: usize> RecordBuffer<T, N> {
 
     /// Returns the bytes.
     pub fn to_bytes(&self) -> [u8; N]
+        // In contracts `self.now` is the list of the bytes (`impl Model` above).
         ensures { result ≡ self.now }
     {
         self.bytes
@@ -222,7 +223,7 @@ impl<T, const N: usize> RecordBuffer<T, N> {
 
 impl<T: Fills<N>, const N: usize> From<&T> for RecordBuffer<T, N> {
     // The buffer contains the bytes that the record serializes to. Each number of the record fits
-    // its field (`IsInRange`): this is so for all Rust values, and is stated for the laws.
+    // its field (`IsInRange`): this is so for all Rust values, and the codec laws require it.
     ghost from_gives = { λ value buffer. (buffer ≡ record_bytes T.layout value.now)
         × IsInRange T.layout value.now };
 

@@ -27,8 +27,8 @@ pub trait HasCodec: PartialEq + Sized {
     // not messages.
     ghost serialized_type: { codec.Value → ℕ };
 
-    /// Returns whether both values have the same model. This is what `==` returns, with the
-    /// contract that `==` of a type parameter does not have.
+    /// Returns `self == other`: whether both values have the same model. Code that is generic over
+    /// the type calls this function, since `==` of a type parameter has no such contract.
     fn equal(&self, other: &Self) -> bool
         ensures { IsTrue result ↔ (model self.now ≡ model other.now) }
     {
@@ -131,11 +131,12 @@ pub trait HasCodec: PartialEq + Sized {
 
 /// A type that is parsed and serialized as its codec states.
 pub trait Wire: HasCodec + Readable + Emitable {
-    /// Parses a value, or returns the first decode error. Fails with `Memory` only if a parser of
-    /// the type can (`TAKES_MEMORY`), and if the bytes have a value that needs to allocate.
+    /// Parses a value with the parameter of the codec, or returns the first decode error. Fails
+    /// with `Memory` only if a parser of the type can (`TAKES_MEMORY`), and if the bytes have a
+    /// value that needs to allocate.
     fn read(alloc: Global, bytes: &[u8], param: Self::Param) -> Result<Self, DecodeError>
-        // Each byte is below 256. This is so for all Rust values. It is about an input, and is
-        // stated for the proofs of callers.
+        // Each byte is below 256. This is so for all Rust values; it is stated for the proofs of
+        // callers, as the codec laws require it.
         ensures in_range { IsBytes bytes.now }
         // The bytes parse as the model of the value, by the codec and with this parameter.
         ensures value { IfOk result (λ v. Self.codec.parses bytes.now param (Self.model v)) }
@@ -149,15 +150,16 @@ pub trait Wire: HasCodec + Readable + Emitable {
             × ¬ Self.codec.needs_no_memory v) };
 
     /// Returns the canonical form of the bytes, as [`canonical`](crate::canonical) does: the bytes
-    /// that their value serializes to. Fails with `Refused` and the first decode error, with
-    /// `Unwritable` if the value is not writable, and with `Memory` only if it is.
+    /// that their value serializes to. `param` is the parameter of the codec. Fails with `Refused`
+    /// and the first decode error, with `Unwritable` if the value is not writable, and with
+    /// `Memory` only if it is.
     // A type that has a view serializes the view. Parsing an owned value could run out of memory,
     // even if the value is not writable.
     fn rewrite(alloc: Global, bytes: &[u8], param: Self::Param) -> Result<Vec<u8>, CanonError>
     where
         Self: Drop,
-        // Each byte is below 256. This is so for all Rust values. It is about an input, and is
-        // stated for the proofs of callers.
+        // Each byte is below 256. This is so for all Rust values; it is stated for the proofs of
+        // callers, as the codec laws require it.
         ensures in_range { IsBytes bytes.now }
         // HasCanonicalForm codec param bytes form: the bytes parse as a writable value, which
         // serializes to `form`.
@@ -182,11 +184,11 @@ pub trait Wire: HasCodec + Readable + Emitable {
 /// Serializes a value to a new vector of exactly its bytes. Fails with `Unwritable` if the value is
 /// not writable, and with `Memory` only if it is.
 pub fn write_new<T: Emitable>(alloc: Global, value: &T) -> Result<Vec<u8>, CanonError>
-    // T.bytes value: the bytes that the value serializes to.
+    // T.writable value: the value is writable. T.bytes value: the bytes that it serializes to.
     ensures written { IfOk result (λ written.
         T.writable value.now × (written.items ≡ T.bytes value.now)) }
-    // Each number of the value fits its field. This is so for all Rust values; it is stated for the
-    // laws.
+    // Each number of the value fits its field. This is so for all Rust values; the codec laws
+    // require it.
     ensures in_range { OnOk result (T.in_range value.now) }
     // SerializingFails is_writable value error: `Unwritable` if the value is not writable, `Memory`
     // if it is.

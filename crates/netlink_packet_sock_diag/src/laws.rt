@@ -1,4 +1,9 @@
 //! Properties of replies, messages and dumps. Proof only: the contracts state the properties.
+//!
+//! In the contracts `message_codec` is the codec of messages without a netlink header, and
+//! `netlink_message_codec` that of netlink messages. The item of a message is its payload or its
+//! decode error, by `IsItemOf message_codec`. `IsBytes b`: each number of the list `b` is below
+//! 256.
 
 ghost use Rattle.std.specs.Prelude.{Bool, true, ◌≡◌, ◌≢◌, ◌%◌, ◌↔◌, ◌⊎◌, ◌++◌, ℕ, List, [], ◌∷◌};
 ghost use Rattle.std.specs.Prelude.{length, count_by, IsTrue, Result, IfOk, IsOk, map, None};
@@ -72,11 +77,12 @@ pub fn reply_lengths_are_multiples_of_four()
         → length (response_bytes inet_response_spec v) % 4 ≡ 0 }
 {}
 
-/// Of four tests, one for each kind, that state whether a message has this kind, exactly one is
-/// true. The methods `is_..` of a message are such tests.
+/// Of the four methods `is_inet_request`, `is_inet_response`, `is_unix_request` and
+/// `is_unix_response`, exactly one returns `true` for a message. The contract states this of any
+/// four tests, one for each kind, of which each is true if and only if the message has its kind.
 pub fn one_kind()
-    // `kind_of m`: the kind of the message. `tests kind`: the result of the test for this kind.
-    // `count_by tests kinds`: the number of kinds of the list whose test is true.
+    // `tests kind`: the result of the test for this kind. `kind_of m`: the kind of the message.
+    // `count_by tests kinds`: the number of kinds in the list whose test is true.
     ensures { (m : Message) (tests : MessageKind → Bool)
         → ((kind : MessageKind) → IsTrue (tests kind) ↔ (kind_of m ≡ kind))
         → count_by tests (inet_request ∷ inet_response ∷ unix_request ∷ unix_response ∷ []) ≡ 1 }
@@ -91,8 +97,8 @@ pub fn parsed_messages_are_replies()
         ⊎ (kind_of m ≡ unix_response) }
 {}
 
-/// The message type of each request to close sockets is 21 (`SOCK_DESTROY`), and that of each
-/// message is 20 (`SOCK_DIAG_BY_FAMILY`). Returns both.
+/// Returns the message types of a request to close sockets and of a message: 21 (`SOCK_DESTROY`)
+/// and 20 (`SOCK_DIAG_BY_FAMILY`), whatever they contain.
 pub fn serialized_message_types(destroy: &DestroyRequest, message: &SockDiagMessage) -> (u16, u16)
     ensures { result ≡ (SOCK_DESTROY, SOCK_DIAG_BY_FAMILY) }
 {
@@ -102,9 +108,9 @@ pub fn serialized_message_types(destroy: &DestroyRequest, message: &SockDiagMess
     )
 }
 
-/// The constant `TAKES_MEMORY` is true for owned replies about UNIX sockets, for owned replies
-/// about IPv4 and IPv6 sockets, and for messages: their parsers may need to allocate. Returns these
-/// three constants.
+/// Returns the constant `TAKES_MEMORY` of owned replies about UNIX sockets, of owned replies about
+/// IPv4 and IPv6 sockets, and of messages. It is true for all three: their parsers may need to
+/// allocate.
 pub fn parsers_take_memory() -> (bool, bool, bool)
     ensures { result ≡ (true, true, true) }
 {
@@ -119,13 +125,11 @@ pub fn parsers_take_memory() -> (bool, bool, bool)
 /// `UnknownMessageType(21)`: the request is serialized under the type 21, and messages are parsed
 /// only under the type 20.
 pub fn finalized_destroy_is_rejected()
-    // `header`: the header before `finalize`, each number of which fits its field
-    // (`FitFields header_fields (header_values header)`). `netlink_message_codec`: the codec of a
-    // netlink header and the payload after it. `finalized_header bytes type_of message`: the header
-    // of the message, with the length of the message and the type of its payload; `bytes` and
-    // `type_of` are those of an inner message. Here the type is `destroys.serialized_type inner`,
-    // which is `SOCK_DESTROY`. `serialized` and `rejects`: the bytes that the message serializes to
-    // are rejected.
+    // `FitFields header_fields (header_values header)`: each number of the header fits its field.
+    // `is_writable`: the message with this header and this inner message is writable.
+    // `finalized_header bytes type_of message`: the header as `finalize` sets it, with the length
+    // of the message and the type of its payload. `bytes` and `type_of` are those of an inner
+    // message; here the type is `SOCK_DESTROY`.
     ensures { (header : NetlinkHeader) (inner : Message)
         → FitFields header_fields (header_values header)
         → netlink_message_codec.is_writable
@@ -145,10 +149,11 @@ pub fn finalized_destroy_is_rejected()
 /// its header fits its field. This is about a Rust value, `message`;
 /// [`finalized_destroy_is_rejected`] is about models.
 pub fn finalized_destroy_value_is_rejected()
-    // `destroys.model`: the message that the request contains. `destroys.serialized_type` is
-    // `SOCK_DESTROY`. `netlink_message_model destroys.model message`: the header of `message`, and
-    // the model of its payload. `finalized_header`: the header with the length of the message and
-    // this type. `rest`: the bytes after the message.
+    // `FitFields header_fields (header_values h)`: each number of the header `h` fits its field.
+    // `netlink_message_model destroys.model message`: the header of `message`, and the model of its
+    // payload; `destroys.model` is the message that a request contains. `finalized_header ..`: the
+    // header as `finalize` sets it, with the length of the message and the type
+    // `destroys.serialized_type`, which is `SOCK_DESTROY`. `rest`: the bytes after the message.
     ensures { (message : NetlinkMessage SockDiagDestroy) (destroy : SockDiagDestroy) (rest : List ℕ)
         → message.payload ≡ InnerMessage destroy
         → FitFields header_fields (header_values message.header)
@@ -164,9 +169,8 @@ pub fn finalized_destroy_value_is_rejected()
 /// Each input has one netlink message of sock_diag(7) at its start, or one decode error. It does
 /// not have both, and the error is not `Memory`.
 pub fn one_message_or_error()
-    // `IsBytes b`: each number of the list `b` is below 256. `parses b tt v`: the bytes `b` start
-    // with the message `v`. `rejects b tt e`: they are rejected with the error `e`. `tt`: the codec
-    // has no parameter.
+    // `parses b tt v`: the bytes `b` start with the message `v`. `rejects b tt e`: they are
+    // rejected with the error `e`. `tt`: the codec has no parameter.
     ensures is_total { (b : List ℕ) → IsBytes b
         → ((v : NetlinkMessageModel Message) × netlink_message_codec.parses b tt v)
         ⊎ ((e : DecodeError) × netlink_message_codec.rejects b tt e) }
@@ -235,9 +239,10 @@ pub fn finalized_message_round_trips()
 /// Each list of items has exactly one dump, given the messages before: the messages after it and
 /// its end.
 pub fn items_have_one_dump()
-    // `DumpOfItems (before, items) (after, end)`: a dump with the messages `before` that reads
-    // these items has then the messages `after` and the end `end`. `Item Message`: the payload of a
-    // message, or its error.
+    // `Item Message`: the payload of a message, or its error. `end`: a state and an error number,
+    // or the decode error that ended the dump. `DumpOfItems (before, items) (after, end)`: a dump
+    // with the messages `before` that reads these items has then the messages `after` and the end
+    // `end`.
     ensures some { (before : List Message) (items : List (Item Message))
         → (after : List Message) × (end : Result DumpStatus DecodeError)
         × DumpOfItems (before, items) (after, end) }
@@ -251,9 +256,10 @@ pub fn items_have_one_dump()
 /// The dump over two concatenated lists of items is the dump over the first list if that list ends
 /// the dump. Otherwise it is continued over the second list.
 pub fn dump_over_concatenation()
-    // The dump over the items `first` has the messages `middle` and the end `middle_end`.
-    // `Ok (Reading, None)`: no item of `first` ends the dump. Then `second` continues it from the
-    // messages `middle`. Otherwise the items `second` change nothing.
+    // `DumpOfItems (before, items) (after, end)`: a dump with the messages `before` that reads
+    // these items has then the messages `after` and the end `end`. Over `first` these are `middle`
+    // and `middle_end`. `Ok (Reading, None)`: no item of `first` ends the dump. Then `second`
+    // continues it from the messages `middle`. Otherwise `second` changes nothing.
     ensures { (before after : List Message) (end : Result DumpStatus DecodeError)
         (first second : List (Item Message))
         → (DumpOfItems (before, first ++ second) (after, end)
@@ -263,13 +269,12 @@ pub fn dump_over_concatenation()
         ⊎ ((middle_end ≢ Ok (Reading, None)) × (after ≡ middle) × (end ≡ middle_end))))) }
 {}
 
-/// Two lists of datagrams with the same items have the same dump, from any messages before
-/// (`HaveSameItems`: the items of all datagrams of a list, concatenated in order).
+/// Two lists of datagrams with the same items have the same dump, from any messages before.
 pub fn same_items_have_one_dump()
-    // `DumpOfDatagrams item_is (before, datagrams) (after, end)`: a dump with the messages `before`
-    // that reads these datagrams has then the messages `after` and the end `end`. `item_is message
-    // item`: the item of a message; `IsItemOf message_codec` is the item of a `DumpReader`.
-    // `IsBytes b`: each number of the list `b` is below 256.
+    // `HaveSameItems item_is datagrams others`: the items of all datagrams of a list, concatenated
+    // in order, are the same for both lists. `DumpOfDatagrams item_is (before, datagrams) (after,
+    // end)`: a dump with the messages `before` that reads these datagrams has then the messages
+    // `after` and the end `end`. `item_is message item`: the item of a message.
     ensures { (datagrams others : List (List ℕ)) → AllByRecursion IsBytes datagrams
         → HaveSameItems (IsItemOf message_codec) datagrams others
         → (before after : List Message) (end : Result DumpStatus DecodeError)
@@ -286,6 +291,8 @@ pub fn same_items_have_one_dump()
 /// the messages `after` and the end `end`, the other has it too.
 pub fn split_changes_no_dump()
     // `AreSplitsOfSameBytes datagrams others`: both are such splits of the same bytes.
+    // `DumpOfDatagrams item_is (before, datagrams) (after, end)`: a dump with the messages `before`
+    // that reads these datagrams has then the messages `after` and the end `end`.
     ensures { (datagrams others : List (List ℕ)) → AreSplitsOfSameBytes datagrams others
         → (before after : List Message) (end : Result DumpStatus DecodeError)
         → DumpOfDatagrams (IsItemOf message_codec) (before, datagrams) (after, end)
@@ -299,19 +306,19 @@ pub fn split_changes_no_dump()
 /// The result of feeding a `DumpReader` does not depend on the split into datagrams. `datagrams`
 /// and `others` are two ways to split the same bytes into datagrams, in each of which every
 /// datagram except the last consists of complete messages with all their padding. Each is fed to a
-/// new reader, and no allocation fails (`NewReaderReaches`).
+/// new reader, and no allocation fails.
 ///
 /// - `same`: both readers have the same progress: messages, state, error number, interruption.
 /// - `whole`: feeding all bytes as one datagram leads to this progress, too.
 pub fn split_changes_no_feed()
+    // `AreSplitsOfSameBytes datagrams others`: both are such splits of the same bytes.
     // `NewReaderReaches item_is datagrams progress`: feeding these datagrams in order to a new
-    // reader leads to this progress, and no allocation fails. `IsCompleteSplit datagrams`: every
-    // datagram except the last consists of complete messages with all their padding.
-    // `concat datagrams`: all bytes.
+    // reader leads to this progress, and no allocation fails.
     ensures same { (datagrams others : List (List ℕ)) → AreSplitsOfSameBytes datagrams others
         → (progress other : DumpProgress Message)
         → NewReaderReaches (IsItemOf message_codec) datagrams progress
         → NewReaderReaches (IsItemOf message_codec) others other → progress ≡ other }
+    // `IsCompleteSplit datagrams`: it is one such split. `concat datagrams`: all of its bytes.
     ensures whole { (datagrams : List (List ℕ)) → IsCompleteSplit datagrams
         → (progress : DumpProgress Message)
         → NewReaderReaches (IsItemOf message_codec) datagrams progress
@@ -319,13 +326,12 @@ pub fn split_changes_no_feed()
 {}
 
 /// A new `DumpReader` has the same messages, state and error number after two lists of datagrams
-/// with the same items (`HaveSameItems`), if no allocation fails. An item is the payload of a
-/// message, or its error. Whether the dump is interrupted may differ, because an item does not
-/// contain the flags of its message.
+/// with the same items, if no allocation fails. Whether the dump is interrupted may differ, because
+/// an item does not contain the flags of its message.
 pub fn same_items_change_no_feed()
-    // `NewReaderReaches item_is datagrams progress`: feeding these datagrams in order to a new
-    // reader leads to this progress, and no allocation fails. `IsBytes b`: each number of the list
-    // `b` is below 256.
+    // `HaveSameItems item_is datagrams others`: the items of all datagrams of a list, concatenated
+    // in order, are the same for both lists. `NewReaderReaches item_is datagrams progress`: feeding
+    // these datagrams in order to a new reader leads to this progress, and no allocation fails.
     ensures { (datagrams others : List (List ℕ)) → AllByRecursion IsBytes datagrams
         → AllByRecursion IsBytes others
         → HaveSameItems (IsItemOf message_codec) datagrams others
@@ -339,20 +345,22 @@ pub fn same_items_change_no_feed()
 /// The result of feeding a `LossyDump` does not depend on the split into datagrams. `datagrams` and
 /// `others` are two ways to split the same bytes into datagrams, in each of which every datagram
 /// except the last consists of complete messages with all their padding. Each is fed to a new
-/// reader, and no allocation fails (`NewReaderReaches`).
+/// reader, and no allocation fails.
 ///
 /// - `same`: both readers have the same progress: entries, state, error number, interruption.
 /// - `whole`: feeding all bytes as one datagram leads to this progress, too.
 pub fn split_changes_no_lossy_feed()
+    // `AreSplitsOfSameBytes datagrams others`: both are such splits of the same bytes.
     // `NewReaderReaches item_is datagrams progress`: feeding these datagrams in order to a new
     // reader leads to this progress, and no allocation fails. `HasLossyEntry message_codec`: the
     // item of a message in a `LossyDump`, in which an inner message is its value or its decode
-    // error. `concat datagrams`: all bytes.
+    // error.
     ensures same { (datagrams others : List (List ℕ)) → AreSplitsOfSameBytes datagrams others
         → (progress other : DumpProgress (Result Message DecodeError))
         → NewReaderReaches (HasLossyEntry message_codec) datagrams progress
         → NewReaderReaches (HasLossyEntry message_codec) others other
         → progress ≡ other }
+    // `IsCompleteSplit datagrams`: it is one such split. `concat datagrams`: all of its bytes.
     ensures whole { (datagrams : List (List ℕ)) → IsCompleteSplit datagrams
         → (progress : DumpProgress (Result Message DecodeError))
         → NewReaderReaches (HasLossyEntry message_codec) datagrams progress
@@ -360,15 +368,15 @@ pub fn split_changes_no_lossy_feed()
         progress }
 {}
 
-/// The result of feeding a `LossyDump` is the same for two lists of datagrams with the same items
-/// (`HaveSameItems`). Each list is fed to a new reader. If no allocation fails, both have the same
-/// entries, state and error number. Whether a dump is interrupted may differ, because an item does
-/// not contain the flags of its message.
+/// A new `LossyDump` has the same entries, state and error number after two lists of datagrams with
+/// the same items, if no allocation fails. Whether the dump is interrupted may differ, because an
+/// item does not contain the flags of its message.
 pub fn same_items_change_no_lossy_feed()
-    // `NewReaderReaches item_is datagrams progress`: feeding these datagrams in order to a new
-    // reader leads to this progress, and no allocation fails. `HasLossyEntry message_codec`: the
-    // item of a message in a `LossyDump`. The messages of its progress are its entries. `IsBytes
-    // b`: each number of the list `b` is below 256.
+    // `HaveSameItems item_is datagrams others`: the items of all datagrams of a list, concatenated
+    // in order, are the same for both lists. `HasLossyEntry message_codec`: the item of a message
+    // in a `LossyDump`. `NewReaderReaches item_is datagrams progress`: feeding these datagrams in
+    // order to a new reader leads to this progress, and no allocation fails. Its messages are the
+    // entries.
     ensures { (datagrams others : List (List ℕ)) → AllByRecursion IsBytes datagrams
         → AllByRecursion IsBytes others
         → HaveSameItems (HasLossyEntry message_codec) datagrams others
@@ -384,11 +392,10 @@ pub fn same_items_change_no_lossy_feed()
 /// it is the error of bytes that are not a message.
 pub fn lossy_dump_keeps_messages()
     // `DumpOfDatagrams item_is (before, datagrams) (after, end)`: a dump with the messages `before`
-    // that reads these datagrams has then the messages `after` and the end `end`. With `IsItemOf
-    // message_codec` it is the dump of a `DumpReader`, with `HasLossyEntry message_codec` that of a
-    // `LossyDump`. `as_lossy_entries`: messages as entries of a `LossyDump`. `Ok end`: no decode
-    // error ends the dump; `end` is its state, which is `Reading` if no message ends it, and its
-    // error number.
+    // that reads these datagrams has then the messages `after` and the end `end`. It is the dump of
+    // a `DumpReader` with `IsItemOf message_codec`, and of a `LossyDump` with `HasLossyEntry
+    // message_codec`. `Ok end`: no decode error ends it; `end` is its state, `Reading` if no
+    // message ends it, and its error number. `as_lossy_entries`: messages as entries.
     ensures kept { (datagram : List ℕ) (before after : List Message) (end : DumpStatus)
         → DumpOfDatagrams (IsItemOf message_codec) (before, datagram ∷ []) (after, Ok end)
         → DumpOfDatagrams (HasLossyEntry message_codec)
@@ -400,22 +407,23 @@ pub fn lossy_dump_keeps_messages()
         → (rest : List ℕ) × IsMessageError rest error }
 {}
 
-/// If an iterator yields exactly `given`, and then `None`, these are the items of the bytes that
-/// were left to it, in order: the payload or the error of each message, and last the error of bytes
-/// that are not a message, if there are such bytes.
+/// If the iterator `walk`, a `DumpViews`, yields exactly `given` until its end, these are the items
+/// of the bytes that were left to it, in order: the payload or the error of each message, and last
+/// the error of bytes that are not a message, if there are such bytes.
 pub fn complete_views_are_the_datagram()
-    // `Drains step walk given`: calling `next` on the iterator `walk` until it returns `None`
-    // yields the list `given`. `unread_views walk`: the bytes that were left to it.
-    // `AreItemsOf is bytes items`: these are the items of the bytes. `map_ok payload_view_model`:
-    // the model of a yielded payload, or its error.
+    // `Drains step walk given`: calling `next` on `walk` until it returns `None` yields the list
+    // `given`. `YieldsPayloadView`: what one call of `next` does. `AreItemsOf item_is bytes items`:
+    // these are the items of the bytes. `unread_views walk`: the bytes left to `walk`. `map_ok
+    // payload_view_model`: the model of a yielded payload, or its error.
     ensures { (walk : DumpViews) (given : List (Result PayloadView DecodeError))
         → Drains YieldsPayloadView walk given
         → AreItemsOf (IsItemOf message_codec) (unread_views walk)
         (map (map_ok payload_view_model) given) }
 {}
 
-/// The clone of a `DumpViews` has the same bytes left, and cloning does not fail.
+/// Returns the clone of a `DumpViews`, which has the same bytes left. Cloning does not fail.
 pub fn copied_views<'a>(walk: &BorrowedPayloads<'a>) -> Result<BorrowedPayloads<'a>, AllocError>
+    // `unread_views walk`: the bytes left to an iterator.
     ensures ok { IsOk result }
     ensures same { IfOk result
         (λ copy. unread_views copy ≡ unread_views walk.now) }
@@ -423,7 +431,8 @@ pub fn copied_views<'a>(walk: &BorrowedPayloads<'a>) -> Result<BorrowedPayloads<
     walk.clone()
 }
 
-/// `==` of two borrowed replies about UNIX sockets is true if and only if their models are equal.
+/// Returns `left == right`: whether the models of two borrowed replies about UNIX sockets are
+/// equal.
 pub fn equal_unix_views(left: &UnixResponseView<'_>, right: &UnixResponseView<'_>) -> bool
     // `view_model`: the header, and what each attribute decodes to, in order.
     ensures { IsTrue result ↔ (view_model left.now ≡ view_model right.now) }
@@ -431,8 +440,8 @@ pub fn equal_unix_views(left: &UnixResponseView<'_>, right: &UnixResponseView<'_
     left == right
 }
 
-/// `==` of two borrowed replies about IPv4 or IPv6 sockets is true if and only if their models are
-/// equal.
+/// Returns `left == right`: whether the models of two borrowed replies about IPv4 or IPv6 sockets
+/// are equal.
 pub fn equal_inet_views(left: &InetResponseView<'_>, right: &InetResponseView<'_>) -> bool
     // `view_model`: the header, and what each attribute decodes to, in order.
     ensures { IsTrue result ↔ (view_model left.now ≡ view_model right.now) }
@@ -440,7 +449,7 @@ pub fn equal_inet_views(left: &InetResponseView<'_>, right: &InetResponseView<'_
     left == right
 }
 
-/// `==` of two borrowed payloads is true if and only if their models are equal.
+/// Returns `left == right`: whether the models of two borrowed payloads are equal.
 #[tactic(auto, using(crate::specs::laws::EqualMessage::view_equal))]
 pub fn equal_payload_views(left: &BorrowedPayload<'_>, right: &BorrowedPayload<'_>) -> bool
     // `payload_view_model`: the payload, with the model of its inner message or with its bytes.
@@ -449,7 +458,7 @@ pub fn equal_payload_views(left: &BorrowedPayload<'_>, right: &BorrowedPayload<'
     left == right
 }
 
-/// `==` of two borrowed messages is true if and only if their models are equal.
+/// Returns `left == right`: whether the models of two borrowed messages are equal.
 #[tactic(auto, using(crate::specs::laws::EqualMessage::view_equal))]
 pub fn equal_message_views(left: &SockDiagView<'_>, right: &SockDiagView<'_>) -> bool
     // `message_view_model`: the kind of the message, and the model of its reply.
@@ -458,7 +467,8 @@ pub fn equal_message_views(left: &SockDiagView<'_>, right: &SockDiagView<'_>) ->
     left == right
 }
 
-/// The clone of a borrowed reply about a UNIX socket has the same model, and cloning does not fail.
+/// Returns the clone of a borrowed reply about a UNIX socket. It has the same model, and cloning
+/// does not fail.
 pub fn copied_unix_view<'a>(view: &UnixResponseView<'a>) -> Result<UnixResponseView<'a>, AllocError>
     // `view_model`: the header, and what each attribute decodes to, in order.
     ensures ok { IsOk result }
@@ -467,8 +477,8 @@ pub fn copied_unix_view<'a>(view: &UnixResponseView<'a>) -> Result<UnixResponseV
     view.clone()
 }
 
-/// The clone of a borrowed reply about an IPv4 or IPv6 socket has the same model, and cloning does
-/// not fail.
+/// Returns the clone of a borrowed reply about an IPv4 or IPv6 socket. It has the same model, and
+/// cloning does not fail.
 pub fn copied_inet_view<'a>(view: &InetResponseView<'a>) -> Result<InetResponseView<'a>, AllocError>
     // `view_model`: the header, and what each attribute decodes to, in order.
     ensures ok { IsOk result }
@@ -477,26 +487,28 @@ pub fn copied_inet_view<'a>(view: &InetResponseView<'a>) -> Result<InetResponseV
     view.clone()
 }
 
-/// The clone of a borrowed message has the same model, and cloning does not fail.
+/// Returns the clone of a borrowed message. It has the same model, and cloning does not fail.
 pub fn copied_message_view<'a>(view: &SockDiagView<'a>) -> Result<SockDiagView<'a>, AllocError>
+    // `message_view_model`: the kind of the message, and the model of its reply.
     ensures ok { IsOk result }
     ensures same { IfOk result (λ copy. message_view_model copy ≡ message_view_model view.now) }
 {
     view.clone()
 }
 
-/// The clone of a borrowed payload has the same model, and cloning does not fail.
+/// Returns the clone of a borrowed payload. It has the same model, and cloning does not fail.
 pub fn copied_payload_view<'a>(
     view: &BorrowedPayload<'a>,
 ) -> Result<BorrowedPayload<'a>, AllocError>
+    // `payload_view_model`: the payload, with the model of its inner message or with its bytes.
     ensures ok { IsOk result }
     ensures same { IfOk result (λ copy. payload_view_model copy ≡ payload_view_model view.now) }
 {
     view.clone()
 }
 
-/// A borrowed reply about a UNIX socket serializes to the same bytes as the owned reply. Both or
-/// neither are writable.
+/// Returns the owned reply about a UNIX socket. It serializes to the same bytes as the borrowed
+/// reply, and both or neither are writable. Fails only if an allocation fails.
 pub fn owned_unix_view(
     view: &UnixResponseView<'_>,
     alloc: Global,
@@ -513,8 +525,8 @@ pub fn owned_unix_view(
     view.to_owned(alloc)
 }
 
-/// A borrowed reply about an IPv4 or IPv6 socket serializes to the same bytes as the owned reply.
-/// Both or neither are writable.
+/// Returns the owned reply about an IPv4 or IPv6 socket. It serializes to the same bytes as the
+/// borrowed reply, and both or neither are writable. Fails only if an allocation fails.
 pub fn owned_inet_view(
     view: &InetResponseView<'_>,
     alloc: Global,
@@ -531,8 +543,8 @@ pub fn owned_inet_view(
     view.to_owned(alloc)
 }
 
-/// A borrowed message serializes to the same bytes as the owned message. Both or neither are
-/// writable.
+/// Returns the owned message. It serializes to the same bytes as the borrowed message, and both or
+/// neither are writable. Fails only if an allocation fails.
 pub fn owned_message_view(
     view: &SockDiagView<'_>,
     alloc: Global,

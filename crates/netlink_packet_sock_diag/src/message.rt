@@ -1,4 +1,9 @@
 //! The messages of sock_diag(7): requests, replies, and the request to close sockets.
+//!
+//! In the contracts `message_model` and `message_view_model` are the model of an owned and of a
+//! borrowed message: its kind and the model of its content. `kind_of` is this kind, one of
+//! `inet_request`, `inet_response`, `unix_request` and `unix_response`. `message_codec` is the
+//! codec of messages, whose parameter is the message type.
 
 ghost use Rattle.std.specs.Prelude.{◌≡◌, ◌≢◌, ◌<◌, ◌↔◌, ◌⊎◌, true, refl, IsTrue, IfOk, IfErr, IsOk};
 ghost use Rattle.std.specs.Prelude.{Ok, Err, if◌then◌else◌};
@@ -35,8 +40,6 @@ impl SockDiagMessage {
 
     /// Returns whether the message is a request for IPv4 or IPv6 sockets.
     pub fn is_inet_request(&self) -> bool
-        // `message_model`: the kind of the message and the model of its content. `kind_of`: this
-        // kind, one of `inet_request`, `inet_response`, `unix_request` and `unix_response`.
         ensures { IsTrue result ↔ (kind_of (message_model self.now) ≡ inet_request) }
     {
         matches!(self, SockDiagMessage::InetRequest(_))
@@ -74,7 +77,7 @@ impl SockDiagMessage {
     /// Returns an equal message. Fails only if an allocation fails. Cloning a request never fails.
     pub fn clone(&self, alloc: Global) -> Result<Self, AllocError>
         ensures equal { IfOk result (λ copy. message_model copy ≡ message_model self.now) }
-        // Never fails for a message of one of the two kinds of requests.
+        // Never fails for one of the two kinds of requests.
         ensures of_request { (kind_of (message_model self.now) ≡ inet_request)
             ⊎ (kind_of (message_model self.now) ≡ unix_request) → IsOk result }
     {
@@ -95,7 +98,8 @@ impl SockDiagMessage {
         })
     }
 
-    // Parses the payload under the message type, or returns its first error.
+    // Parses the payload under the message type, or returns its first error. Returns `Memory` if an
+    // allocation fails.
     fn read_under(
         alloc: Global,
         payload: &[u8],
@@ -295,6 +299,7 @@ impl SockDiagDestroy {
     /// Returns the request to close the sockets that `message` selects or describes. It contains
     /// `message` unchanged.
     pub fn new(message: SockDiagMessage) -> Self
+        // `result.0`: the message that the request contains.
         ensures { message_model result.0 ≡ message_model message }
     {
         SockDiagDestroy(message)

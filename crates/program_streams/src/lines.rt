@@ -1,4 +1,8 @@
 //! Reads lines from an input, and writes their answers to an output.
+//!
+//! `A` is a protocol ([`LineAnswers`]): `A.is_answer line text` says that the text is an answer to
+//! the line, and `A.good` which answers are good. `S.answer` has the answer to each line
+//! ([`RunStart`]). `W.held` are the bytes that have been written to an output, if they are known.
 
 ghost use Rattle.std.specs.Prelude.{◌≡◌, ◌⊎◌, ◌+◌, ◌-◌, ◌^◌, ◌≤◌, ℕ, Bool, true, List, [], ◌++◌};
 ghost use Rattle.std.specs.Prelude.{IfOk, IfErr, OnErr, OnOk, Option, None, Some, vec_capacity, ⊤};
@@ -101,7 +105,8 @@ pub trait RunStart {
     // The bytes that had been written when the run started, if they are known, else `None`.
     ghost held_before: { Option (List ℕ) };
 
-    // The answer to each line.
+    // The answer to each line. A protocol (`LineAnswers`) states which answers a line may have; a
+    // contract of a run needs a function.
     ghost answer: { List ℕ → List ℕ };
 }
 
@@ -134,7 +139,7 @@ pub trait PromptRead {
         // - SplitsIntoLines: it is the complete lines `whole`, and then `line`, which has no line
         //   feed yet.
         // - Appends: the answers to `whole`, each with a line feed, were written since the start
-        //   (`S.held_before`). W.held output: the bytes that have been written.
+        //   (`S.held_before`).
         // If it was not known at the start what was left to read, or what had been written
         // (`None`), `Consumes` or `Appends` requires nothing.
         requires { (whole : List (List ℕ)) × (text : List ℕ)
@@ -196,10 +201,12 @@ pub trait LineAnswers {
         bytes: &mut Vec<u8>,
         line: &[u8],
     ) -> Result<Self::Request, AllocError>
+        // parses_as line request bytes: the line parses as this request, about these bytes.
         ensures { IfOk result (λ request. parses_as line.now request bytes.new.items) };
 
-    /// Appends the answer to the text, and returns whether it is a good one. Fails only if an
-    /// allocation fails; then a part of the answer may have been appended.
+    /// Appends the answer to a request about these bytes to the text, and returns whether it is a
+    /// good one. Fails only if an allocation fails; then a part of the answer may have been
+    /// appended.
     fn push_answer(
         alloc: Global,
         text: &mut Vec<u8>,
@@ -258,7 +265,7 @@ pub fn serve<S: RunStart, A: LineAnswers, R: PromptRead, W: Sink>(
     // (`R.reads input.old 0`).
     requires start { (S.left_before ≡ R.left input.old) × (S.held_before ≡ W.held output.old)
         × R.reads input.old 0 }
-    // AnswersEachLine is_answer answer: `answer line`, which `S` has, is an answer to each line.
+    // AnswersEachLine: by the protocol, `S.answer line` is an answer to each line.
     requires right { AnswersEachLine A.is_answer S.answer }
     // If the run succeeds, and it is known which bytes are left to read, none are left.
     ensures ended { OnOk result (IsAtEnd (R.left input.new)) }
@@ -302,8 +309,9 @@ pub fn serve<S: RunStart, A: LineAnswers, R: PromptRead, W: Sink>(
     Err(RunError::Read)
 }
 
-/// Answers the last line, if it has bytes but no line feed, and flushes. Returns whether its answer
-/// is a good one, or `true` if there is no such line. No answers may be buffered.
+/// Answers the last line, which is in `buffers.line` and has no line feed, and flushes. Returns
+/// whether the answer is a good one. If the line is empty, there is no answer, and the result is
+/// `true`. No answers may be buffered.
 ///
 /// Fails with `Write` if a write or the flush failed; then a prefix of the answer has been written.
 /// Fails with `Memory` if an allocation failed; then nothing has been written.
@@ -312,13 +320,13 @@ fn finish<S: RunStart, A: LineAnswers, W: Sink>(
     buffers: &mut LineBuffers,
     output: &mut W,
 ) -> Result<bool, RunError>
-    // AnswersEachLine is_answer answer: `answer line` is an answer to each line.
+    // AnswersEachLine: by the protocol, `S.answer line` is an answer to each line.
     requires { (buffers.old.answers.items ≡ []) × AnswersEachLine A.is_answer S.answer }
-    // all_lines [] rest: the list of the last line `rest`, or the empty list if it has no bytes; no
-    // complete lines are left (`[]`). answer_lines answer lines: the answers to the lines, each
-    // followed by a line feed. WritesText held held' text result: the text was written if the step
-    // succeeded, else a prefix of it or nothing. all_answers_good good answer lines: each of these
-    // answers is a good one.
+    // WritesText held held' text result: the text was written if the step succeeded, else a prefix
+    // of it or nothing. answer_lines answer lines: each answer, followed by a line feed. all_lines
+    // whole rest: the complete lines, of which none are left (`[]`), and the last line `rest`,
+    // unless it is empty. all_answers_good good answer lines: whether each of these answers is a
+    // good one.
     ensures written { WritesText (W.held output.old) (W.held output.new)
         (answer_lines S.answer (all_lines [] buffers.old.line.items)) result }
     ensures judged { IfOk result (λ is_good.
@@ -334,19 +342,18 @@ fn finish<S: RunStart, A: LineAnswers, W: Sink>(
     Ok(is_good)
 }
 
-/// Appends the answer to the last line, if it has bytes but no line feed, to the buffer of answers,
-/// which must be empty. Returns whether it is a good one, or `true` if there is no such line. Fails
-/// only if an allocation fails.
+/// Appends the answer to the last line, which is in `buffers.line` and has no line feed, to the
+/// buffer of answers, which must be empty. Returns whether the answer is a good one. If the line is
+/// empty, there is no answer, and the result is `true`. Fails only if an allocation fails.
 fn end_last_line<S: RunStart, A: LineAnswers>(
     alloc: Global,
     buffers: &mut LineBuffers,
 ) -> Result<bool, AllocError>
-    // AnswersEachLine is_answer answer: `answer line` is an answer to each line.
+    // AnswersEachLine: by the protocol, `S.answer line` is an answer to each line.
     requires { (buffers.old.answers.items ≡ []) × AnswersEachLine A.is_answer S.answer }
-    // all_lines [] rest: the list of the last line `rest`, or the empty list if it has no bytes; no
-    // complete lines are left (`[]`). answer_lines answer lines: the answers to the lines, each
-    // followed by a line feed. all_answers_good good answer lines: each of these answers is a good
-    // one.
+    // answer_lines answer lines: each answer, followed by a line feed. all_lines whole rest: the
+    // complete lines, of which none are left (`[]`), and the last line `rest`, unless it is empty.
+    // all_answers_good good answer lines: whether each of these answers is a good one.
     ensures added { OnOk result (buffers.new.answers.items
         ≡ answer_lines S.answer (all_lines [] buffers.old.line.items)) }
     ensures judged { IfOk result (λ is_good.
@@ -367,8 +374,8 @@ fn answer_chunk<S: RunStart, A: LineAnswers>(
     buffers: &mut LineBuffers,
     chunk: &[u8],
 ) -> Result<bool, AllocError>
-    // HasNoLineFeed line: none of its bytes is a line feed. AnswersEachLine is_answer answer:
-    // `answer line` is an answer to each line.
+    // HasNoLineFeed line: none of its bytes is a line feed. AnswersEachLine: by the protocol,
+    // `S.answer line` is an answer to each line.
     requires { HasNoLineFeed buffers.old.line.items × AnswersEachLine A.is_answer S.answer }
     // AnswersChunk answer good before chunk after is_good: the lines that end in the chunk were
     // answered, and `is_good`, here the returned value, is whether each answer is a good one.
@@ -394,7 +401,7 @@ fn end_line<S: RunStart, A: LineAnswers>(
     buffers: &mut LineBuffers,
     end: &[u8],
 ) -> Result<bool, AllocError>
-    // AnswersEachLine is_answer answer: `answer line` is an answer to each line.
+    // AnswersEachLine: by the protocol, `S.answer line` is an answer to each line.
     requires { AnswersEachLine A.is_answer S.answer }
     // S.answer line: the answer to a line. with_line_feed text: the text followed by a line feed.
     ensures added { OnOk result ((buffers.new.line.items ≡ [])
@@ -423,6 +430,7 @@ fn read_line<A: LineAnswers>(
     buffers: &mut LineBuffers,
     end: &[u8],
 ) -> Result<A::Request, AllocError>
+    // A.parses_as line request bytes: the line parses as this request, about these bytes.
     ensures request { IfOk result (λ request.
         A.parses_as (buffers.old.line.items ++ end.now) request buffers.new.bytes.items) }
     // The buffer of answers is unchanged.
@@ -436,18 +444,19 @@ fn read_line<A: LineAnswers>(
     A::read_request(alloc, &mut buffers.bytes, buffers.line.as_slice())
 }
 
-/// Appends the answer to a request, followed by a line feed, and returns whether the answer is a
-/// good one. Fails only if an allocation fails.
+/// Appends the answer to a request about these bytes, followed by a line feed, and returns whether
+/// the answer is a good one. Fails only if an allocation fails.
 fn add_answer_line<S: RunStart, A: LineAnswers>(
     alloc: Global,
     answers: &mut Vec<u8>,
     request: A::Request,
     bytes: &[u8],
 ) -> Result<bool, AllocError>
-    // AnswersEachLine is_answer answer: `answer line` is an answer to each line.
+    // AnswersEachLine: by the protocol, `S.answer line` is an answer to each line.
     requires { AnswersEachLine A.is_answer S.answer }
     // The line of the request is not an argument. So this is stated for each line that parses as
-    // this request about these bytes. with_line_feed text: the text followed by a line feed.
+    // this request about these bytes (`A.parses_as`). with_line_feed text: the text followed by a
+    // line feed.
     ensures { IfOk result (λ is_good. (line : List ℕ) → A.parses_as line request bytes.now
         → (answers.new.items ≡ answers.old.items ++ with_line_feed (S.answer line))
         × (is_good ≡ A.good (S.answer line))) }

@@ -47,7 +47,7 @@ impl ReadError {
     /// Returns the text of the error.
     pub fn text(&self) -> ErrorText
         // error_text_bytes text: the bytes that the parts of the text are joined to.
-        // read_error_text error: the text for each error, as below.
+        // read_error_text error: the text for each error, as in the body.
         ensures { error_text_bytes result ≡ read_error_text self.now }
     {
         match self {
@@ -91,7 +91,7 @@ impl WriteError {
     /// Returns the text of the error.
     pub fn text(&self) -> ErrorText
         // error_text_bytes text: the bytes that the parts of the text are joined to.
-        // write_error_text error: the text for each error, as below.
+        // write_error_text error: the text for each error, as in the body.
         ensures { error_text_bytes result ≡ write_error_text self.now }
     {
         match self {
@@ -179,8 +179,8 @@ impl<R: Read> Source for R {
 /// not negative, else `Other`.
 fn read_outcome(outcome: io::Result<usize>) -> Result<usize, ReadError>
     // error_kind and raw_os_error: the kind and the number of the error of std. IsReadErrorFor
-    // is_directory number e: `e` is `Directory` if and only if the first argument holds, else the
-    // error with this number.
+    // is_directory number e: `e` is `Directory` if and only if the first argument holds, else `Os`
+    // with this number, or `Other`.
     ensures { MatchResult outcome (λ n. result ≡ Ok n)
         (λ error. (e : ReadError) × (result ≡ Err e)
         × IsReadErrorFor (error_kind error ≡ ErrorKind.IsADirectory) (raw_os_error error) e) }
@@ -196,7 +196,7 @@ fn read_outcome(outcome: io::Result<usize>) -> Result<usize, ReadError>
 /// negative, else `Other`.
 fn read_failure(kind: ErrorKind, code: Option<i32>) -> ReadError
     // IsReadErrorFor is_directory number e: `e` is `Directory` if and only if the first argument
-    // holds, else the error with this number.
+    // holds, else `Os` with this number, or `Other`.
     ensures { IsReadErrorFor (kind ≡ ErrorKind.IsADirectory) code result }
 {
     match (kind, error_number(code)) {
@@ -206,7 +206,8 @@ fn read_failure(kind: ErrorKind, code: Option<i32>) -> ReadError
     }
 }
 
-/// Returns the system's number of an error, if it has one that is not negative.
+/// Returns the system's number of an error, if it has one (`code`) that is not negative, else
+/// `None`.
 fn error_number(code: Option<i32>) -> Option<u32>
     // On the right is the definition of the same name, from `Option ℤ` to `Option ℕ`.
     ensures { result ≡ error_number code }
@@ -274,8 +275,8 @@ impl<W: Write> Sink for W {
 /// negative, else `Other`.
 fn write_outcome(outcome: io::Result<usize>) -> Result<usize, WriteError>
     // error_kind and raw_os_error: the kind and the number of the error of std. IsWriteErrorFor
-    // is_broken_pipe number e: `e` is `Closed` if and only if the first argument holds, else the
-    // error with this number.
+    // is_broken_pipe number e: `e` is `Closed` if and only if the first argument holds, else `Os`
+    // with this number, or `Other`.
     ensures { MatchResult outcome
         (λ n. result ≡ (if n == 0 then Err WriteError.Other else Ok n))
         (λ error. (e : WriteError) × (result ≡ Err e)
@@ -293,8 +294,8 @@ fn write_outcome(outcome: io::Result<usize>) -> Result<usize, WriteError>
 /// negative, else `Other`.
 fn flush_outcome(outcome: io::Result<()>) -> Result<(), WriteError>
     // error_kind and raw_os_error: the kind and the number of the error of std. IsWriteErrorFor
-    // is_broken_pipe number e: `e` is `Closed` if and only if the first argument holds, else the
-    // error with this number.
+    // is_broken_pipe number e: `e` is `Closed` if and only if the first argument holds, else `Os`
+    // with this number, or `Other`.
     ensures { MatchResult outcome (λ _. result ≡ Ok tt)
         (λ error. (e : WriteError) × (result ≡ Err e)
         × IsWriteErrorFor (error_kind error ≡ ErrorKind.BrokenPipe) (raw_os_error error) e) }
@@ -310,7 +311,7 @@ fn flush_outcome(outcome: io::Result<()>) -> Result<(), WriteError>
 /// not negative, else `Other`.
 fn write_failure(kind: ErrorKind, code: Option<i32>) -> WriteError
     // IsWriteErrorFor is_broken_pipe number e: `e` is `Closed` if and only if the first argument
-    // holds, else the error with this number.
+    // holds, else `Os` with this number, or `Other`.
     ensures { IsWriteErrorFor (kind ≡ ErrorKind.BrokenPipe) code result }
 {
     match (kind, error_number(code)) {
@@ -320,13 +321,14 @@ fn write_failure(kind: ErrorKind, code: Option<i32>) -> WriteError
     }
 }
 
-/// Writes all of `bytes`. Does not repeat a failed write: if one fails, a prefix of `bytes` has
-/// been written.
+/// Writes all of `bytes`. Fails with the error of the first write that fails, which is not
+/// repeated; then a prefix of `bytes` has been written.
 pub fn send<W: Sink>(output: &mut W, bytes: &[u8]) -> Result<(), WriteError>
     // Appends held held' bytes: the bytes were appended to what had been written (`W.held`), if
     // this was known, here all of `bytes`.
     ensures written { OnOk result (Appends (W.held output.old) (W.held output.new) bytes.now) }
-    // W.failed: a write failed with this error. A prefix of the bytes was written (`sent`).
+    // W.failed output e: a write failed with this error. A prefix of the bytes was written
+    // (`sent`).
     ensures stopped { IfErr result (λ e. W.failed output.new e
         × (sent : List ℕ) × (unsent : List ℕ) × (bytes.now ≡ sent ++ unsent)
         × Appends (W.held output.old) (W.held output.new) sent) }

@@ -38,9 +38,8 @@ impl<'a> AnySockDiagView<'a> {
     /// fewer bytes than the header has, else the first error of bytes that do not split into
     /// attributes. Otherwise [`SockDiagView::parse`] parses the bytes, and its error is returned.
     pub fn parse(payload: &'a [u8], message_type: u16) -> Result<AnySockDiagView<'a>, DecodeError>
-        // `any_view_model view`: the family and the value of the reply.
         // `ParsesAsAnyMessage b t message`: the bytes `b` of a message of type `t` parse as this
-        // message.
+        // message. `any_view_model view`: the family and the value of the reply.
         ensures value { IfOk result (λ view.
             ParsesAsAnyMessage payload.entry.now message_type (any_view_model view)) }
         // `IsRejectedAsAnyMessage b t e`: the codec of the family of the bytes rejects them with

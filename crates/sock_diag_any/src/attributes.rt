@@ -18,9 +18,9 @@ pub trait RawAttributes {
     /// Returns the value of the first attribute of the kind, whatever its two flag bits, or `None`
     /// if the reply has no such attribute.
     fn value_of(&self, kind: u16) -> Option<&[u8]>
+        // `option_copied result`: the bytes that the result borrows, as a list.
         // `first_value_of_kind kind attributes`: the value of the first of these attributes that
-        // has this kind, or `None`. `option_copied result`: the bytes that the result borrows, as a
-        // list.
+        // has this kind, or `None`.
         ensures { option_copied result ≡ first_value_of_kind kind (attributes self.now) };
 
     /// Parses the value of the first attribute of the kind, whatever its two flag bits, as a
@@ -60,13 +60,15 @@ impl<H: FamilyHeader> RawAttributes for RawReplyView<'_, H> {
     }
 }
 
-// Returns the value of the first attribute of the kind. It borrows from the reply's bytes.
+// Returns the value of the first attribute of the kind, or `None` if the reply has none. The value
+// borrows from the reply's bytes.
 pub(crate) fn value_in<'a, H: FamilyHeader>(
     reply: &RawReplyView<'a, H>,
     kind: u16,
 ) -> Option<&'a [u8]>
-    // `first_value_of_kind kind attributes`: the value of the first of these attributes that has
-    // this kind, or `None`. `(view_model reply.now).nlas`: the attributes of the reply.
+    // `option_copied result`: the bytes that the result borrows, as a list. `first_value_of_kind
+    // kind attributes`: the value of the first of these attributes that has this kind, or `None`.
+    // `(view_model reply.now).nlas`: the attributes of the reply.
     ensures { option_copied result ≡ first_value_of_kind kind (view_model reply.now).nlas }
 {
     let mut nlas = reply.attributes();

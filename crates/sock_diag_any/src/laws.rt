@@ -46,6 +46,7 @@ pub fn equal_any_views(left: &AnySockDiagView<'_>, right: &AnySockDiagView<'_>) 
 pub fn copied_raw_reply_view<'a, H: FamilyHeader>(
     view: &RawReplyView<'a, H>,
 ) -> Result<RawReplyView<'a, H>, AllocError>
+    // `view_model`: the header, and the raw attributes in order.
     ensures ok { IsOk result }
     ensures same { IfOk result (λ copy. view_model copy ≡ view_model view.now) }
 {
@@ -55,6 +56,7 @@ pub fn copied_raw_reply_view<'a, H: FamilyHeader>(
 /// Copies a borrowed reply of any family by `clone`, which never fails and returns a reply of the
 /// same family with the same header and the same attributes.
 pub fn copied_any_view<'a>(view: &AnySockDiagView<'a>) -> Result<AnySockDiagView<'a>, AllocError>
+    // `any_view_model`: the family, and the header and the attributes of the reply.
     ensures ok { IsOk result }
     ensures same { IfOk result (λ copy. any_view_model copy ≡ any_view_model view.now) }
 {

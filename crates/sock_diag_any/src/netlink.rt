@@ -1,6 +1,6 @@
 //! Borrowed replies about netlink sockets. Each getter returns or parses the value of the first
 //! attribute of its kind, whatever the two flag bits of its type field, and returns `None` if the
-//! reply has none.
+//! reply has none. In the contracts `(view_model reply.now).nlas` are the attributes of the reply.
 
 ghost use Rattle.std.specs.Prelude.{◌≡◌, option_copied};
 ghost use Rattle.sock_diag_values.specs.MemInfo.{mem_info};
@@ -35,8 +35,7 @@ impl FamilyHeader for NetlinkResponseHeader {
 /// fewer than 28 bytes, seven fields, is `BufferTooSmall`.
 pub fn memory(reply: &NetlinkResponseView<'_>) -> Result<Option<MemInfo>, DecodeError>
     // `record_of_kind layout kind attributes`: the record of this layout in the first attribute of
-    // this kind, `Ok None` if there is none, or the error. `(view_model reply.now).nlas`: the
-    // attributes of the reply.
+    // this kind, `Ok None` if there is none, or the error. `mem_info`: the layout of `MemInfo`.
     ensures { result ≡ record_of_kind mem_info NETLINK_DIAG_MEMINFO (view_model reply.now).nlas }
 {
     reply.record_of(NETLINK_DIAG_MEMINFO)
@@ -59,7 +58,7 @@ pub fn groups<'a>(reply: &NetlinkResponseView<'a>) -> Option<&'a [u8]>
 /// with this kind.
 pub fn flags(reply: &NetlinkResponseView<'_>) -> Result<Option<u32>, DecodeError>
     // `u32_of_kind kind attributes`: the little-endian `u32` in the first attribute of this kind,
-    // or the error.
+    // `Ok None` if there is none, or the error.
     ensures { result ≡ u32_of_kind NETLINK_DIAG_FLAGS (view_model reply.now).nlas }
 {
     reply.number_of(NETLINK_DIAG_FLAGS)

@@ -1,6 +1,6 @@
 //! Borrowed replies about packet sockets. Each getter returns or parses the value of the first
 //! attribute of its kind, whatever the two flag bits of its type field, and returns `None` if the
-//! reply has none.
+//! reply has none. In the contracts `(view_model reply.now).nlas` are the attributes of the reply.
 
 ghost use Rattle.std.specs.Prelude.{◌≡◌, option_copied};
 ghost use Rattle.sock_diag_values.specs.MemInfo.{mem_info};
@@ -39,7 +39,6 @@ fn ring(reply: &PacketResponseView<'_>, kind: u16) -> Result<Option<PacketRing>,
     // `parsed_of_kind parse kind attributes`: what `parse` returns for the value of the first
     // attribute of this kind, or `Ok None` if there is none. `parse_packet_ring kind value`: what
     // `PacketRing::parse` returns for the value and this kind, which only its error contains.
-    // `(view_model reply.now).nlas`: the attributes of the reply.
     ensures { result ≡ parsed_of_kind (parse_packet_ring kind) kind (view_model reply.now).nlas }
 {
     match reply.value_of(kind) {
@@ -51,9 +50,9 @@ fn ring(reply: &PacketResponseView<'_>, kind: u16) -> Result<Option<PacketRing>,
 /// Returns the settings of the socket, from the first `PACKET_DIAG_INFO`, or `None` if the reply
 /// has none. A value of fewer than 24 bytes is `BufferTooSmall`.
 pub fn info(reply: &PacketResponseView<'_>) -> Result<Option<PacketInfo>, DecodeError>
-    // `parse_packet_info value`: what `PacketInfo::parse` returns for the value. `parsed_of_kind
-    // parse kind attributes`: what `parse` returns for the value of the first attribute of this
-    // kind, or `Ok None` if there is none.
+    // `parsed_of_kind parse kind attributes`: what `parse` returns for the value of the first
+    // attribute of this kind, or `Ok None` if there is none. `parse_packet_info value`: what
+    // `PacketInfo::parse` returns for the value.
     ensures { result ≡ parsed_of_kind parse_packet_info PACKET_DIAG_INFO
         (view_model reply.now).nlas }
 {
@@ -103,7 +102,7 @@ pub fn send_ring(reply: &PacketResponseView<'_>) -> Result<Option<PacketRing>, D
 /// not split. A length other than 4 is `WrongLength` with this kind.
 pub fn fanout(reply: &PacketResponseView<'_>) -> Result<Option<u32>, DecodeError>
     // `u32_of_kind kind attributes`: the little-endian `u32` in the first attribute of this kind,
-    // or the error.
+    // `Ok None` if there is none, or the error.
     ensures { result ≡ u32_of_kind PACKET_DIAG_FANOUT (view_model reply.now).nlas }
 {
     reply.number_of(PACKET_DIAG_FANOUT)
@@ -114,7 +113,7 @@ pub fn fanout(reply: &PacketResponseView<'_>) -> Result<Option<u32>, DecodeError
 /// this kind.
 pub fn owner(reply: &PacketResponseView<'_>) -> Result<Option<u32>, DecodeError>
     // `u32_of_kind kind attributes`: the little-endian `u32` in the first attribute of this kind,
-    // or the error.
+    // `Ok None` if there is none, or the error.
     ensures { result ≡ u32_of_kind PACKET_DIAG_UID (view_model reply.now).nlas }
 {
     reply.number_of(PACKET_DIAG_UID)
@@ -125,7 +124,7 @@ pub fn owner(reply: &PacketResponseView<'_>) -> Result<Option<u32>, DecodeError>
 /// fewer than 28 bytes, seven fields, is `BufferTooSmall`.
 pub fn memory(reply: &PacketResponseView<'_>) -> Result<Option<MemInfo>, DecodeError>
     // `record_of_kind layout kind attributes`: the record of this layout in the first attribute of
-    // this kind, or the error.
+    // this kind, `Ok None` if there is none, or the error. `mem_info`: the layout of `MemInfo`.
     ensures { result ≡ record_of_kind mem_info PACKET_DIAG_MEMINFO (view_model reply.now).nlas }
 {
     reply.record_of(PACKET_DIAG_MEMINFO)

@@ -1,6 +1,6 @@
 //! Borrowed replies about XDP sockets. Each getter returns or parses the value of the first
 //! attribute of its kind, whatever the two flag bits of its type field, and returns `None` if the
-//! reply has none.
+//! reply has none. In the contracts `(view_model reply.now).nlas` are the attributes of the reply.
 
 ghost use Rattle.std.specs.Prelude.{◌≡◌};
 ghost use Rattle.sock_diag_values.specs.MemInfo.{mem_info};
@@ -35,8 +35,8 @@ impl FamilyHeader for XdpResponseHeader {
 /// or `None` if the reply has none. A value of fewer than 8 bytes is `BufferTooSmall`.
 pub fn info(reply: &XdpResponseView<'_>) -> Result<Option<XdpInfo>, DecodeError>
     // `parsed_of_kind parse kind attributes`: what `parse` returns for the value of the first
-    // attribute of this kind, or `Ok None` if there is none. `(view_model reply.now).nlas`: the
-    // attributes of the reply. `parse_xdp_info value`: what `XdpInfo::parse` returns for the value.
+    // attribute of this kind, or `Ok None` if there is none. `parse_xdp_info value`: what
+    // `XdpInfo::parse` returns for the value.
     ensures { result ≡ parsed_of_kind parse_xdp_info XDP_DIAG_INFO (view_model reply.now).nlas }
 {
     match reply.value_of(XDP_DIAG_INFO) {
@@ -49,7 +49,7 @@ pub fn info(reply: &XdpResponseView<'_>) -> Result<Option<XdpInfo>, DecodeError>
 /// or `None` if the reply has none. A length other than 4 is `WrongLength` with this kind.
 pub fn owner(reply: &XdpResponseView<'_>) -> Result<Option<u32>, DecodeError>
     // `u32_of_kind kind attributes`: the little-endian `u32` in the first attribute of this kind,
-    // or the error.
+    // `Ok None` if there is none, or the error.
     ensures { result ≡ u32_of_kind XDP_DIAG_UID (view_model reply.now).nlas }
 {
     reply.number_of(XDP_DIAG_UID)
@@ -60,7 +60,7 @@ pub fn owner(reply: &XdpResponseView<'_>) -> Result<Option<u32>, DecodeError>
 /// `WrongLength` with this kind.
 pub fn receive_ring(reply: &XdpResponseView<'_>) -> Result<Option<u32>, DecodeError>
     // `u32_of_kind kind attributes`: the little-endian `u32` in the first attribute of this kind,
-    // or the error.
+    // `Ok None` if there is none, or the error.
     ensures { result ≡ u32_of_kind XDP_DIAG_RX_RING (view_model reply.now).nlas }
 {
     reply.number_of(XDP_DIAG_RX_RING)
@@ -71,7 +71,7 @@ pub fn receive_ring(reply: &XdpResponseView<'_>) -> Result<Option<u32>, DecodeEr
 /// `WrongLength` with this kind.
 pub fn send_ring(reply: &XdpResponseView<'_>) -> Result<Option<u32>, DecodeError>
     // `u32_of_kind kind attributes`: the little-endian `u32` in the first attribute of this kind,
-    // or the error.
+    // `Ok None` if there is none, or the error.
     ensures { result ≡ u32_of_kind XDP_DIAG_TX_RING (view_model reply.now).nlas }
 {
     reply.number_of(XDP_DIAG_TX_RING)
@@ -80,9 +80,9 @@ pub fn send_ring(reply: &XdpResponseView<'_>) -> Result<Option<u32>, DecodeError
 /// Returns the shared memory area of the socket (UMEM), from the first `XDP_DIAG_UMEM`, or `None`
 /// if the reply has none. A value of fewer than 40 bytes is `BufferTooSmall`.
 pub fn shared_memory(reply: &XdpResponseView<'_>) -> Result<Option<XdpUmem>, DecodeError>
-    // `parse_xdp_umem value`: what `XdpUmem::parse` returns for the value. `parsed_of_kind parse
-    // kind attributes`: what `parse` returns for the value of the first attribute of this kind, or
-    // `Ok None` if there is none.
+    // `parsed_of_kind parse kind attributes`: what `parse` returns for the value of the first
+    // attribute of this kind, or `Ok None` if there is none. `parse_xdp_umem value`: what
+    // `XdpUmem::parse` returns for the value.
     ensures { result ≡ parsed_of_kind parse_xdp_umem XDP_DIAG_UMEM (view_model reply.now).nlas }
 {
     match reply.value_of(XDP_DIAG_UMEM) {
@@ -96,7 +96,7 @@ pub fn shared_memory(reply: &XdpResponseView<'_>) -> Result<Option<XdpUmem>, Dec
 /// fewer than 28 bytes, seven fields, is `BufferTooSmall`.
 pub fn memory(reply: &XdpResponseView<'_>) -> Result<Option<MemInfo>, DecodeError>
     // `record_of_kind layout kind attributes`: the record of this layout in the first attribute of
-    // this kind, or the error.
+    // this kind, `Ok None` if there is none, or the error. `mem_info`: the layout of `MemInfo`.
     ensures { result ≡ record_of_kind mem_info XDP_DIAG_MEMINFO (view_model reply.now).nlas }
 {
     reply.record_of(XDP_DIAG_MEMINFO)
@@ -105,9 +105,9 @@ pub fn memory(reply: &XdpResponseView<'_>) -> Result<Option<MemInfo>, DecodeErro
 /// Returns the counters of the socket, from the first `XDP_DIAG_STATS`, or `None` if the reply has
 /// none. A value of fewer than 48 bytes is `BufferTooSmall`.
 pub fn statistics(reply: &XdpResponseView<'_>) -> Result<Option<XdpStatistics>, DecodeError>
-    // `parse_xdp_statistics value`: what `XdpStatistics::parse` returns for the value.
     // `parsed_of_kind parse kind attributes`: what `parse` returns for the value of the first
-    // attribute of this kind, or `Ok None` if there is none.
+    // attribute of this kind, or `Ok None` if there is none. `parse_xdp_statistics value`: what
+    // `XdpStatistics::parse` returns for the value.
     ensures { result ≡ parsed_of_kind parse_xdp_statistics XDP_DIAG_STATS
         (view_model reply.now).nlas }
 {

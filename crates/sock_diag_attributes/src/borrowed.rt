@@ -1,4 +1,6 @@
-//! Traits of the parts that an attribute either owns or borrows.
+//! Traits of the parts that an attribute either owns or borrows. Their ghost members say what a
+//! part is: `attribute` is the type field and the value of an attribute, `name` a path or an
+//! abstract name, with its bytes as a list, and `numbers` the numbers of a list.
 
 ghost use Rattle.std.specs.List.{AllByRecursion};
 ghost use Rattle.std.specs.Prelude.{◌≡◌, ◌<◌, ◌^◌, ℕ, List, [], IfOk, IsOk, flat_map, vec_items};
@@ -33,6 +35,7 @@ pub(crate) trait OtherNla {
     /// Returns the owned attribute, with the same type field and value. Fails only if an allocation
     /// fails. An empty value needs no allocation.
     fn to_owned_nla(&self, alloc: Global) -> Result<DefaultNla, AllocError>
+        // `raw_attribute owned`: the type field and the value of the owned attribute.
         ensures equal { IfOk result (λ owned. raw_attribute owned ≡ attribute self.now) }
         // `needs_no_memory`: the call does not fail if the value has no bytes.
         ensures needs_no_memory { (attribute self.now).value ≡ [] → IsOk result };
@@ -86,6 +89,7 @@ pub(crate) trait BorrowName {
     /// Returns the name with borrowed bytes: a path for a path, and an abstract name for an
     /// abstract one, with the same bytes.
     fn borrow_name(&self) -> NameView<'_>
+        // `name_view_model view`: the borrowed name, with its bytes as a list.
         ensures { name_view_model result ≡ name self.now };
 }
 

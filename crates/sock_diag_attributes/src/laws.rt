@@ -19,9 +19,9 @@ use crate::unix::nlas::{
 use netlink_core::Readable;
 use std::alloc::AllocError;
 
-/// Returns `TAKES_MEMORY` of owned attributes of replies about UNIX sockets, of those of replies
-/// about IPv4 and IPv6 sockets, and of owned names. Each is true: the parsers of these types may
-/// allocate, and may return `Memory`.
+/// Returns `TAKES_MEMORY` of three types: owned attributes of replies about UNIX sockets, owned
+/// attributes of replies about IPv4 and IPv6 sockets, and owned names. Each is true: the parsers of
+/// these types may allocate, and may return `Memory`.
 pub fn parsers_take_memory() -> (bool, bool, bool)
     ensures { result ≡ (true, true, true) }
 {
@@ -37,6 +37,8 @@ pub fn parsers_take_memory() -> (bool, bool, bool)
 /// decoded value of a variant, which is `value` again. This determines what `unix_variant` returns.
 #[tactic(auto, using(crate::specs::laws::Variant::same_unix_variant))]
 pub fn unix_values_are_variants()
+    // `AttributeValue set`: the type of what attributes decode to by the set, here of the known
+    // attributes of these replies.
     ensures { (value : AttributeValue unix_attribute_set)
         → unix_variant_value (unix_variant value) ≡ value }
 {}
@@ -47,6 +49,8 @@ pub fn unix_values_are_variants()
 /// `inet_variant` returns.
 #[tactic(auto, using(crate::specs::laws::Variant::same_inet_variant))]
 pub fn inet_values_are_variants()
+    // `AttributeValue set`: the type of what attributes decode to by the set, here of the known
+    // attributes of these replies.
     ensures { (value : AttributeValue inet_attribute_set)
         → inet_variant_value (inet_variant value) ≡ value }
 {}

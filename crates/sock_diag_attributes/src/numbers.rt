@@ -1,4 +1,5 @@
-//! Little-endian numbers that make up the complete value of an attribute.
+//! Little-endian numbers that make up the complete value of an attribute. In the contracts
+//! `numbers_view_model view` are the numbers of a [`NumbersView`], as a list.
 
 ghost use Rattle.std.specs.List.{AllByRecursion};
 ghost use Rattle.std.specs.Prelude.{◌≡◌, ◌<◌, ◌^◌, ◌≤◌, ◌↔◌, ◌++◌, ◌%◌, [], length, drop};
@@ -16,7 +17,8 @@ use byteorder::{ByteOrder, LittleEndian};
 use netlink_core::DecodeError;
 use std::alloc::{AllocError, Global};
 
-/// Parses the number in exactly one byte. Returns `WrongLength` with the kind for any other length.
+/// Parses the number in exactly one byte, the value of an attribute of this kind. Returns
+/// `WrongLength` with the kind for any other length.
 pub(crate) fn exact_u8(kind: u16, value: &[u8]) -> Result<u8, DecodeError>
     // number_of_width (Some kind) width bytes: `Ok` of the little-endian number, or `Err` of the
     // error of another length, which contains the kind.
@@ -28,8 +30,8 @@ pub(crate) fn exact_u8(kind: u16, value: &[u8]) -> Result<u8, DecodeError>
     }
 }
 
-/// Parses the little-endian number in exactly four bytes. Returns `WrongLength` with the kind for
-/// any other length.
+/// Parses the little-endian number in exactly four bytes, the value of an attribute of this kind.
+/// Returns `WrongLength` with the kind for any other length.
 pub(crate) fn exact_u32(kind: u16, value: &[u8]) -> Result<u32, DecodeError>
     // number_of_width (Some kind) 4 bytes: `Ok` of the number in four bytes, or `Err` of the error
     // of another length, which contains the kind.
@@ -41,8 +43,8 @@ pub(crate) fn exact_u32(kind: u16, value: &[u8]) -> Result<u32, DecodeError>
     Ok(LittleEndian::read_u32(value))
 }
 
-/// Parses the flag in exactly one byte, which is true if the byte is not zero. Returns
-/// `WrongLength` with the kind for any other length.
+/// Parses the flag in exactly one byte, the value of an attribute of this kind. The flag is true if
+/// the byte is not zero. Returns `WrongLength` with the kind for any other length.
 pub(crate) fn exact_flag(kind: u16, value: &[u8]) -> Result<bool, DecodeError>
     // parse_flag kind bytes: `Ok` of the flag, or `Err` of the `WrongLength`.
     ensures { result ≡ parse_flag kind value.now }
@@ -50,8 +52,8 @@ pub(crate) fn exact_flag(kind: u16, value: &[u8]) -> Result<bool, DecodeError>
     Ok(exact_u8(kind, value)? != 0)
 }
 
-/// Parses the two little-endian numbers in exactly eight bytes. Returns `WrongLength` with the kind
-/// for any other length.
+/// Parses the two little-endian numbers in exactly eight bytes, the value of an attribute of this
+/// kind. Returns `WrongLength` with the kind for any other length.
 pub(crate) fn exact_u32_pair(kind: u16, value: &[u8]) -> Result<(u32, u32), DecodeError>
     // parse_number_pair kind bytes: `Ok` of the two numbers, or `Err` of the `WrongLength`.
     ensures { result ≡ parse_number_pair kind value.now }
@@ -94,9 +96,8 @@ impl<'a> NumbersView<'a> {
     /// Checks the length of the bytes, and returns a view of the numbers in them. Returns
     /// `NotMultipleOfFour` if the length is not a multiple of four.
     pub(crate) fn parse(bytes: &'a [u8]) -> Result<NumbersView<'a>, DecodeError>
-        // parse_numbers bytes: `Ok` of the list of numbers, or `Err` of the error. The result is
-        // the same, with the list as a view: `numbers_view_model` is the list of a view.
-        // `bytes.entry` is the argument as it was passed.
+        // `parse_numbers bytes`: `Ok` of the list of numbers, or `Err` of the error. `bytes.entry`:
+        // the argument as it was passed.
         ensures { MatchResult result
             (λ numbers. parse_numbers bytes.entry.now ≡ Ok (numbers_view_model numbers))
             (λ e. parse_numbers bytes.entry.now ≡ Err e) }
@@ -111,6 +112,7 @@ impl<'a> NumbersView<'a> {
     // length is a multiple of four. The length is not tested again.
     #[inline(always)]
     pub(crate) fn new(bytes: &'a [u8]) -> NumbersView<'a>
+        // `parse_numbers bytes`: `Ok` of the list of numbers, or `Err` of the error.
         requires { IsOk (parse_numbers bytes.now) }
         ensures { parse_numbers bytes.entry.now ≡ Ok (numbers_view_model result) }
     {
@@ -120,7 +122,6 @@ impl<'a> NumbersView<'a> {
     /// Returns the count of numbers.
     #[tactic(auto, using(crate::specs::laws::Number::count_of_numbers_in))]
     pub fn len(&self) -> usize
-        // numbers_view_model: the numbers, as a list.
         ensures { result ≡ length (numbers_view_model self.now) }
     {
         self.bytes.len() / 4
@@ -148,7 +149,7 @@ impl<'a> NumbersView<'a> {
 
     /// Returns an iterator that yields all of the numbers, in order.
     pub fn iter(&self) -> NumbersIterator<'a>
-        // numbers_left: the numbers that the iterator has not yielded yet.
+        // `numbers_left`: the numbers that the iterator has not yielded yet.
         ensures { numbers_left result ≡ numbers_view_model self.now }
     {
         NumbersIterator { remaining: *self }
@@ -210,9 +211,9 @@ impl<'a> Iterator for NumbersIterator<'a> {
     /// the upper bound.
     #[tactic(auto, using(crate::specs::laws::Number::count_of_numbers_in))]
     fn size_hint(&self) -> (usize, Option<usize>)
-        // `lower` and `upper` are the clauses that the trait requires of every iterator: `result.0`
-        // is at most the number of items left, and `result.1` is at least this number. Both follow
-        // from `exact`.
+        // `item_count numbers_left it`: the count of the numbers that were not yielded yet
+        // (`numbers_left`). `result.0` is at most this count (`IsWithinCount`), and `result.1` at
+        // least (`UpTo`): the trait requires both, and they follow from `exact`.
         ensures lower { IsWithinCount result.0 (item_count numbers_left self.now) }
         ensures upper { IfSome result.1 (UpTo (item_count numbers_left self.now)) }
         ensures exact { result ≡ (

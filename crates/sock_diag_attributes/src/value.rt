@@ -31,7 +31,8 @@ pub(crate) enum Value<'a> {
 }
 
 impl Value<'_> {
-    /// Returns the number of bytes that the value serializes to, without a header and padding.
+    /// Returns the number of bytes that the value serializes to (`value_bytes`), without a header
+    /// and padding.
     #[inline(always)]
     #[tactic(auto, using(crate::specs::laws::Number::length_numbers))]
     pub(crate) fn len(&self) -> usize

@@ -18,7 +18,8 @@ use sock_diag_replies::unix::nlas::NameView;
 /// decode error if the reply is invalid.
 pub fn is_bound_to(reply: &[u8], path: &[u8]) -> Result<bool, DecodeError>
     // `v`: the value that the reply parses as; its codec has no parameter (`tt`).
-    // `first_content_of`: the value of the first attribute of this kind.
+    // `first_content_of (value_of_kind set kind) v.nlas`: the value of the first attribute of this
+    // kind, or `None`. `Pathname path`: a name that is this pathname.
     ensures value { IfOk result (λ bound.
         (v : ReplyValue unix_response_spec)
         × (response_codec unix_response_spec).parses reply.now tt v

@@ -7,8 +7,9 @@ ghost use Rattle.netlink_core.specs.Attribute.{IsFramingError};
 use netlink_core::{DecodeError, NlasIterator};
 
 /// Returns the number of attributes that the bytes consist of, without parsing their values. If
-/// zero or more attributes (`before` in the contract) are followed by bytes that do not start with
-/// an attribute, returns the framing error of these bytes.
+/// attributes, or none, are followed by bytes that do not start with an attribute, returns the
+/// framing error of these bytes. In the contract the bytes are `attributes`, and no bytes are left
+/// (`[]`); or they are the attributes `before`, and then bytes with this error.
 #[tactic(auto, using(crate::proofs::Counted::counting_rules))]
 pub fn count_attributes(bytes: &[u8]) -> Result<usize, DecodeError>
     ensures count { IfOk result (λ count. (attributes : List Attribute)

@@ -66,10 +66,10 @@ impl From<DecodeError> for LinkError {
 ///   UTF-8, or an MTU that does not have four bytes. Or `e` is `Memory`, if an allocation for a
 ///   name failed.
 pub fn parse_link(alloc: Global, payload: &[u8]) -> Result<Link, LinkError>
-    // `found`: what each attribute decodes to (`decodes_link`), in order; the attributes follow the
-    // 16 bytes of `struct ifinfomsg`. `name_in`, `mtu_in`: the name or the MTU, if it decodes to
-    // one. `last_or None`: the last element of a list, or `None` if it is empty. `string_content`:
-    // the bytes of a `String`, if there is one.
+    // `DecodeTo decodes_link bytes found`: the attributes after the 16 bytes of `struct ifinfomsg`
+    // decode to `found`, in order. `string_content`: the bytes of a `String`, if there is one.
+    // `last_or None`: the last element of a list, or `None` if it is empty. `name_in`, `mtu_in`:
+    // the name or the MTU, if an attribute decodes to one.
     ensures value { IfOk result (λ link. (found : List LinkAttribute) × (16 ≤ length payload.now)
         × DecodeTo decodes_link (drop 16 payload.now) found
         × (string_content link.name ≡ last_or None (filter_map name_in found))
@@ -95,8 +95,7 @@ pub fn parse_link(alloc: Global, payload: &[u8]) -> Result<Link, LinkError>
     Ok(link)
 }
 
-/// States that `==` of two interfaces is true if and only if their names and their MTUs are equal.
-/// A program writes `v == w`.
+/// Returns `v == w`: whether two interfaces have equal names and equal MTUs.
 pub fn equal_links(v: &Link, w: &Link) -> bool
     // `string_content`: the bytes of a `String`, if there is one.
     ensures { IsTrue result
@@ -105,7 +104,7 @@ pub fn equal_links(v: &Link, w: &Link) -> bool
     v == w
 }
 
-/// States that `==` of two errors is true if and only if they are equal.
+/// Returns `v == w`, which is true if and only if both errors are equal.
 pub fn equal_link_errors(v: &LinkError, w: &LinkError) -> bool
     ensures { IsTrue result ↔ (v.now ≡ w.now) }
 {
@@ -124,9 +123,9 @@ pub fn attribute_key(alloc: Global, attribute: &[u8]) -> Result<Vec<u8>, CanonEr
     ensures written { IfOk result (λ key.
         (a : Attribute) × (first_attribute_codec []).parses attribute.now tt a
         × (key.items ≡ attribute_bytes a)) }
-    // For all other bytes: if they parse as an attribute, it has the same canonical form if and
-    // only if the bytes are equivalent. The condition `FitsLengthField` holds of every attribute
-    // that was parsed.
+    // For all other bytes (`IsBytes`: numbers below 256): if they parse as an attribute, it has the
+    // same canonical form if and only if the bytes are equivalent. The condition `FitsLengthField`
+    // holds of every attribute that was parsed.
     ensures equal_bytes { IfOk result (λ key. (bytes : List ℕ) (other : Attribute) → IsBytes bytes
         → (first_attribute_codec []).parses bytes tt other
         → FitsLengthField other

@@ -73,8 +73,9 @@ pub fn listening_tcp_bytes(family: Family, sequence_number: u32) -> [u8; REQUEST
     // `netlink_message_codec.serialized message`: the bytes of the message with its header.
     ensures written { result ≡ netlink_message_codec.serialized
         (listening_request family sequence_number) }
-    // Length 72, type 20, flags 0x301, the sequence number, port id 0; the family, protocol 6, no
-    // extensions, a pad byte, the state LISTEN (bit 10); a socket id of 48 zeros.
+    // Length 72, type 20, flags 0x301, the sequence number, port id 0; the family (`family_number`,
+    // 2 or 10), protocol 6, no extensions, a pad byte, the state LISTEN (bit 10); a socket id of 48
+    // zeros.
     ensures bytes { result ≡ (72 ∷ 0 ∷ 0 ∷ 0 ∷ 20 ∷ 0 ∷ 1 ∷ 3 ∷ [])
         ++ (little_bytes 4 sequence_number ++ (0 ∷ 0 ∷ 0 ∷ 0 ∷ family_number family ∷ 6 ∷ 0 ∷ 0 ∷ 0
         ∷ 4 ∷ 0 ∷ 0 ∷ replicate 48 0)) }

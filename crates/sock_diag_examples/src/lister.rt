@@ -44,17 +44,19 @@ pub fn list(alloc: Global, datagram: &[u8]) -> Result<Vec<Line>, AllocError>
     lines_of(alloc, DumpViews::new(datagram))
 }
 
-/// Compares two lines by `==`, which is true if and only if they are equal.
+/// Returns `v == w`, which is true if and only if both lines are equal.
 pub fn equal_lines(v: &Line, w: &Line) -> bool
     ensures { IsTrue result ↔ (v.now ≡ w.now) }
 {
     v == w
 }
 
-// Returns the lines of the items of an iterator.
+// Returns the lines of the items that the iterator `views` yields, in order. Fails only if an
+// allocation fails.
 fn lines_of(alloc: Global, views: DumpViews<'_>) -> Result<Vec<Line>, AllocError>
-    // `items`: what the iterator yields until its end (`Drains`). `map (map_ok payload_view_model)
-    // items`: their models. `filter_map line_of`: the lines of those that have one.
+    // `Drains YieldsPayloadView views items`: `items` is what `next` of the iterator yields until
+    // its end. `filter_map line_of`: the lines of those that have one. `map (map_ok
+    // payload_view_model) items`: the models of the items.
     ensures { IfOk result (λ lines. (items : List (Result PayloadView DecodeErrorModel))
         × Drains YieldsPayloadView views.entry items
         × (lines.items ≡ filter_map line_of (map (map_ok payload_view_model) items))) }
@@ -68,10 +70,10 @@ fn lines_of(alloc: Global, views: DumpViews<'_>) -> Result<Vec<Line>, AllocError
     Ok(lines)
 }
 
-// Returns the line of an item, if it has one.
+// Returns the line of an item, or `None` for `NLMSG_NOOP`.
 fn line_for(item: Result<PayloadView<'_>, DecodeError>) -> Option<Line>
-    // `line_of item`: the line of an item, `None` for `NLMSG_NOOP`. `map_ok payload_view_model
-    // item`: the model of the payload, or the decode error.
+    // `line_of item`: this line. `map_ok payload_view_model item`: the model of the payload, or the
+    // decode error.
     ensures { result ≡ line_of (map_ok payload_view_model item.entry) }
 {
     match item {

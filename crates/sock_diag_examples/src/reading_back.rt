@@ -14,9 +14,9 @@ pub fn copy_by_bytes<T: Wire + Drop>(
     value: &T,
     param: T::Param,
 ) -> Result<T, DecodeError>
-    // `T.model`: the model of a value, to which the codec refers. `T.codec.is_normal param`: the
-    // value is in normal form, one that the parser returns. `T.writable`: its lengths fit their
-    // length fields.
+    // `T.codec.is_normal param`: the value is in normal form, one that the parser returns.
+    // `T.model`: the model of a value, to which the codec refers. `T.writable`: its lengths fit
+    // their length fields.
     requires normal { T.codec.is_normal param (T.model value.now) }
     requires writable { T.writable value.now }
     ensures equal { IfOk result (λ copy. T.model copy ≡ T.model value.now) }

@@ -62,7 +62,7 @@ impl<T: Drop> From<AllocFailed<T>> for AnswerError {
     }
 }
 
-/// Compares two errors by `==`, which is true if and only if they are equal.
+/// Returns `v == w`, which is true if and only if both errors are equal.
 pub fn equal_answer_errors(v: &AnswerError, w: &AnswerError) -> bool
     ensures { IsTrue result ↔ (v.now ≡ w.now) }
 {
@@ -111,8 +111,8 @@ pub fn answer(
     Ok(datagram)
 }
 
-/// The dump over an answer is complete and has the caller's replies, if each is in range and in
-/// normal form, and its message is writable. Proof only: the contract states the property.
+/// The dump over an answer is complete and has exactly the caller's replies, if each is in range
+/// and in normal form, and its message is writable. Proof only: the contract states the property.
 pub fn answer_is_a_complete_dump()
     // `IsAnswer request replies datagram`: what `answer` ensures of its result. `IsWritableReply`:
     // the reply is in range and in normal form, and its message is writable. `IsCompleteDump
@@ -129,8 +129,8 @@ pub fn answer_is_a_complete_dump()
     laws::reply_lengths_are_multiples_of_four();
 }
 
-// Appends a message for each reply. Fails if one of these messages is not writable, or an
-// allocation fails.
+// Appends a message with this sequence number to `datagram` for each reply. Fails if one of these
+// messages is not writable, or an allocation fails.
 fn push_replies(
     alloc: Global,
     datagram: &mut Vec<u8>,
@@ -152,7 +152,8 @@ fn push_replies(
     Ok(())
 }
 
-// Appends the message of a reply. Fails if this message is not writable, or an allocation fails.
+// Appends the message of a reply, with this sequence number, to `datagram`. Fails if this message
+// is not writable, or an allocation fails.
 fn push_reply(
     alloc: Global,
     datagram: &mut Vec<u8>,
@@ -179,8 +180,8 @@ fn push_reply(
     )
 }
 
-// Appends a message with this payload, and with its length and its type in the header. Fails if the
-// message is not writable, or an allocation fails.
+// Appends a message with this payload and this sequence number to `datagram`. Its header has its
+// length and its type. Fails if the message is not writable, or an allocation fails.
 #[tactic(auto, unfolding(crate::specs::TestKernel::numbered_message_bytes))]
 fn push_message(
     alloc: Global,

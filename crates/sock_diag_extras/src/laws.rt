@@ -1,5 +1,7 @@
 //! Properties of the fields of `struct tcp_info` and `struct mptcp_info`, and of `==` and `clone`.
-//! Proof only: the contract of each function states the property.
+//! Proof only: the contract of each function states the property. `tcp_info_bytes`,
+//! `mptcp_info_bytes` and `nested_bytes` are the bytes that a value borrows. `result.0` and
+//! `result.1` are the parts of a returned pair.
 
 ghost use Rattle.std.specs.Prelude.{◌≡◌, ◌↔◌, [], ◌∷◌, ◌++◌, map, IfOk, IsOk, IsTrue};
 ghost use Rattle.netlink_core.specs.Layout.{tag_fields};
@@ -27,7 +29,8 @@ pub fn tcp_fields_are_rows()
     // `tag_fields tcp_info tt`: the fields of the layout of `TcpInfo`. `tcp_layout_field f`: the
     // field `f` as a field of a layout, by its offset and its width.
     ensures first { map tcp_layout_field first_fields ≡ tag_fields tcp_info tt }
-    // The offsets of the later fields and then 280 are 232 and then the ends of these fields.
+    // `tcp_offset_of f`, `tcp_end_of f`: where the field `f` starts and ends. The offsets of the
+    // later fields and then 280 are 232 and then the ends of these fields.
     ensures later { map tcp_offset_of later_fields ++ 280 ∷ []
         ≡ 232 ∷ map tcp_end_of later_fields }
 {}
@@ -36,15 +39,14 @@ pub fn tcp_fields_are_rows()
 /// places numbers of their widths: each starts at the first multiple of its width after the field
 /// before it.
 pub fn mptcp_fields_are_aligned()
+    // `mptcp_span_of`: the offset and the width of a field; `mptcp_width_of`: its width.
     // `aligned_spans 0 widths`: the offsets and widths of consecutive members of these widths, from
-    // offset 0 on. `mptcp_span_of`: the offset and the width of a field. `mptcp_width_of`: its
-    // width.
+    // offset 0 on.
     ensures { map mptcp_span_of mptcp_fields ≡ aligned_spans 0 (map mptcp_width_of mptcp_fields) }
 {}
 
-/// States that `==` of two `TcpInfoBytes` is true if and only if they have the same bytes, that a
-/// clone has the same bytes, and that `clone` never fails. Returns `left == right`, and the clone
-/// of `left`.
+/// Returns `left == right` and the clone of `left`, for two `TcpInfoBytes`. They are equal if and
+/// only if they have the same bytes. The clone has the same bytes, and `clone` never fails.
 pub fn compared_tcp_info_bytes<'a>(
     left: &TcpInfoBytes<'a>,
     right: &TcpInfoBytes<'_>,
@@ -56,9 +58,8 @@ pub fn compared_tcp_info_bytes<'a>(
     (left == right, left.clone())
 }
 
-/// States that `==` of two `MptcpInfoBytes` is true if and only if they have the same bytes, that a
-/// clone has the same bytes, and that `clone` never fails. Returns `left == right`, and the clone
-/// of `left`.
+/// Returns `left == right` and the clone of `left`, for two `MptcpInfoBytes`. They are equal if and
+/// only if they have the same bytes. The clone has the same bytes, and `clone` never fails.
 pub fn compared_mptcp_info_bytes<'a>(
     left: &MptcpInfoBytes<'a>,
     right: &MptcpInfoBytes<'_>,
@@ -70,9 +71,8 @@ pub fn compared_mptcp_info_bytes<'a>(
     (left == right, left.clone())
 }
 
-/// States that `==` of two `NestedNlas` is true if and only if they have the same bytes, that a
-/// clone has the same bytes, and that `clone` never fails. Returns `left == right`, and the clone
-/// of `left`.
+/// Returns `left == right` and the clone of `left`, for two `NestedNlas`. They are equal if and
+/// only if they have the same bytes. The clone has the same bytes, and `clone` never fails.
 pub fn compared_nested_nlas<'a>(
     left: &NestedNlas<'a>,
     right: &NestedNlas<'_>,
@@ -84,9 +84,8 @@ pub fn compared_nested_nlas<'a>(
     (left == right, left.clone())
 }
 
-/// States that `==` of two `AckAttributes` is true if and only if they have the same bytes, that a
-/// clone has the same bytes, and that `clone` never fails. Returns `left == right`, and the clone
-/// of `left`.
+/// Returns `left == right` and the clone of `left`, for two `AckAttributes`. They are equal if and
+/// only if they have the same bytes. The clone has the same bytes, and `clone` never fails.
 pub fn compared_ack_attributes<'a>(
     left: &AckAttributes<'a>,
     right: &AckAttributes<'_>,
@@ -98,9 +97,8 @@ pub fn compared_ack_attributes<'a>(
     (left == right, left.clone())
 }
 
-/// States that `==` of two `BpfStorage` is true if and only if they have the same bytes, that a
-/// clone has the same bytes, and that `clone` never fails. Returns `left == right`, and the clone
-/// of `left`.
+/// Returns `left == right` and the clone of `left`, for two `BpfStorage`. They are equal if and
+/// only if they have the same bytes. The clone has the same bytes, and `clone` never fails.
 pub fn compared_bpf_storages<'a>(
     left: &BpfStorage<'a>,
     right: &BpfStorage<'_>,
@@ -112,9 +110,8 @@ pub fn compared_bpf_storages<'a>(
     (left == right, left.clone())
 }
 
-/// States that `==` of two `UlpInfo` is true if and only if they have the same bytes, that a clone
-/// has the same bytes, and that `clone` never fails. Returns `left == right`, and the clone of
-/// `left`.
+/// Returns `left == right` and the clone of `left`, for two `UlpInfo`. They are equal if and only
+/// if they have the same bytes. The clone has the same bytes, and `clone` never fails.
 pub fn compared_ulp_infos<'a>(
     left: &UlpInfo<'a>,
     right: &UlpInfo<'_>,
@@ -126,9 +123,8 @@ pub fn compared_ulp_infos<'a>(
     (left == right, left.clone())
 }
 
-/// States that `==` of two `TlsInfo` is true if and only if they have the same bytes, that a clone
-/// has the same bytes, and that `clone` never fails. Returns `left == right`, and the clone of
-/// `left`.
+/// Returns `left == right` and the clone of `left`, for two `TlsInfo`. They are equal if and only
+/// if they have the same bytes. The clone has the same bytes, and `clone` never fails.
 pub fn compared_tls_infos<'a>(
     left: &TlsInfo<'a>,
     right: &TlsInfo<'_>,
@@ -140,9 +136,8 @@ pub fn compared_tls_infos<'a>(
     (left == right, left.clone())
 }
 
-/// States that `==` of two `SubflowInfo` is true if and only if they have the same bytes, that a
-/// clone has the same bytes, and that `clone` never fails. Returns `left == right`, and the clone
-/// of `left`.
+/// Returns `left == right` and the clone of `left`, for two `SubflowInfo`. They are equal if and
+/// only if they have the same bytes. The clone has the same bytes, and `clone` never fails.
 pub fn compared_subflow_infos<'a>(
     left: &SubflowInfo<'a>,
     right: &SubflowInfo<'_>,
@@ -154,9 +149,10 @@ pub fn compared_subflow_infos<'a>(
     (left == right, left.clone())
 }
 
-/// States that `==` of two acknowledgements is true if and only if they have the same number,
-/// request and bytes of attributes.
+/// Returns `left == right`: whether two acknowledgements have the same number, request and bytes of
+/// attributes.
 pub fn equal_ack_views(left: &AckView<'_>, right: &AckView<'_>) -> bool
+    // `ack_number`, `ack_request`, `ack_attributes`: the number, and the bytes of the other two.
     ensures { IsTrue result ↔ ((ack_number left.now ≡ ack_number right.now)
         × (ack_request left.now ≡ ack_request right.now)
         × (ack_attributes left.now ≡ ack_attributes right.now)) }
@@ -164,9 +160,10 @@ pub fn equal_ack_views(left: &AckView<'_>, right: &AckView<'_>) -> bool
     left == right
 }
 
-/// States that the clone of an acknowledgement has the same number, request and bytes of
-/// attributes, and that `clone` never fails.
+/// Returns the clone of an acknowledgement. It has the same number, request and bytes of
+/// attributes, and `clone` never fails.
 pub fn copied_ack_view<'a>(view: &AckView<'a>) -> Result<AckView<'a>, AllocError>
+    // `ack_number`, `ack_request`, `ack_attributes`: the number, and the bytes of the other two.
     ensures ok { IsOk result }
     ensures number { IfOk result (λ copy. ack_number copy ≡ ack_number view.now) }
     ensures request { IfOk result (λ copy. ack_request copy ≡ ack_request view.now) }

@@ -33,6 +33,7 @@ impl<'a> NestedNlas<'a> {
     pub fn parse(bytes: &'a [u8]) -> Result<NestedNlas<'a>, DecodeError>
         // `nested_bytes nested`: the bytes of the attributes.
         ensures kept { IfOk result (λ nested. nested_bytes nested ≡ bytes.entry.now) }
+        // `HasAttributeError decode bytes e`: `e` is the first error in the bytes.
         // `decode_attribute []`: no attribute type is known, so every value is accepted.
         ensures error { IfErr result (HasAttributeError (decode_attribute []) bytes.entry.now) }
     {
@@ -50,8 +51,8 @@ impl<'a> NestedNlas<'a> {
 
     /// Returns the value of the first attribute of the kind, or `None` if there is none.
     pub fn value_of(&self, kind: u16) -> Option<&'a [u8]>
-        // `first_value_in kind bytes`: the value of the first attribute of this kind in the bytes,
-        // or `None`. `option_copied result`: the bytes that the result borrows, as a list.
+        // `option_copied result`: the bytes that the result borrows, as a list. `first_value_in
+        // kind bytes`: the value of the first attribute of this kind in the bytes, or `None`.
         ensures { option_copied result ≡ first_value_in kind (nested_bytes self.now) }
     {
         let mut nlas = self.walk();
@@ -67,9 +68,9 @@ impl<'a> NestedNlas<'a> {
     /// it has one. Returns `Ok(None)` if there is no such attribute. Text that is not valid UTF-8
     /// is `NotUtf8`; `value_of` returns its bytes.
     pub fn text_of(&self, kind: u16) -> Result<Option<&'a str>, DecodeError>
+        // `map_ok option_copied result`: the returned text as a list of bytes, or the error.
         // `nested_text_in kind bytes`: the bytes of the text in the first attribute of this kind,
-        // `Ok None` if there is none, or the error. `map_ok option_copied result`: the returned
-        // text as a list of bytes, or the error.
+        // `Ok None` if there is none, or the error.
         ensures { map_ok option_copied result ≡ nested_text_in kind (nested_bytes self.now) }
     {
         match self.value_of(kind) {
@@ -117,11 +118,13 @@ impl<'a> NestedNlas<'a> {
     /// `Ok(None)` if there is no such attribute, and the first framing error in its value, if there
     /// is one.
     pub fn nested_of(&self, kind: u16) -> Result<Option<NestedNlas<'a>>, DecodeError>
-        // `first_value_in kind bytes`: the value of the first attribute of this kind in the bytes,
-        // or `None`. The result has its bytes (`nested_bytes`), or is `None` too.
+        // `nested_bytes found`: the bytes of the returned attributes. `first_value_in kind bytes`:
+        // the value of the first attribute of this kind in the bytes, or `None`. The result is
+        // `None` if and only if that is.
         ensures kept { IfOk result (λ found. option_map nested_bytes found
             ≡ first_value_in kind (nested_bytes self.now)) }
-        // `value`: the value of the attribute, in which the framing error is.
+        // `value`: the value of the attribute, in which the framing error is. `decode_attribute
+        // []`: no attribute type is known, so every nested value is accepted.
         ensures error { IfErr result (λ e. (value : List ℕ)
             × (first_value_in kind (nested_bytes self.now) ≡ Some value)
             × HasAttributeError (decode_attribute []) value e) }

@@ -20,15 +20,15 @@ pub trait AttributeRecord: Sized {
     /// Parses the record at the start of the bytes, of which there must be at least `size()`. The
     /// bytes after the record are ignored.
     fn from_fields(bytes: &[u8]) -> Self
-        // `parse_by_table layout bytes`: the record at the start of the bytes.
         requires { layout.size ≤ length bytes.now }
+        // `parse_by_table layout bytes`: the record at the start of the bytes.
         ensures { result ≡ parse_by_table layout bytes.now };
 
     /// Serializes the record to a buffer of `size()` bytes. The previous content of the buffer does
     /// not matter.
     fn write_fields(&self, buffer: &mut [u8])
-        // `bytes_by_table layout value`: the bytes of the record.
         requires { length buffer.old ≡ layout.size }
+        // `bytes_by_table layout value`: the bytes of the record.
         ensures { buffer.new ≡ bytes_by_table layout self.now };
 
     // Proof only: the layout keeps the laws of records, whatever name its errors have.
@@ -57,8 +57,8 @@ pub fn read_attribute_record<T: AttributeRecord>(value: &[u8]) -> Option<T>
 /// Serializes the record to the start of the buffer, which must be at least as long as the record.
 /// The bytes after it are unchanged.
 pub fn write_attribute_record<T: AttributeRecord>(value: &T, buffer: &mut [u8])
-    // `bytes_by_table layout value`: the bytes of the record.
     requires { T.layout.size ≤ length buffer.old }
+    // `bytes_by_table layout value`: the bytes of the record.
     ensures { buffer.new ≡ bytes_by_table T.layout value.now ++ drop T.layout.size buffer.old }
 {
     value.write_fields(&mut buffer[..T::size()]);

@@ -31,6 +31,7 @@ impl<'a> BpfStorage<'a> {
             (attribute_kind (buffered_attribute nla.now) ≢ SK_DIAG_BPF_STORAGE)
             (λ storage. (attribute_kind (buffered_attribute nla.now) ≡ SK_DIAG_BPF_STORAGE)
             × (nested_bytes storage.0 ≡ (buffered_attribute nla.now).value))) }
+        // `HasAttributeError decode bytes e`: `e` is the first error in the bytes.
         // `decode_attribute []`: no attribute type is known, so every value is accepted.
         ensures error { IfErr result (λ e.
             (attribute_kind (buffered_attribute nla.now) ≡ SK_DIAG_BPF_STORAGE)
@@ -56,8 +57,8 @@ impl<'a> BpfStorage<'a> {
     /// Returns the bytes that the map stores for the socket: the value of the first
     /// `SK_DIAG_BPF_STORAGE_MAP_VALUE`, or `None` if there is none.
     pub fn map_value(&self) -> Option<&'a [u8]>
-        // `first_value_in kind bytes`: the value of the first attribute of this kind in the bytes,
-        // or `None`. `option_copied result`: the bytes that the result borrows, as a list.
+        // `option_copied result`: the bytes that the result borrows, as a list. `first_value_in
+        // kind bytes`: the value of the first attribute of this kind in the bytes, or `None`.
         ensures { option_copied result
             ≡ first_value_in SK_DIAG_BPF_STORAGE_MAP_VALUE (nested_bytes self.now.0) }
     {

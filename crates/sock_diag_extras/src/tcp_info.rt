@@ -170,6 +170,7 @@ impl TcpField {
 
     /// Returns the offset of the field and its width, both in bytes.
     pub fn span(self) -> (usize, usize)
+        // `tcp_span_of field`: its offset and its width, as a table in `specs/TcpFields.antt`.
         ensures { result ≡ tcp_span_of self }
     {
         match self {
@@ -273,8 +274,9 @@ impl<'a> TcpInfoBytes<'a> {
     /// Returns the value of the field, a little-endian number. Returns `None` if the bytes end
     /// before the end of the field.
     pub fn get(&self, field: TcpField) -> Option<u64>
-        // `end_of_span span`: the offset of the byte after the field. `number_in_span span bytes`:
-        // the number at this offset and of this width.
+        // `tcp_span_of field`: the offset and the width of the field. `end_of_span span`: the
+        // offset of the byte after it. `number_in_span span bytes`: the number at this offset and
+        // of this width.
         ensures { SomeIff result
             (end_of_span (tcp_span_of field) ≤ length (tcp_info_bytes self.now))
             (number_in_span (tcp_span_of field) (tcp_info_bytes self.now)) }
@@ -286,8 +288,8 @@ impl<'a> TcpInfoBytes<'a> {
     /// Returns the record that the port parses from the first 232 bytes. Returns `None` if there
     /// are fewer bytes.
     pub fn whole(&self) -> Option<TcpInfo>
-        // `parse_record tcp_info tt`: the record of the layout `tcp_info`, or its error.
-        // `result_ok`: `None` for an error.
+        // `result_ok r`: the value of `r`, or `None` for an error. `parse_record tcp_info tt
+        // bytes`: the record of the layout `tcp_info` at the start of the bytes, or its error.
         ensures { result ≡ result_ok (parse_record tcp_info tt (tcp_info_bytes self.now)) }
     {
         TcpInfo::parse(self.bytes).ok()

@@ -28,8 +28,9 @@ pub struct UlpInfo<'a>(pub NestedNlas<'a>);
 impl<'a> UlpInfo<'a> {
     /// Borrows the attributes in the value. Returns the first framing error, if there is one.
     pub fn parse(value: &'a [u8]) -> Result<UlpInfo<'a>, DecodeError>
-        // `nested_bytes info.0`: the bytes of the attributes. `decode_attribute []`: no attribute
-        // type is known, so every value is accepted, and only the framing can be invalid.
+        // `nested_bytes info.0`: the bytes of the attributes. `HasAttributeError decode bytes e`:
+        // `e` is the first error in the bytes. `decode_attribute []`: no attribute type is known,
+        // so every value is accepted, and only the framing can be invalid.
         ensures kept { IfOk result (λ info. nested_bytes info.0 ≡ value.entry.now) }
         ensures error { IfErr result (HasAttributeError (decode_attribute []) value.entry.now) }
     {
@@ -40,9 +41,9 @@ impl<'a> UlpInfo<'a> {
     /// without one terminating NUL if it has one. Returns `Ok(None)` if there is none. A name that
     /// is not valid UTF-8 is `NotUtf8`.
     pub fn name(&self) -> Result<Option<&'a str>, DecodeError>
+        // `map_ok option_copied result`: the returned text as a list of bytes, or the error.
         // `nested_text_in kind bytes`: the bytes of the text in the first attribute of this kind,
-        // `Ok None` if there is none, or the error. `map_ok option_copied result`: the returned
-        // text as a list of bytes, or the error.
+        // `Ok None` if there is none, or the error.
         ensures { map_ok option_copied result
             ≡ nested_text_in INET_ULP_INFO_NAME (nested_bytes self.now.0) }
     {
@@ -53,11 +54,13 @@ impl<'a> UlpInfo<'a> {
     /// `INET_ULP_INFO_TLS`, or `Ok(None)` if there is none. Returns the first framing error in its
     /// value, if there is one.
     pub fn tls(&self) -> Result<Option<TlsInfo<'a>>, DecodeError>
-        // `first_value_in kind bytes`: the value of the first attribute of this kind in the bytes,
-        // or `None`. The result has its bytes (`nested_bytes`), or is `None` too.
+        // `nested_bytes tls.0`: the bytes of the returned attributes. `first_value_in kind bytes`:
+        // the value of the first attribute of this kind in the bytes, or `None`. The result is
+        // `None` if and only if that is.
         ensures kept { IfOk result (λ found. option_map (λ tls. nested_bytes tls.0) found
             ≡ first_value_in INET_ULP_INFO_TLS (nested_bytes self.now.0)) }
-        // `value`: the value of the attribute, in which the framing error is.
+        // `value`: the value of the attribute, in which the framing error is. `decode_attribute
+        // []`: no attribute type is known, so every nested value is accepted.
         ensures error { IfErr result (λ e. (value : List ℕ)
             × (first_value_in INET_ULP_INFO_TLS (nested_bytes self.now.0) ≡ Some value)
             × HasAttributeError (decode_attribute []) value e) }
@@ -72,11 +75,13 @@ impl<'a> UlpInfo<'a> {
     /// the first `INET_ULP_INFO_MPTCP`, or `Ok(None)` if there is none. Returns the first framing
     /// error in its value, if there is one.
     pub fn mptcp(&self) -> Result<Option<SubflowInfo<'a>>, DecodeError>
-        // `first_value_in kind bytes`: the value of the first attribute of this kind in the bytes,
-        // or `None`. The result has its bytes (`nested_bytes`), or is `None` too.
+        // `nested_bytes subflow.0`: the bytes of the returned attributes. `first_value_in kind
+        // bytes`: the value of the first attribute of this kind in the bytes, or `None`. The result
+        // is `None` if and only if that is.
         ensures kept { IfOk result (λ found. option_map (λ subflow. nested_bytes subflow.0) found
             ≡ first_value_in INET_ULP_INFO_MPTCP (nested_bytes self.now.0)) }
-        // `value`: the value of the attribute, in which the framing error is.
+        // `value`: the value of the attribute, in which the framing error is. `decode_attribute
+        // []`: no attribute type is known, so every nested value is accepted.
         ensures error { IfErr result (λ e. (value : List ℕ)
             × (first_value_in INET_ULP_INFO_MPTCP (nested_bytes self.now.0) ≡ Some value)
             × HasAttributeError (decode_attribute []) value e) }
@@ -111,6 +116,8 @@ impl TlsField {
 
     /// Returns the kind of the field's attribute, and the length of its value in bytes.
     pub fn row(self) -> (u16, usize)
+        // `tls_row field`: the kind and the length of the field, as a table in
+        // `specs/UlpInfo.antt`.
         ensures { result ≡ tls_row self }
     {
         match self {
@@ -198,6 +205,8 @@ impl SubflowField {
 
     /// Returns the kind of the field's attribute, and the length of its value in bytes.
     pub fn row(self) -> (u16, usize)
+        // `subflow_row field`: the kind and the length of the field, as a table in
+        // `specs/UlpInfo.antt`.
         ensures { result ≡ subflow_row self }
     {
         match self {

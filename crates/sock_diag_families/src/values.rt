@@ -17,7 +17,7 @@ pub(crate) fn enough_in(
 ) -> Result<&[u8], DecodeError>
     // `map_ok (λ value. value.now) result`: the result, with the bytes of the value as a list.
     // `with_length_at_least name need bytes`: `Ok` of the bytes, or `Err` of `BufferTooSmall` with
-    // the name. `value.entry` is the argument as it was passed.
+    // the name, here of an attribute of this family and kind (`FamilyAttribute`).
     ensures { map_ok (λ value. value.now) result
         ≡ with_length_at_least (FamilyAttribute family kind) need value.entry.now }
 {

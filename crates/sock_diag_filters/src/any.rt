@@ -30,13 +30,12 @@ pub struct RecordRequestView<'a, R> {
 }
 
 impl<'a, R: Record<Param = ()>> RecordRequestView<'a, R> {
-    // Parses the record at the start of the payload, which is the bytes after the header. Fails
-    // with the first error of the record.
+    // Parses the record at the start of the payload, and returns it with the header, which precedes
+    // the payload, and the bytes after the record. Fails with the first error of the record.
     fn read(header: NetlinkHeader, payload: &'a [u8]) -> Result<Self, DecodeError>
-        // `R.layout`: the layout of the record. `parse_record layout tt bytes`: the record of this
-        // layout at the start of the bytes, or its error; `tt`: the record has no parameter.
-        // `layout.least`: the number of its bytes.
         ensures header { IfOk result (λ view. view.header ≡ header) }
+        // `parse_record layout tt bytes`: the record of this layout at the start of the bytes, or
+        // its error; `tt`: the record has no parameter. `layout.least`: the number of its bytes.
         ensures request { IfOk result (λ view.
             parse_record R.layout tt payload.entry.now ≡ Ok view.request) }
         ensures attributes { IfOk result (λ view.
@@ -85,9 +84,9 @@ impl<'a> AnyRequestView<'a> {
     /// 5. an error of the parser of that family's request: of [`RequestView::parse`], or of the
     ///    record.
     pub fn parse(message: &'a [u8]) -> Result<AnyRequestView<'a>, DecodeError>
-        // `any_request_content view`: the request in the view.
         // `ParsesAsAnyRequest message request`: the message at the start of the bytes parses as
-        // this request. `IsRejectedAnyRequest message e`: it is rejected with `e`, its first error.
+        // this request. `any_request_content view`: the request in the view.
+        // `IsRejectedAnyRequest message e`: the message is rejected with `e`, its first error.
         ensures value { IfOk result (λ view. ParsesAsAnyRequest message.entry.now
             (any_request_content view)) }
         ensures error { IfErr result (IsRejectedAnyRequest message.entry.now) }
@@ -105,14 +104,14 @@ fn read_under<'a>(
     header: NetlinkHeader,
     message: &'a [u8],
 ) -> Result<AnyRequestView<'a>, DecodeError>
+    // `HasHeader message header`: the message starts with this header, and is complete.
     requires { HasHeader message.now header }
-    // `any_request_content view`: the request in the view. `ParsesAsAnyRequest message request`:
-    // the message at the start of the bytes parses as this request.
+    // `ParsesAsAnyRequest message request`: the message at the start of the bytes parses as this
+    // request. `any_request_content view`: the request in the view.
     ensures value { IfOk result (λ view. ParsesAsAnyRequest message.entry.now
         (any_request_content view)) }
-    // `family_of_message message header`: the family of the request, or its error.
-    // `IsRejectedByRequestFamily family message header e`: the message is rejected with `e`, which
-    // is the error of the result.
+    // `IsRejectedByRequestFamily family message header e`: the message is rejected with `e`.
+    // `family_of_message message header`: the family of the request, or the error if it has none.
     ensures error { IfErr result
         (IsRejectedByRequestFamily (family_of_message message.entry.now header) message.entry.now
         header) }

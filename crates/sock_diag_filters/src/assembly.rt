@@ -59,9 +59,9 @@ pub fn assemble(alloc: Global, filter: &Filter) -> Result<Vec<u8>, AssembleError
     ensures audited { IfOk result (λ program. IsAudited program.items) }
     // For all results of the conditions: `condition_met code arguments` is the assumed result of
     // the condition of an operation. `Runs condition_met program verdict`: a run of the program
-    // with these results has this verdict: whether the socket is selected. `code_of c` and
-    // `arguments c` are the operation of the condition `c`. `meaning met filter`: whether the
-    // filter selects a socket, if `met` says which conditions the socket meets.
+    // with these results has this verdict: whether the socket is selected. `meaning met filter`:
+    // whether the filter selects a socket, if `met` says which conditions the socket meets.
+    // `code_of c` and `arguments c`: the operation of the condition `c`.
     ensures runs { IfOk result (λ program. (condition_met : ℕ → List ℕ → Bool)
         → Runs condition_met program.items
         (meaning (λ c. condition_met (code_of c) (arguments c)) filter.now)) }

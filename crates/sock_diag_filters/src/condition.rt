@@ -100,7 +100,7 @@ impl Condition {
     ghost use Rattle.sock_diag_filters.specs.Conditions.{arguments, code_of};
     ghost use Rattle.sock_diag_filters.specs.Sockets.{IsConditionInRange};
 
-    // Returns the code of the condition's operation.
+    // Returns the code of the condition's operation (`code_of`), such as `INET_DIAG_BC_S_GE`.
     pub(crate) fn code(self) -> u8
         ensures { result ≡ code_of self }
     {
@@ -120,7 +120,7 @@ impl Condition {
         }
     }
 
-    // Returns the length of the operation's arguments in bytes.
+    // Returns the length in bytes of the arguments of the condition's operation.
     pub(crate) fn arguments_len(self) -> usize
         ensures { result ≡ length (arguments self) }
     {
@@ -133,7 +133,7 @@ impl Condition {
         }
     }
 
-    // Writes the operation's arguments to a buffer of their length.
+    // Writes the arguments of the condition's operation to a buffer of their length.
     pub(crate) fn write_arguments(self, buffer: &mut [u8])
         requires { length buffer.old ≡ length (arguments self) }
         ensures written { buffer.new ≡ arguments self }
@@ -160,7 +160,7 @@ impl Host {
 
     // Returns the length of `struct inet_diag_hostcond` with its address, in bytes.
     fn len(self) -> usize
-        // host_bytes host: the bytes of the struct.
+        // `host_bytes host`: the bytes of the struct.
         ensures { result ≡ length (host_bytes self) }
     {
         // 8 bytes, and the 4 or 16 octets of the address.
@@ -181,7 +181,7 @@ impl Host {
         }
     }
 
-    // Returns the port as it is serialized: `u32::MAX` if it is not compared.
+    // Returns the port as it is serialized: `u32::MAX` if it is `None`, and so not compared.
     fn port_number(self) -> u32
         ensures number { result ≡ unwrap_or self.port 0xffffffff }
         // The port fits 16 bits, as each `u16`; it is stated since `assemble` promises it.
@@ -193,7 +193,7 @@ impl Host {
         }
     }
 
-    // Writes `struct inet_diag_hostcond` to a buffer of its length.
+    // Writes `struct inet_diag_hostcond` with its address (`host_bytes`) to a buffer of its length.
     fn write(self, buffer: &mut [u8])
         requires { length buffer.old ≡ length (host_bytes self) }
         ensures written { buffer.new ≡ host_bytes self }
@@ -215,8 +215,8 @@ impl Host {
     }
 }
 
-// Writes the port of a comparison to a buffer of 4 bytes: a second `struct inet_diag_bc_op` whose
-// `code` and `yes` are 0, and whose `no` is the port.
+// Writes the port of a comparison to a buffer of 4 bytes (`port_bytes`): a second
+// `struct inet_diag_bc_op` whose `code` and `yes` are 0, and whose `no` is the port.
 fn write_port(port: u16, buffer: &mut [u8])
     requires { length buffer.old ≡ 4 }
     ensures { buffer.new ≡ port_bytes port }
@@ -225,7 +225,7 @@ fn write_port(port: u16, buffer: &mut [u8])
     LittleEndian::write_u16(&mut buffer[2..], port);
 }
 
-// Returns the family of an address: `AF_INET` or `AF_INET6`.
+// Returns the family of an address (`family_of`): `AF_INET` or `AF_INET6`.
 fn family(address: IpAddr) -> u8
     ensures { result ≡ family_of address }
 {
@@ -235,7 +235,7 @@ fn family(address: IpAddr) -> u8
     }
 }
 
-// Writes the octets of an address to a buffer of their length.
+// Writes the octets of an address (`octets_of`) to a buffer of their length.
 fn write_address(address: IpAddr, buffer: &mut [u8])
     // `bits_of address`: the length of the address in bits.
     requires { 8 * length buffer.old ≡ bits_of address }
@@ -247,7 +247,7 @@ fn write_address(address: IpAddr, buffer: &mut [u8])
     }
 }
 
-// Writes the octets of an IPv6 address to a buffer of 16 bytes.
+// Writes the octets of an IPv6 address (`octets_of (V6 ip)`) to a buffer of 16 bytes.
 fn write_segments(ip: Ipv6Addr, buffer: &mut [u8])
     requires { length buffer.old ≡ 16 }
     ensures { buffer.new ≡ octets_of (V6 ip) }

@@ -23,8 +23,8 @@ impl Filter<'_> {
 
     /// Returns the length of the filter's program in bytes, or `None` if it is more than `most`.
     pub fn len_within(&self, most: usize) -> Option<usize>
-        // `program_size filter`: the length of the program. `SomeIff result p n`: the result is
-        // `Some n` if `p` holds, else `None`.
+        // `SomeIff result p n`: the result is `Some n` if `p` holds, else `None`.
+        // `program_size filter`: the length of the program.
         ensures { SomeIff result (program_size self.now ≤ most) (program_size self.now) }
     {
         match self {
@@ -52,8 +52,8 @@ impl Filter<'_> {
         }
     }
 
-    // Returns the length of the filter's program in bytes, which must be at most `MAX_DISTANCE`:
-    // the programs that `assemble` writes are not longer.
+    // Returns the length of the filter's program in bytes (`program_size`). It must be at most
+    // `MAX_DISTANCE`: the programs that `assemble` writes are not longer.
     pub(crate) fn len(&self) -> usize
         requires { program_size self.now ≤ MAX_DISTANCE }
         ensures { result ≡ program_size self.now }

@@ -44,16 +44,16 @@ use std::alloc::AllocError;
 /// `SOCK_DESTROY`.
 pub fn request_round_trips()
     // Both clauses are about all requests: a header, a record and attributes.
-    // `request_bytes h request attributes`: the bytes of the message.
-    // `ParsesAsRequest message view`: they parse as this view.
-    // `IsParsedRequest h request attributes view`: the view has the content that was serialized.
-    // `IsRejectedRequest message e`: they are rejected with `e`. `request_attribute`: the type and
-    // the value of an attribute. `IsRequestType t`: the type is 20 (SOCK_DIAG_BY_FAMILY) or 21
-    // (SOCK_DESTROY).
+    // `ParsesAsRequest message view`: the message parses as this view.
+    // `request_bytes h request attributes`: the bytes of the message. `request_attribute`: the type
+    // and the value of an attribute. `IsParsedRequest h request attributes view`: the view has the
+    // content that was serialized.
     ensures view { (h : NetlinkHeader) (request : InetRequest) (attributes : List RequestAttribute)
         (view : RequestView) → IsRoundTrippingRequest h request attributes
         → ParsesAsRequest (request_bytes h request (map request_attribute attributes)) view
         → IsParsedRequest h request attributes view }
+    // `IsRequestType t`: the type is 20 (SOCK_DIAG_BY_FAMILY) or 21 (SOCK_DESTROY).
+    // `IsRejectedRequest message e`: the message is rejected with `e`.
     ensures accepted { (h : NetlinkHeader) (request : InetRequest)
         (attributes : List RequestAttribute) (e : DecodeError)
         → IsRoundTrippingRequest h request attributes
@@ -73,18 +73,18 @@ pub fn request_round_trips()
 ///   (`IsCompleteInetRequest`).
 pub fn any_request_round_trips()
     // Each clause is about all requests of its families. `RecordRequest family`: a header, a record
-    // of the family, and bytes of attributes. `record_request_bytes r`: the bytes of its message.
-    // `ParsesAsAnyRequest message other`: they parse as the request `other`. `of_family family r`:
-    // the request `r` of another family than IPv4 and IPv6.
-    // `request_bytes h request (map request_attribute attributes)`: the bytes of a
-    // `RequestWithAttributes`. `IsParsedInetRequest h request attributes other`: a request for IPv4
-    // or IPv6 sockets with the content that was serialized. `IsRejectedAnyRequest message e`: the
-    // bytes are rejected with `e`.
+    // of the family, and bytes of attributes. `ParsesAsAnyRequest message other`: the message
+    // parses as the request `other`. `record_request_bytes r`: the bytes of its message.
+    // `of_family family r`: the request `r` of another family than IPv4 and IPv6.
     ensures records { (family : RecordFamily) (r : RecordRequest family) (other : AnyRequest)
         → IsCompleteRecordRequest r → ParsesAsAnyRequest (record_request_bytes r) other
         → other ≡ of_family family r }
+    // `IsRejectedAnyRequest message e`: the message is rejected with `e`.
     ensures records_accepted { (family : RecordFamily) (r : RecordRequest family) (e : DecodeError)
         → IsCompleteRecordRequest r → ¬ IsRejectedAnyRequest (record_request_bytes r) e }
+    // `request_bytes h request (map request_attribute attributes)`: the bytes of a
+    // `RequestWithAttributes`. `IsParsedInetRequest h request attributes other`: `other` is a
+    // request for IPv4 or IPv6 sockets with the content that was serialized.
     ensures inet { (h : NetlinkHeader) (request : InetRequest) (attributes : List RequestAttribute)
         (other : AnyRequest) → IsCompleteInetRequest h request attributes
         → ParsesAsAnyRequest (request_bytes h request (map request_attribute attributes)) other
@@ -103,9 +103,9 @@ pub fn any_request_round_trips()
 /// `in_range`).
 #[tactic(auto, using(crate::proofs::Finding::evaluation_is_meaning))]
 pub fn programs_select_by_filter()
-    // For all sockets and filters. `meaning met filter`: whether the filter selects a socket, if
-    // `met` says which conditions the socket meets. `code_of c` and `arguments c`: the operation of
-    // the condition `c`. `AreConditionsInRange filter`: the premise on its numbers.
+    // For all sockets and filters. `AreConditionsInRange filter`: the premise on its numbers.
+    // `meaning met filter`: whether the filter selects a socket, if `met` says which conditions the
+    // socket meets. `code_of c` and `arguments c`: the operation of the condition `c`.
     ensures { (socket : Socket) (filter : Filter) → AreConditionsInRange filter
         → meaning (λ c. kernel_evaluates socket (code_of c) (arguments c)) filter
         ≡ meaning (meets socket) filter }
@@ -115,16 +115,15 @@ pub fn programs_select_by_filter()
 /// most one verdict.
 #[tactic(auto, using(crate::proofs::Verdicts::one_verdict))]
 pub fn one_verdict()
-    // For all results of the conditions, and for all programs: two verdicts `v` and `w` of a run
-    // are equal. `Runs condition_met program verdict`: a run of the program has this verdict:
-    // whether the socket is selected. `condition_met code arguments`: whether the condition of an
-    // operation is met.
+    // `condition_met code arguments`: whether the condition of an operation is met.
+    // `Runs condition_met program verdict`: a run of the program has this verdict: whether the
+    // socket is selected. Two verdicts `v` and `w` are equal.
     ensures { (condition_met : ℕ → List ℕ → Bool) (program : List ℕ) (v w : Bool)
         → Runs condition_met program v → Runs condition_met program w → v ≡ w }
 {}
 
-/// States that `==` holds if and only if two attributes of requests have the same kind and the same
-/// content.
+/// States that `==` of two attributes of requests is true if and only if they have the same kind
+/// and the same content.
 pub fn equal_request_attributes(
     attribute: &RequestAttribute<'_>,
     other: &RequestAttribute<'_>,
@@ -136,7 +135,8 @@ pub fn equal_request_attributes(
     attribute == other
 }
 
-/// States that a copy has the same kind and content, and that `clone` never fails.
+/// Clones an attribute of a request, which never fails and returns one of the same kind with the
+/// same content.
 pub fn copied_request_attribute<'a>(
     attribute: &RequestAttribute<'a>,
 ) -> Result<RequestAttribute<'a>, AllocError>
@@ -148,7 +148,7 @@ pub fn copied_request_attribute<'a>(
     attribute.clone()
 }
 
-/// States that a copy is the same filter, and that `clone` never fails.
+/// Clones a filter, which never fails and returns the same filter.
 pub fn copied_filter<'a>(filter: &Filter<'a>) -> Result<Filter<'a>, AllocError>
     ensures ok { IsOk result }
     ensures same { IfOk result (λ copy. copy ≡ filter.now) }
@@ -156,15 +156,15 @@ pub fn copied_filter<'a>(filter: &Filter<'a>) -> Result<Filter<'a>, AllocError>
     filter.clone()
 }
 
-/// States that `==` holds if and only if two errors are the same.
+/// States that `==` of two errors of `assemble` is true if and only if they are the same.
 pub fn equal_assemble_errors(error: &AssembleError, other: &AssembleError) -> bool
     ensures { IsTrue result ↔ (error.now ≡ other.now) }
 {
     error == other
 }
 
-/// States that `==` holds if and only if two requests have the same header, record, protocol and
-/// program.
+/// States that `==` of two requests for IPv4 or IPv6 sockets is true if and only if they have the
+/// same header, record, protocol and program.
 pub fn equal_request_views(view: &RequestView<'_>, other: &RequestView<'_>) -> bool
     // `request_view_model`: the view with its program as a list of bytes.
     ensures { IsTrue result ↔ (request_view_model view.now ≡ request_view_model other.now) }
@@ -172,8 +172,8 @@ pub fn equal_request_views(view: &RequestView<'_>, other: &RequestView<'_>) -> b
     view == other
 }
 
-/// States that `==` holds if and only if two requests have the same header, record and attributes'
-/// bytes.
+/// States that `==` of two requests that consist of one record is true if and only if they have the
+/// same header, the same record and the same bytes after it.
 pub fn equal_record_request_views<R: Exact>(
     view: &RecordRequestView<'_, R>,
     other: &RecordRequestView<'_, R>,
@@ -185,8 +185,8 @@ pub fn equal_record_request_views<R: Exact>(
     view == other
 }
 
-/// States that `==` holds if and only if two requests are of the same family and have the same
-/// content.
+/// States that `==` of two requests of any family is true if and only if they are of the same
+/// family and have the same content.
 pub fn equal_any_request_views(view: &AnyRequestView<'_>, other: &AnyRequestView<'_>) -> bool
     // `any_request_view_model`: the family, and the model of the view of its request.
     ensures { IsTrue result ↔ (any_request_view_model view.now ≡ any_request_view_model other.now) }

@@ -117,17 +117,20 @@ impl Emitable for RequestWithAttributes<'_> {
     }
 }
 
-// Writes the header with the length `len`, and then the value. The buffer has the length of both.
+// Writes the header, with the length `len`, and then the value to `front`, which has the length of
+// both.
 fn write_front<R: Emitable>(header: &NetlinkHeader, len: u32, value: &R, front: &mut [u8])
     // `R.writable value`: its lengths fit their fields. `R.bytes value`: the bytes that it
-    // serializes to. `header_with_length header len`: the header with this length. `header_bytes`:
-    // its 16 bytes.
+    // serializes to.
     requires writable { R.writable value.now }
     requires whole { length front.old ≡ NETLINK_HEADER_LEN + length (R.bytes value.now) }
+    // `header_bytes`: the 16 bytes of a header. `header_with_length header len`: the header with
+    // this length.
     ensures written { front.new
         ≡ header_bytes (header_with_length header.now len) ++ R.bytes value.now }
-    // Each number of the header and of the value fits its field. This is so for all Rust values; it
-    // is stated since `emit` promises it.
+    // Each number of the header (`header_values`) fits its field (`header_fields`), and each of the
+    // value does (`R.in_range`). This is so for all Rust values; it is stated since `emit` promises
+    // it.
     ensures header_in_range { FitFields header_fields
         (header_values (header_with_length header.now len)) }
     ensures in_range { R.in_range value.now }
@@ -152,10 +155,11 @@ fn write_all<R: Emitable>(value: &R, buffer: &mut [u8])
 // Serializes the header, with the length `len`, to a buffer of 16 bytes.
 fn write_header(header: &NetlinkHeader, len: u32, buffer: &mut [u8])
     requires { length buffer.old ≡ NETLINK_HEADER_LEN }
-    // `header_with_length header len`: the header with this length.
+    // `header_bytes`: the bytes of a header. `header_with_length header len`: the header with this
+    // length.
     ensures written { buffer.new ≡ header_bytes (header_with_length header.now len) }
-    // Each number of the header fits its field. This is so for all Rust values; it is stated since
-    // `emit` promises it.
+    // Each number of the header (`header_values`) fits its field (`header_fields`). This is so for
+    // all Rust values; it is stated since `emit` promises it.
     ensures in_range { FitFields header_fields (header_values (header_with_length header.now len)) }
 {
     let (first, rest) = buffer.split_at_mut(4);

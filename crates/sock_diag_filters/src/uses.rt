@@ -46,9 +46,9 @@ pub fn listening_on(
     //   operation, and `Runs condition_met program verdict` is a run with these results.
     //   `port_bytes port` are the arguments of a comparison with this port.
     // - The message carries it: `request_bytes header request attributes` are the bytes of the
-    //   message. The header has the flags NLM_F_REQUEST and NLM_F_DUMP, and the sequence number.
-    //   The request has the state LISTEN (bit 10) and a socket id of zeros. The only attribute has
-    //   the program.
+    //   message. The header (`example_request_header`) has the flags NLM_F_REQUEST and NLM_F_DUMP,
+    //   and the sequence number. The request (`tcp_request_with`) has the state LISTEN (bit 10) and
+    //   a socket id of zeros. The only attribute has the program.
     ensures asked { IfOk result (λ message. (program : List ℕ) × IsAudited program
         × ((condition_met : ℕ → List ℕ → Bool) → Runs condition_met program
         (condition_met INET_DIAG_BC_S_GE (port_bytes first)
@@ -82,8 +82,9 @@ pub fn listening_on(
 /// cookie; the family of the request is that of `source_address`. The kernel requires
 /// `CAP_NET_ADMIN`.
 ///
-/// The contract states the message twice: as the bytes of its header, its request and no attributes
-/// (`request_bytes header request []`), and written out (`close_request_bytes`).
+/// The contract states the message twice. `request_bytes header request []` are the bytes of a
+/// message without attributes, here of this header (`example_request_header`) and this request
+/// (`tcp_request_with`). `close_request_bytes` are the same bytes, written out.
 pub fn close_tcp(socket_id: SocketId, sequence_number: u32) -> [u8; REQUEST_FRONT]
     ensures written { result
         ≡ request_bytes (example_request_header SOCK_DESTROY acknowledged_flags sequence_number)
@@ -100,7 +101,8 @@ pub fn close_tcp(socket_id: SocketId, sequence_number: u32) -> [u8; REQUEST_FRON
     message
 }
 
-// Returns the header of a request, with the length 0: `emit` writes the length.
+// Returns the netlink header with this type, these flags, this sequence number, and port 0
+// (`example_request_header`). Its length is 0: `emit` writes the length.
 fn header(message_type: u16, flags: u16, sequence_number: u32) -> NetlinkHeader
     ensures { result ≡ example_request_header message_type flags sequence_number }
 {
@@ -112,8 +114,9 @@ fn header(message_type: u16, flags: u16, sequence_number: u32) -> NetlinkHeader
     }
 }
 
-// Returns the request for the TCP sockets in these states and with this socket id. It requests no
-// attributes. `states.0` is the set of states as a number.
+// Returns the request for the TCP sockets in these states and with this socket id
+// (`tcp_request_with`). Its family is that of the source address. It requests no attributes.
+// `states.0` is the set of states as a number.
 fn tcp(states: StateFlags, socket_id: SocketId) -> InetRequest
     ensures { result ≡ tcp_request_with states.0 socket_id }
 {

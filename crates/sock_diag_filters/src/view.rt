@@ -73,7 +73,8 @@ impl<'a> RequestView<'a> {
     }
 }
 
-// Returns whether messages of the type are requests for sockets, or requests to close a socket.
+// Returns whether messages of the type are requests for sockets, or requests to close a socket
+// (`IsRequestType`).
 pub(crate) fn is_request(message_type: u16) -> bool
     ensures { IsTrue result ↔ IsRequestType message_type }
 {
@@ -88,10 +89,11 @@ struct Found<'a> {
 }
 
 impl<'a> Found<'a> {
-    // Returns the values after one more attribute, which is `None` if it is of another type.
+    // Returns what is found after one more attribute: its program or protocol replaces the one so
+    // far. `None` is an attribute of another type, which changes nothing.
     fn with(self, decoded: Option<RequestAttribute<'a>>) -> Found<'a>
-        // `found_attributes_after found attribute`: the values after one more attribute.
-        // `self.entry` and `decoded.entry` are the arguments as they were passed.
+        // `found_attributes_after found attribute`: what is found after this attribute.
+        // `self.entry` and `decoded.entry`: the arguments as they were passed.
         ensures { result ≡ found_attributes_after self.entry decoded.entry }
     {
         match decoded {
@@ -134,9 +136,9 @@ fn find_attributes<'a>(bytes: &'a [u8]) -> Result<Found<'a>, DecodeError>
 // Parses an attribute. Returns `None` for an attribute that is neither a program nor a protocol.
 // Fails with `WrongLength` if a protocol has a length other than 4.
 fn decode<'a>(attribute: &NlaBuffer<'a>) -> Result<Option<RequestAttribute<'a>>, DecodeError>
-    // The result is that of `decode_request_attribute`, which has `other_content` in place of
-    // `None` (`optional_request_content`). `buffered_attribute`: the type and the value of the
-    // attribute.
+    // `decode_request_attribute attribute`: `Ok` of its content, or `Err`. `buffered_attribute`:
+    // the type and the value of the attribute. `map_ok f result`: the result with `f v` for an
+    // `Ok v`. `optional_request_content`: the content of an attribute, `other_content` for `None`.
     ensures { decode_request_attribute (buffered_attribute attribute.entry.now)
         ≡ map_ok optional_request_content result }
 {

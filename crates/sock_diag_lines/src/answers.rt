@@ -154,8 +154,8 @@ pub(crate) fn push_answer(
     push_answer_text(alloc, text, request, bytes.as_slice())
 }
 
-/// Parses a line. `bytes` is a buffer: if the line is a name and a hex field, it then has the bytes
-/// of the field.
+/// Returns the request in a line, or `Nothing` if the line has another form. `bytes` is a buffer:
+/// if the line is a name and a hex field, it then has the bytes of the field.
 pub(crate) fn read_request(
     alloc: Global,
     bytes: &mut Vec<u8>,
@@ -180,7 +180,8 @@ pub(crate) fn read_request(
     }
 }
 
-/// Parses a line whose name is `dump`. `fields` is the text after the space. `bytes` is a buffer.
+/// Returns the request in a line whose name is `dump`, or `Nothing` if what follows are not hex
+/// fields. `fields` is the text after the space. `bytes` is a buffer.
 fn read_dump_request(
     alloc: Global,
     bytes: &mut Vec<u8>,
@@ -240,16 +241,17 @@ fn push_named(alloc: Global, text: &mut Vec<u8>, name: Name, bytes: &[u8]) -> Re
     }
 }
 
-/// Appends `ok` and the canonical form, `unwritable`, or `refused` and the code of the error.
+/// Appends `ok` and the canonical form of the bytes, `unwritable`, or `refused` and the code of the
+/// error. `param` is the parameter of the codec of `T`.
 fn push_canonical<T: Wire + Drop>(
     alloc: Global,
     text: &mut Vec<u8>,
     bytes: &[u8],
     param: T::Param,
 ) -> Result<(), AllocError>
-    // Some bytes were appended (`AppendsSome old new Holds`), which answer `bytes`, as the codec of
-    // `T` with this parameter parses them and the canonical form in hex shows them (`answer_codec`,
-    // `IsAnswerUnder answers bytes text`).
+    // Some bytes were appended (`AppendsSome old new Holds`), which answer `bytes`, as these are
+    // parsed and shown (`IsAnswerUnder answers bytes text`): parsed by the codec with this
+    // parameter, and shown as the canonical form in hex (`answer_codec codec param`).
     ensures { OnOk result (AppendsSome text.old.items text.new.items
         (IsAnswerUnder (answer_codec T.codec param) bytes.now)) }
 {

@@ -238,7 +238,8 @@ fn push_end(text: &mut Vec<u8>, dump: &ReadDump) -> Result<(), AllocError>
 
 /// Returns the name of a state.
 fn name_of_dump_state(state: DumpState) -> &'static [u8]
-    // For any error number: the text of a state does not show it.
+    // `dump_state_text end`: the text of an end, here of this state and an error number. The text
+    // does not show the number, so that this holds for any.
     ensures { (number : Option ℤ) → result.now ≡ dump_state_text (Ok (state, number)) }
 {
     match state {

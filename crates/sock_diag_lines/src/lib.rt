@@ -49,10 +49,11 @@ pub fn run_to_status<R: PromptRead, W: Sink, E: Sink>(
 ) -> ExitCode
     // No read was made yet. This always holds for a reader of std, which does not count reads.
     requires start { R.reads input.old 0 }
-    // If the status is not 1, no bytes of the reader are left, if these are known.
+    // If the status is not 1, no bytes are left to read, if it is known which are left (`R.left`).
     ensures ended { exit_status result ≢ 1 → IsAtEnd (R.left input.new) }
     // If the status is not 1, the answers to all lines have been written
-    // (`WritesAllAnswers left held held'`), if it was known what was left to read.
+    // (`WritesAllAnswers left held held'`), if it was known what was left to read. `W.held`: the
+    // bytes that have been written, if they are known.
     ensures complete { exit_status result ≢ 1
         → WritesAllAnswers (R.left input.old) (W.held output.old) (W.held output.new) }
     // If the status is not 1, the last call on `output` was a flush that succeeded.

@@ -106,12 +106,11 @@ pub(crate) fn answer_all<R: PromptRead, W: Sink>(
     input: &mut R,
     output: &mut W,
 ) -> Result<bool, RunError>
-    // `R.left`: the bytes that are left to read, if they are known. `W.held`: the bytes that have
-    // been written, if they are known. `R.reads reader n`: `n` reads were made, here none.
+    // `R.reads reader n`: `n` reads were made, here none.
     requires start { R.reads input.old 0 }
-    // If the run succeeds, no bytes are left to read, if these are known. The answers to all lines
-    // have been written (`WritesAllAnswers left held held'`), if it was known what was left to
-    // read.
+    // If the run succeeds, no bytes are left to read, if it is known which are left (`R.left`). The
+    // answers to all lines have been written (`WritesAllAnswers left held held'`), if it was known
+    // what was left to read. `W.held`: the bytes that have been written, if they are known.
     ensures ended { OnOk result (IsAtEnd (R.left input.new)) }
     ensures complete { OnOk result
         (WritesAllAnswers (R.left input.old) (W.held output.old) (W.held output.new)) }

@@ -3,11 +3,12 @@
 //! Two byte strings are equivalent if both are accepted and parse as equal values. In the contracts
 //! `EqualUnder masks b c` says that `b` and `c` have the same bits under the masks, one for each
 //! byte from the first on: a bit that is 1 in the mask is significant, a bit that is 0 is ignored.
-//! Bytes after the last mask are not compared. `IsInetFamily` says that a number is `AF_INET` (2)
-//! or `AF_INET6` (10). The byte strings are any lists `b` and `c` of numbers, so that each contract
-//! has the premise that these are bytes: `IsBytes` says that each number of a list is below 256.
-//! The equivalence of a record is the member `equivalent` of its codec; its parameter is the family
-//! for a [`SocketId`], and `tt` for the other records, which have none.
+//! `unix_request_masks` are the masks of a `UnixRequest`, and so on. Bytes after the last mask are
+//! not compared. `IsInetFamily` says that a number is `AF_INET` (2) or `AF_INET6` (10). The byte
+//! strings are any lists `b` and `c` of numbers, so that each contract has the premise that these
+//! are bytes: `IsBytes` says that each number of a list is below 256. The equivalence of a record
+//! is the member `equivalent` of its codec; its parameter is the family for a [`SocketId`], and
+//! `tt` for the other records, which have none.
 //!
 //! Proof only: the contracts state the property.
 
@@ -46,8 +47,8 @@ pub fn equivalent_socket_ids()
 {}
 
 /// States that two byte strings `b` and `c` are equivalent as [`InetRequest`] if and only if three
-/// conditions hold. Both have at least 56 bytes. The first byte of `b`, its family, is `AF_INET` or
-/// `AF_INET6`. And the bits that are significant for this family are equal: the family, the
+/// conditions hold. Both have at least 56 bytes. The first byte of `b` (`family_byte`) is `AF_INET`
+/// or `AF_INET6`. And the bits that are significant for this family are equal: the family, the
 /// protocol, the byte of extensions, the state bits 1 to 11, the ports, the address bytes of the
 /// family, the interface and the cookie. The first byte is significant, so `c` has the same family.
 pub fn equivalent_inet_requests()
@@ -58,8 +59,8 @@ pub fn equivalent_inet_requests()
 {}
 
 /// States that two byte strings `b` and `c` are equivalent as [`InetResponseHeader`] if and only if
-/// four conditions hold. Both have at least 72 bytes. The first byte of `b`, its family, is
-/// `AF_INET` or `AF_INET6`. The timer bytes of both, at offset 2, have the same class: 1, 2, 3, 4,
+/// four conditions hold. Both have at least 72 bytes. The first byte of `b` (`family_byte`) is
+/// `AF_INET` or `AF_INET6`. The bytes at offset 2 (`timer_byte`) have the same class: 1, 2, 3, 4,
 /// or any other number. And the bytes that are significant for the family and the timer of `b` are
 /// equal: the family, the state, the bytes of the socket id as in [`equivalent_socket_ids`], the
 /// two queues, the user id and the inode; `idiag_retrans` only for timer 1, and `idiag_expires`

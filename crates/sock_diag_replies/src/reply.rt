@@ -1,4 +1,9 @@
 //! Comparing, measuring and serializing replies of every family: a header followed by attributes.
+//!
+//! In the contracts `decode_attribute set` decodes an attribute by a set of attribute types.
+//! `HasNoAttributeError decode bytes`: the bytes split into attributes, and none of them has an
+//! error. `HasAttributeError decode bytes e`: `e` is their first error. `H.bytes header` are the
+//! bytes that the header serializes to, and `H.writable header` states that it is writable.
 
 ghost use Rattle.std.specs.Prelude.{◌≡◌, ◌≤◌, ◌↔◌, length, map, Bool, IsSome, IfSome, IfErr, IfOk};
 ghost use Rattle.std.specs.Prelude.{OnOk, SomeIff};
@@ -35,10 +40,9 @@ pub(crate) fn memory_error_after_dropping<T: Drop>(_partial_list: T) -> DecodeEr
 pub fn same_views<'a, V: FamilyView<'a> + Drop>(left: &'a [u8], right: &'a [u8]) -> bool
     requires left { HasNoAttributeError (decode_attribute V.attribute_set) left.now }
     requires right { HasNoAttributeError (decode_attribute V.attribute_set) right.now }
-    // `test` is any function that computes `==` of two views from their models.
-    // `decoded_in decode bytes`: what the attributes in the bytes decode to by `decode`, in order.
-    // `pointwise test xs ys`: the lists have the same length, and `test` is true of the elements at
-    // each index.
+    // `test` is any function that computes `==` of two views from their models. `pointwise test xs
+    // ys`: the lists have the same length, and `test` is true of the elements at each index.
+    // `decoded_in decode bytes`: what the attributes in the bytes decode to, in order.
     ensures { (test : AttributeValue V.attribute_set → AttributeValue V.attribute_set → Bool)
         → ((v w : V) → V.PartialEq.eq v w ≡ test (V.model v) (V.model w))
         → result ≡ pointwise test (decoded_in (decode_attribute V.attribute_set) left.entry.now)
@@ -119,10 +123,10 @@ pub(crate) fn emit_reply<H: Emitable, T: FamilyNla>(header: &H, nlas: &[T], buff
     emit_values(nlas, attribute_buffer);
 }
 
-/// Checks each attribute after the header, or returns the first error. Returns the length that the
-/// header and the attributes have in canonical form, or `None` if the value of an attribute then
-/// has more than 65,531 bytes, or if the whole has more than 4,294,967,295 bytes. The header must
-/// be writable.
+/// Checks each attribute in `bytes`, the bytes after the header, and returns the first error, if
+/// there is one. Otherwise returns the length that the header and the attributes have in canonical
+/// form, or `None` if the value of an attribute then has more than 65,531 bytes, or if the whole
+/// has more than 4,294,967,295 bytes. The header must be writable.
 #[inline(always)]
 pub(crate) fn check_reply_len<'a, H: Emitable, V: FamilyView<'a> + Drop>(
     header: &H,

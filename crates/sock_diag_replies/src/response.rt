@@ -1,4 +1,10 @@
 //! Owned replies of any family.
+//!
+//! In the contracts `H.reply` is the format of the replies with the header `H`: the codec of the
+//! header, and the set of the attribute types. `H.Nla` is the type of the owned attributes.
+//! `with_attribute_set H.reply set` is this format with their set. `response_codec format` is the
+//! codec of the replies of a format. `response_model of_header of reply` is the model of a reply:
+//! the model `of_header` of its header, and the model `of` of each attribute, in order.
 
 ghost use Rattle.std.specs.Prelude.{◌≡◌, ◌≤◌, ◌↔◌, ℕ, List, [], length, map, IfOk, IsOk, OnOk};
 ghost use Rattle.std.specs.Prelude.{IsTrue, true, refl};
@@ -101,15 +107,11 @@ impl<H: ReplyOwned> Reply<H, H::Nla> {
     /// Returns an equal reply. Fails only if an allocation fails. Cloning a reply of at most eight
     /// attributes that need no memory never fails. A raw attribute counts as one that needs memory.
     pub fn clone(&self, alloc: Global) -> Result<Self, AllocError>
-        // `response_model of_header of reply`: the reply with the model `of_header` of its header,
-        // and the model `of` of each of its attributes, in order.
+        // Both replies have the same model.
         ensures equal { IfOk result (λ copy.
             response_model H.header_model H.Nla.FamilyNla.model copy
             ≡ response_model H.header_model H.Nla.FamilyNla.model self.now) }
-        // `needs_no_memory`: the reply needs no memory, that is, it has at most eight attributes,
-        // and none of them needs memory. `response_codec format`: the codec of the replies of this
-        // format. `with_attribute_set H.reply set`: the format of the replies, with the attribute
-        // set of the owned attributes.
+        // `needs_no_memory`: the reply has at most eight attributes, and none of them needs memory.
         ensures needs_no_memory { let set = H.Nla.FamilyNla.attribute_set in
             let format = with_attribute_set H.reply set in
             (response_codec format).needs_no_memory
@@ -171,7 +173,8 @@ impl<H: ReplyOwned> ReplyView<'_, H> {
     // Returns whether there is no attribute.
     #[inline(always)]
     fn is_empty(&self) -> bool
-        // Only this direction is stated, since callers need no other.
+        // Only this direction, since callers need no other. `decoded_in decode bytes`: what the
+        // attributes in the bytes decode to. `bytes_after_header view`: the bytes after the header.
         ensures { IsTrue result → decoded_in (decode_attribute H.Nla.FamilyNla.attribute_set)
             (bytes_after_header self.now) ≡ [] }
     {
@@ -184,6 +187,7 @@ impl<H: ReplyOwned> ReplyView<'_, H> {
     fn own_into(&self, alloc: Global, nlas: &mut SmallVec<H::Nla, 8>) -> Result<(), AllocError>
         requires { nlas.old.items ≡ [] }
         // `decoded_in decode bytes`: what the attributes in the bytes decode to, in order.
+        // `bytes_after_header view`: the bytes after the header.
         ensures equal { OnOk result (map H.Nla.FamilyNla.model nlas.new.items
             ≡ decoded_in (decode_attribute H.Nla.FamilyNla.attribute_set)
             (bytes_after_header self.now)) }
@@ -204,16 +208,13 @@ impl<H: ReplyOwned> ReplyView<'_, H> {
     /// attribute. Fails only if an allocation fails. Never fails for at most eight attributes that
     /// need no memory. A raw attribute counts as one that needs memory.
     pub fn to_owned(&self, alloc: Global) -> Result<Reply<H, H::Nla>, AllocError>
-        // `reply_after reply header bytes`: the reply with this header and what the attributes in
-        // these bytes decode to. Here they are the header of the view,
-        // `(view_model self.now).header`, and its bytes after the header,
-        // `bytes_after_header self.now`. `with_attribute_set H.reply set`: the format of the
-        // replies, with the attribute set of the owned attributes.
+        // `reply_after format header bytes`: the reply with this header and what the attributes in
+        // these bytes decode to. Here they are those of the view: `(view_model self.now).header`
+        // and `bytes_after_header self.now`.
         ensures equal { let format = with_attribute_set H.reply H.Nla.FamilyNla.attribute_set in
             IfOk result (λ reply. response_model H.header_model H.Nla.FamilyNla.model reply
             ≡ reply_after format (view_model self.now).header (bytes_after_header self.now)) }
-        // `needs_no_memory`: the reply needs no memory, that is, it has at most eight attributes,
-        // and none of them needs memory.
+        // `needs_no_memory`: the reply has at most eight attributes, and none of them needs memory.
         ensures needs_no_memory { let set = H.Nla.FamilyNla.attribute_set in
             let format = with_attribute_set H.reply set in
             (response_codec format).needs_no_memory
@@ -233,10 +234,9 @@ impl<H: ReplyOwned> ReplyView<'_, H> {
     /// not moved there.
     #[inline(always)]
     pub fn to_boxed(&self, alloc: Global) -> Result<Box<Reply<H, H::Nla>>, AllocError>
-        // `format`: the format of the replies, with the attribute set of the owned attributes.
-        // `reply_after format header bytes`: the reply with this header and what the attributes in
-        // these bytes decode to. Here they are the header of the view and its bytes after the
-        // header. `reply.value`: the reply in the box.
+        // `reply.value`: the reply in the box. `reply_after format header bytes`: the reply with
+        // this header and what the attributes in these bytes decode to. Here they are those of the
+        // view: `(view_model self.now).header` and `bytes_after_header self.now`.
         ensures { let format = with_attribute_set H.reply H.Nla.FamilyNla.attribute_set in
             IfOk result (λ reply. response_model H.header_model H.Nla.FamilyNla.model reply.value
             ≡ reply_after format (view_model self.now).header (bytes_after_header self.now)) }
@@ -347,7 +347,8 @@ fn write_reply<H: ReplyHeader>(
     len: usize,
 ) -> Result<Vec<u8>, AllocError>
     requires clean { HasNoAttributeError (decode_attribute H.reply.attribute_set) bytes.now }
-    // `reply_after reply header bytes`: the reply with this header and the attributes in the bytes.
+    // `reply_after format header bytes`: the reply with this header and what the attributes in the
+    // bytes decode to. `response_bytes format v`: the bytes that the reply `v` serializes to.
     requires fits { (response_codec H.reply).is_writable
         (reply_after H.reply (H.header_model header.now) bytes.now) }
     requires len { len ≡ length (response_bytes H.reply

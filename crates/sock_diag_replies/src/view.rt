@@ -1,4 +1,10 @@
 //! Borrowed replies of any family.
+//!
+//! In the contracts `reply`, or `H.reply`, is the format of the replies with the header `H`.
+//! `decode_attribute set` decodes an attribute by a set of attribute types. `HasNoAttributeError
+//! decode bytes`: the bytes split into attributes, and none of them has an error.
+//! `HasAttributeError decode bytes e`: `e` is their first error. `decoded_in decode bytes`: what
+//! they decode to, in order. `response_codec format` is the codec of the replies of a format.
 
 ghost use Rattle.std.specs.Prelude.{◌≡◌, ◌≢◌, ◌≤◌, ◌↔◌, ⊤, ℕ, List, Bool, length, drop, map, Ok};
 ghost use Rattle.std.specs.Prelude.{Err, OnOk, IfOk, IfErr, IsTrue, Some, IfSome, SomeIff};
@@ -54,10 +60,7 @@ pub trait ReplyHeader: Drop + Sized {
     /// Checks each attribute in `bytes`, the bytes after a header, and returns their number, or
     /// returns the first error. Does not allocate.
     fn check(bytes: &[u8]) -> Result<usize, DecodeError>
-        // `decode_attribute set`: decodes an attribute by the attribute set, or returns the error
-        // of its value. `HasNoAttributeError decode bytes`: the bytes split into attributes, and
-        // none of them has an error. `decoded_in decode bytes`: what these attributes decode to, in
-        // order. `HasAttributeError decode bytes e`: `e` is the first error in the bytes.
+        // `reply.attribute_set`: the attribute types of these replies.
         ensures clean { OnOk result (HasNoAttributeError (decode_attribute reply.attribute_set)
             bytes.now) }
         ensures count { IfOk result (λ count.
@@ -200,8 +203,8 @@ impl<'a, H: ReplyHeader> ReplyView<'a, H> {
     /// error is never `Memory`. Does not allocate.
     #[inline(always)]
     pub fn parse(bytes: &'a [u8]) -> Result<ReplyView<'a, H>, DecodeError>
-        // `response_codec reply`: the codec of the replies of this format. `view_model view`: the
-        // header and the decoded attributes of the view. `view_bytes view`: all of its bytes.
+        // `view_model view`: the header and the decoded attributes of the view. `view_bytes view`:
+        // all of its bytes.
         ensures value { IfOk result (λ view.
             (response_codec H.reply).parses bytes.entry.now tt (view_model view)) }
         ensures kept { IfOk result (λ view. view_bytes view ≡ bytes.entry.now) }
@@ -261,7 +264,8 @@ impl<'a, H: ReplyViews<'a>> ReplyView<'a, H> {
     /// [`ReplyView::parse`] rejects the bytes with the same error.
     #[inline(always)]
     pub fn walk(bytes: &'a [u8]) -> Result<(H, CheckedNlas<'a, H::View>), DecodeError>
-        // `found.0` is the header, and `found.1` the iterator.
+        // `found.0` is the header, `found.1` the iterator. `H.reply.header`: the codec of the
+        // header.
         ensures header { IfOk result (λ found.
             H.reply.header.parses tt bytes.entry.now ≡ Ok (H.header_model found.0)) }
         // The iterator starts at the bytes after the header: these are `unchecked_bytes`, the bytes
@@ -300,9 +304,9 @@ impl<'a, H: ReplyViews<'a>> ReplyView<'a, H> {
 
     /// Returns an iterator over the attributes, in wire order.
     pub fn attributes(&self) -> AttributeViews<'a, H>
-        // `decoded_in parses bytes`: what the attributes in the bytes decode to by `parses`, in
-        // order. `unread_attributes result`: the bytes that the iterator has not read yet. They
-        // decode to the same values as the bytes after the header: all attributes are left.
+        // `unread_attributes result`: the bytes that the iterator has not read yet. They decode to
+        // the same values as the bytes after the header (`bytes_after_header`): all attributes are
+        // left.
         ensures { let parses = decode_attribute H.View.FamilyView.attribute_set in
             decoded_in parses (unread_attributes result)
             ≡ decoded_in parses (bytes_after_header self.now) }
@@ -432,7 +436,8 @@ impl<'a, H: ReplyViews<'a>> Iterator for AttributeViews<'a, H> {
 
     /// Returns the exact number of attributes that were not yielded yet.
     fn size_hint(&self) -> (usize, Option<usize>)
-        // `left`: the attributes that were not yielded yet. Both bounds are their number.
+        // `unread_attributes self.now`: the bytes that the iterator has not read yet. `left`: what
+        // they decode to. Both bounds are its length.
         ensures exact { let left = decoded_in (decode_attribute H.View.FamilyView.attribute_set)
             (unread_attributes self.now) in
             result ≡ (length left, Some (length left)) }

@@ -2,11 +2,11 @@
 //!
 //! Two byte strings are equivalent if both are accepted and parse as equal values. In the contracts
 //! `EqualUnder masks b c` says that `b` and `c` have the same bits under the masks, one for each
-//! byte from the first on: 255 for a significant byte, 0 for an ignored one. Bytes after the last
-//! mask are not compared. The byte strings are any lists `b` and `c` of numbers, so that each
-//! contract has the premise that these are bytes: `IsBytes` says that each number of a list is
-//! below 256. The equivalence of a record is the member `equivalent` of its codec, whose parameter
-//! is `tt`, since these records have none.
+//! byte from the first on: 255 for a significant byte, 0 for an ignored one. `vfs_masks` are the
+//! masks of a `Vfs`, and so on. Bytes after the last mask are not compared. The byte strings are
+//! any lists `b` and `c` of numbers, so that each contract has the premise that these are bytes:
+//! `IsBytes` says that each number of a list is below 256. The equivalence of a record is the
+//! member `equivalent` of its codec, whose parameter is `tt`, since these records have none.
 //!
 //! Proof only: the contracts state the property.
 
@@ -55,8 +55,8 @@ pub fn equivalent_legacy_mem_infos()
 {}
 
 /// States that two byte strings are equivalent as [`MemInfo`] if and only if both have at least 28
-/// bytes, both contain the same number of complete `u32` fields (seven, eight or nine; more are not
-/// counted), and these fields are equal.
+/// bytes, both contain the same number of complete `u32` fields (`complete_u32s_in`: seven, eight
+/// or nine; more are not counted), and these fields are equal.
 pub fn equivalent_mem_infos()
     ensures { (b c : List ℕ) → IsBytes b → IsBytes c
         → ⟦<MemInfo as HasCodec>⟧.codec.equivalent tt b c

@@ -59,8 +59,8 @@ pub extern "C" fn sockdiag_get_cgroup_id(value: &[u8], id: &mut u64) -> u32
 /// bytes. Returns 1; or 0 if the value is shorter, and then the options are unchanged.
 #[unsafe(no_mangle)]
 pub extern "C" fn sockdiag_get_socket_options(value: &[u8], options: &mut SocketOptions) -> u32
-    // `socket_options`: the table of the fields of the struct. `IsStoredIf`: if the value is long
-    // enough, the struct that is parsed by this table is stored, and the result is 1; else 0.
+    // `IsStoredIf`: if the value has at least the size of `socket_options`, the table of the
+    // struct's fields, what is parsed by this table is stored, and the result is 1; else 0.
     ensures { IsStoredIf (socket_options.size ≤ length value.now)
         (parse_by_table socket_options value.now)
         record { old = options.old; new = options.new; returned = result } }
@@ -73,8 +73,8 @@ pub extern "C" fn sockdiag_get_socket_options(value: &[u8], options: &mut Socket
 /// struct is unchanged.
 #[unsafe(no_mangle)]
 pub extern "C" fn sockdiag_get_vegas_info(value: &[u8], info: &mut VegasInfo) -> u32
-    // `vegas_info`: the table of the fields of the struct. `IsStoredIf`: if the value is long
-    // enough, the struct that is parsed by this table is stored, and the result is 1; else 0.
+    // `IsStoredIf`: if the value has at least the size of `vegas_info`, the table of the struct's
+    // fields, what is parsed by this table is stored, and the result is 1; else 0.
     ensures { IsStoredIf (vegas_info.size ≤ length value.now)
         (parse_by_table vegas_info value.now)
         record { old = info.old; new = info.new; returned = result } }
@@ -86,8 +86,8 @@ pub extern "C" fn sockdiag_get_vegas_info(value: &[u8], info: &mut VegasInfo) ->
 /// 1; or 0 if the value is shorter, and then the struct is unchanged.
 #[unsafe(no_mangle)]
 pub extern "C" fn sockdiag_get_dctcp_info(value: &[u8], info: &mut DctcpInfo) -> u32
-    // `dctcp_info`: the table of the fields of the struct. `IsStoredIf`: if the value is long
-    // enough, the struct that is parsed by this table is stored, and the result is 1; else 0.
+    // `IsStoredIf`: if the value has at least the size of `dctcp_info`, the table of the struct's
+    // fields, what is parsed by this table is stored, and the result is 1; else 0.
     ensures { IsStoredIf (dctcp_info.size ≤ length value.now)
         (parse_by_table dctcp_info value.now)
         record { old = info.old; new = info.new; returned = result } }
@@ -99,8 +99,8 @@ pub extern "C" fn sockdiag_get_dctcp_info(value: &[u8], info: &mut DctcpInfo) ->
 /// or 0 if the value is shorter, and then the struct is unchanged.
 #[unsafe(no_mangle)]
 pub extern "C" fn sockdiag_get_bbr_info(value: &[u8], info: &mut BbrInfo) -> u32
-    // `bbr_info`: the table of the fields of the struct. `IsStoredIf`: if the value is long enough,
-    // the struct that is parsed by this table is stored, and the result is 1; else 0.
+    // `IsStoredIf`: if the value has at least the size of `bbr_info`, the table of the struct's
+    // fields, what is parsed by this table is stored, and the result is 1; else 0.
     ensures { IsStoredIf (bbr_info.size ≤ length value.now)
         (parse_by_table bbr_info value.now)
         record { old = info.old; new = info.new; returned = result } }
@@ -117,8 +117,9 @@ pub extern "C" fn sockdiag_next_md5_signature(
     cursor: &mut Cursor,
     signature: &mut Md5Signature,
 ) -> u32
-    // `StepsOverItem size parse`: if `size` bytes are left, the item that `parse` makes of them is
-    // stored. `md5_signature`: the table of the fields of the struct.
+    // `StepsOverItem size parse`: if `size` bytes are left at the cursor, the item that `parse`
+    // makes of them is stored, and 1 returned; else nothing is written, and 0 returned.
+    // `md5_signature`: the table of the fields of the struct.
     ensures { StepsOverItem md5_signature.size (parse_by_table md5_signature) record {
       bytes = value.now;
       old_cursor = cursor.old;
@@ -140,8 +141,9 @@ pub extern "C" fn sockdiag_next_address(
     cursor: &mut Cursor,
     address: &mut StoredAddress,
 ) -> u32
-    // `StepsOverItem size parse`: if `size` bytes are left, the item that `parse` makes of them is
-    // stored. `stored_address`: the table of the fields of the struct.
+    // `StepsOverItem size parse`: if `size` bytes are left at the cursor, the item that `parse`
+    // makes of them is stored, and 1 returned; else nothing is written, and 0 returned.
+    // `stored_address`: the table of the fields of the struct.
     ensures { StepsOverItem stored_address.size (parse_by_table stored_address) record {
       bytes = value.now;
       old_cursor = cursor.old;
@@ -160,8 +162,8 @@ pub extern "C" fn sockdiag_next_address(
 /// nothing is written. The time for a whole list is proportional to its length.
 #[unsafe(no_mangle)]
 pub extern "C" fn sockdiag_next_pending(value: &[u8], cursor: &mut Cursor, inode: &mut u32) -> u32
-    // `StepsOverItem size parse`: if `size` bytes are left, the item that `parse` makes of them is
-    // stored.
+    // `StepsOverItem size parse`: if `size` bytes are left at the cursor, the item that `parse`
+    // makes of them is stored, and 1 returned; else nothing is written, and 0 returned.
     ensures { StepsOverItem 4 (little_number 4) record {
       bytes = value.now;
       old_cursor = cursor.old;
@@ -178,8 +180,9 @@ pub extern "C" fn sockdiag_next_pending(value: &[u8], cursor: &mut Cursor, inode
 // Stores the record at the cursor, and advances the cursor past it. Returns 1. Returns 0 if fewer
 // bytes are left; then nothing is written.
 fn next_record<T: AttributeRecord + Copy>(value: &[u8], cursor: &mut Cursor, found: &mut T) -> u32
-    // `StepsOverItem size parse`: if `size` bytes are left, the item that `parse` makes of them is
-    // stored. `T.layout`: the table of the fields of the record.
+    // `StepsOverItem size parse`: if `size` bytes are left at the cursor, the item that `parse`
+    // makes of them is stored, and 1 returned; else nothing is written, and 0 returned. `T.layout`:
+    // the table of the fields of the record.
     ensures { StepsOverItem T.layout.size (parse_by_table T.layout) record {
       bytes = value.now;
       old_cursor = cursor.old;
@@ -196,8 +199,8 @@ fn next_record<T: AttributeRecord + Copy>(value: &[u8], cursor: &mut Cursor, fou
 // Returns all bytes from the cursor on, and advances the cursor by `size` bytes. Returns `None` if
 // fewer bytes are left; then the cursor is unchanged.
 fn next_bytes<'a>(value: &'a [u8], cursor: &mut Cursor, size: usize) -> Option<&'a [u8]>
-    // `left`: the bytes from the cursor on. The first part is about `None`, the second about
-    // `Some(bytes)`.
+    // `left`: the bytes from the cursor on. The first part of `MatchOption` is about `None`, the
+    // second about `Some(bytes)`.
     ensures { let left = bytes_after_cursor value.entry.now cursor.old in
         MatchOption result ((length left < size) × (cursor.new ≡ cursor.old))
         (λ bytes. (bytes.now ≡ left) × (size ≤ length left)

@@ -1,4 +1,6 @@
 //! Numbers and texts of a reply, and how its attributes are read into a struct of C, in one pass.
+//! The table `family` of [`ReplyDetails`] says how: it has the parser and the length of the header,
+//! and a row for each field.
 
 ghost use Rattle.std.specs.Prelude.{◌≡◌, ◌≢◌, ℕ, [], drop, Err, IfErr, IfOk, None, Ok, Option};
 ghost use Rattle.std.specs.Prelude.{Some};
@@ -59,9 +61,9 @@ pub(crate) const BYTES: u32 = 3;
 impl Number {
     /// Sets the number, unless it is set already.
     pub(crate) fn set(&mut self, value: u32)
-        // `o` is the number before the call, or None: `optional_number o` is the struct that has
-        // it. The clause states nothing of other structs, which do not occur. `first_present`: the
-        // first number, or else the second.
+        // `o`: the number before the call, or None. `optional_number o`: the struct that has it;
+        // nothing is stated of other structs, which do not occur. `first_present`: the first
+        // number, or else the second.
         ensures { (o : Option ℕ) → self.old ≡ optional_number o
             → self.new ≡ optional_number (first_present o (Some value)) }
     {
@@ -71,14 +73,16 @@ impl Number {
     }
 
     /// Parses the value of an attribute of this kind as a little-endian `u32`, and sets the number,
-    /// unless it is set already.
+    /// unless it is set already. Fails if the value has another length than 4 bytes.
     pub(crate) fn set_u32(&mut self, value: &[u8], kind: u16) -> Result<(), DecodeError>
-        // `o`: as in `set`. `number_of_width (Some kind) 4`: the parser of a little-endian `u32`;
-        // another length than 4 is the error WrongLength with this kind. `result_ok` of a result is
-        // its value or None, and `result_err` its error or None.
+        // `o`: the number before the call, or None. `optional_number o`: the struct that has it.
+        // `first_present`: the first number, or else the second. `result_ok`: the value of a
+        // result, or None. `number_of_width (Some kind) 4`: the parser of a little-endian `u32`,
+        // whose error has this kind.
         ensures number { (o : Option ℕ) → self.old ≡ optional_number o → self.new
             ≡ optional_number (first_present o
             (result_ok (number_of_width (Some kind) 4 value.now))) }
+        // `result_err`: the error of a result, or None.
         ensures error { result_err result ≡ result_err (number_of_width (Some kind) 4 value.now) }
     {
         self.set(parse_u32(value).map_err(|error| error.with_kind(kind))?);
@@ -99,10 +103,12 @@ impl Default for Text<'_> {
 }
 
 impl<'a> Text<'a> {
-    /// Sets the text, unless it is set already.
+    /// Sets the text, with its kind `TEXT`, `ABSTRACT` or `BYTES`, unless it is set already.
     pub(crate) fn set(&mut self, kind: u32, bytes: &'a [u8])
         // The kind 0 denotes that there is no text.
         requires { kind ≢ 0 }
+        // `text_parts`: the kind and the bytes of the text, or None. `first_present`: the first
+        // text, or else the second.
         ensures { text_parts self.new
             ≡ first_present (text_parts self.old) (Some (kind, bytes.entry.now)) }
     {
@@ -111,10 +117,11 @@ impl<'a> Text<'a> {
         }
     }
 
-    /// Sets bytes that are not checked, unless they are set already. There is no error.
+    /// Sets the text to these bytes, with the kind `BYTES`, unless it is set already. Always
+    /// returns `Ok`, since the bytes are not checked.
     pub(crate) fn set_bytes(&mut self, bytes: &'a [u8]) -> Result<(), DecodeError>
-        // `text_parts`: the kind and the bytes, or None. The result is always `Ok`; it is a
-        // `Result` as that of the calls that check a value.
+        // `text_parts`: the kind and the bytes of the text, or None. `first_present`: the first
+        // text, or else the second.
         ensures text { text_parts self.new
             ≡ first_present (text_parts self.old) (Some (BYTES, bytes.entry.now)) }
         ensures error { result ≡ Ok tt }
@@ -133,10 +140,11 @@ pub(crate) trait ReplyDetails<'a>: Copy {
     /// Parses the header. Returns the struct with the header and without values, and the bytes
     /// after the header. Fails with the error of the header.
     fn parse_header(payload: &'a [u8]) -> Result<(Self, &'a [u8]), DecodeError>
-        // `HasValues family.rows details []`: the struct has no values, since no attribute was
-        // parsed yet (`[]`); all fields of the rows are zeros.
+        // The header in the struct is the one that the parser of the table returns.
         ensures header { IfOk result (λ (details, rest). family.parse_header payload.entry.now
             ≡ Ok (family.header details)) }
+        // `HasValues rows details []`: the fields of the rows are zeros, as no attribute (`[]`) was
+        // parsed yet.
         ensures values { IfOk result (λ (details, rest). HasValues family.rows details []) }
         ensures rest { IfOk result (λ (details, rest). rest.now
             ≡ drop family.header_size payload.entry.now) }
@@ -145,12 +153,13 @@ pub(crate) trait ReplyDetails<'a>: Copy {
     /// Parses the attribute, and sets its fields unless an earlier attribute of its kind has set
     /// them. Fails with the error of the attribute.
     fn set_value(&mut self, nla: &NlaBuffer<'a>) -> Result<(), DecodeError>
-        // `buffered_attribute nla.now`: the attribute in `nla`. `AddsValues`: the values of this
-        // attribute are set, unless the struct had values. `value_error`: the error with which a
-        // row rejects the attribute, or None; the call fails with it.
         ensures header { family.header self.new ≡ family.header self.old }
+        // `AddsValues`: the fields of the rows have the values of the attribute, unless they were
+        // set before. `buffered_attribute nla`: the attribute in `nla`.
         ensures values { AddsValues family.rows (buffered_attribute nla.now)
             record { old = self.old; new = self.new } }
+        // `result_err`: the error of a result, or None. `value_error`: the error with which a row
+        // rejects the attribute, or None.
         ensures error { result_err result
             ≡ value_error family.rows (buffered_attribute nla.now) };
 }
@@ -227,9 +236,9 @@ fn lenient_details<'a, T: ReplyDetails<'a>>(
 // set already, and stores the errors of the others. The details have to be without values before
 // the call, as `parse_header` returns them. Earlier contents of the errors are discarded.
 fn set_values<'a, T: ReplyDetails<'a>>(bytes: &'a [u8], details: &mut T, errors: &mut Errors)
-    // `HasValues .. details.old []`: the details have no values before the call (`[]`: of no
-    // attribute). `parts`: the header that the details have, and the attributes and the framing
-    // error of the bytes. After the call the details have the values of these attributes, and the
+    // `HasValues rows details []`: the details have no values (`[]`: of no attribute). `parts`: the
+    // header that the details have, and the attributes and the framing error of the bytes
+    // (`SplitsWithError`). After the call the details have the values of these attributes, and the
     // errors have their codes (`HasRejections`) and the first error.
     ensures { HasValues T.family.rows details.old [] → (parts : ReplyParts T.family.Header)
         × SplitsWithError parts.attributes parts.framing_error bytes.entry.now

@@ -33,13 +33,14 @@ pub extern "C" fn sockdiag_find_error_attributes(
     flags: u16,
     cursor: &mut Cursor,
 ) -> u32
-    // One clause for each message type. `SetsTargetIf condition target`: if the condition holds,
-    // the cursor is set to the target, and the result is 1. The target is the start of the
-    // attributes in the payload (`PointsAt`). In an NLMSG_ERROR they follow the request, in an
-    // NLMSG_DONE the error number, which has 4 bytes.
+    // `SetsTargetIf condition target`: if the condition holds, the cursor is set to the target, and
+    // the result is 1; else it is 0. The payload has to contain the request (`HasCompleteRequest`).
+    // The target is the start (`PointsAt`) of the attributes after it (`error_attribute_bytes`).
     ensures error { message_type ≡ NLMSG_ERROR → SetsTargetIf (HasCompleteRequest flags payload.now)
         (PointsAt (error_attribute_bytes flags payload.now) payload.now)
         record { old = cursor.old; new = cursor.new; returned = result } }
+    // The payload has to contain an error number. The target is the start of the attributes after
+    // its 4 bytes (`ack_attribute_bytes_from`).
     ensures done { message_type ≡ NLMSG_DONE
         → SetsTargetIf (IsSome (leading_error_number payload.now))
         (PointsAt (ack_attribute_bytes_from flags 4 payload.now) payload.now)
@@ -57,7 +58,8 @@ pub extern "C" fn sockdiag_find_error_attributes(
 // Sets the cursor to the attributes of the acknowledgement, with which the payload ends. Returns 1;
 // or 0 if there is no acknowledgement, and then the cursor is unchanged.
 fn point_at(found: Option<AckView<'_>>, payload: &[u8], cursor: &mut Cursor) -> u32
-    // The first part is about `None`, the second about `Some(ack)`.
+    // The first part is about `None`, the second about `Some(ack)`. `ack_attributes`: the bytes of
+    // the attributes.
     ensures { MatchOption found.entry ((result ≡ 0) × (cursor.new ≡ cursor.old))
         (λ ack. (result ≡ 1)
         × (cursor.new.offset ≡ length payload.now - length (ack_attributes ack))) }

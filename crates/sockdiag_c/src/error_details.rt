@@ -64,10 +64,10 @@ pub struct ErrorDetails {
 
 const _: () = prove!(std::mem::size_of::<ErrorDetails>() == 56);
 
-// Returns the number of the record, `SOCKDIAG_RECORD_..`, the family that it belongs to, and the
-// kind of the attribute. `tools/bindings` writes the numbers into the header.
+// Returns the number `SOCKDIAG_RECORD_..` of the record with this name, the family that the name
+// has, or 0, and the kind of attribute that it has, or `None`. `tools/bindings` writes the numbers
+// into the header.
 fn record_fields(which: RecordName) -> (u32, u8, Option<u16>)
-    // By the name of the record: its number, its family or 0, and the kind of attribute or None.
     ensures { result ≡ (record_code which, record_family which, record_kind which) }
 {
     match which {
@@ -87,7 +87,7 @@ fn record_fields(which: RecordName) -> (u32, u8, Option<u16>)
     }
 }
 
-// Returns the fields of the error.
+// Returns the struct with the code and the fields of the error. Fields that it does not have are 0.
 fn details_of(error: DecodeError) -> ErrorDetails
     ensures { result ≡ error_details_of error }
 {
@@ -133,11 +133,12 @@ fn details_of(error: DecodeError) -> ErrorDetails
     details
 }
 
-// Stores the code and the fields of the error with which bytes were rejected, and returns its code.
-// Returns 0 if they were parsed.
+// Stores the code and the fields of the error of `parsed`, and returns its code. Returns 0 if
+// `parsed` is `Ok`; then nothing is stored.
 #[inline(always)]
 fn explain<T: Drop>(parsed: Result<T, DecodeError>, error: &mut ErrorDetails) -> u32
-    // Nothing is stored if the bytes were parsed; else the error `e`, its code and its fields.
+    // `error_code e`: the code of the error. `error_details_of e`: the struct with its code and its
+    // fields.
     ensures { MatchResult parsed (λ _. (result ≡ 0) × (error.new ≡ error.old))
         (λ e. (result ≡ error_code e) × (error.new ≡ error_details_of e)) }
 {
@@ -157,7 +158,8 @@ fn explain<T: Drop>(parsed: Result<T, DecodeError>, error: &mut ErrorDetails) ->
 #[unsafe(no_mangle)]
 pub extern "C" fn sockdiag_unix_explain(payload: &[u8], error: &mut ErrorDetails) -> u32
     // `IsExplained parses rejects`: the payload has a value, and nothing is stored; or it has a
-    // first error, which is stored. The codec of these replies has no parameter (`tt`).
+    // first error, which is stored. `response_codec`: the codec of these replies, which has no
+    // parameter (`tt`).
     ensures { IsExplained ((response_codec unix_response_spec).parses payload.now tt)
         ((response_codec unix_response_spec).rejects payload.now tt)
         record { old = error.old; new = error.new; returned = result } }
@@ -172,7 +174,8 @@ pub extern "C" fn sockdiag_unix_explain(payload: &[u8], error: &mut ErrorDetails
 #[unsafe(no_mangle)]
 pub extern "C" fn sockdiag_inet_explain(payload: &[u8], error: &mut ErrorDetails) -> u32
     // `IsExplained parses rejects`: the payload has a value, and nothing is stored; or it has a
-    // first error, which is stored. The codec of these replies has no parameter (`tt`).
+    // first error, which is stored. `response_codec`: the codec of these replies, which has no
+    // parameter (`tt`).
     ensures { IsExplained ((response_codec inet_response_spec).parses payload.now tt)
         ((response_codec inet_response_spec).rejects payload.now tt)
         record { old = error.old; new = error.new; returned = result } }
@@ -185,8 +188,8 @@ pub extern "C" fn sockdiag_inet_explain(payload: &[u8], error: &mut ErrorDetails
 /// reply is accepted, and then the error is unchanged.
 #[unsafe(no_mangle)]
 pub extern "C" fn sockdiag_netlink_explain(payload: &[u8], error: &mut ErrorDetails) -> u32
-    // `IsExplained`: the reply has details, and nothing is stored; or it has a first error, which
-    // is stored, and its code returned.
+    // `IsExplained`: the reply has details by the table `netlink_family`, and nothing is stored; or
+    // it has a first error, which is stored, and its code returned.
     ensures { IsExplained (AreDetailsOf netlink_family payload.now)
         (IsFirstError netlink_family payload.now)
         record { old = error.old; new = error.new; returned = result } }
@@ -199,8 +202,8 @@ pub extern "C" fn sockdiag_netlink_explain(payload: &[u8], error: &mut ErrorDeta
 /// reply is accepted, and then the error is unchanged.
 #[unsafe(no_mangle)]
 pub extern "C" fn sockdiag_packet_explain(payload: &[u8], error: &mut ErrorDetails) -> u32
-    // `IsExplained`: the reply has details, and nothing is stored; or it has a first error, which
-    // is stored, and its code returned.
+    // `IsExplained`: the reply has details by the table `packet_family`, and nothing is stored; or
+    // it has a first error, which is stored, and its code returned.
     ensures { IsExplained (AreDetailsOf packet_family payload.now)
         (IsFirstError packet_family payload.now)
         record { old = error.old; new = error.new; returned = result } }
@@ -213,8 +216,8 @@ pub extern "C" fn sockdiag_packet_explain(payload: &[u8], error: &mut ErrorDetai
 /// is accepted, and then the error is unchanged.
 #[unsafe(no_mangle)]
 pub extern "C" fn sockdiag_vsock_explain(payload: &[u8], error: &mut ErrorDetails) -> u32
-    // `IsExplained`: the reply has details, and nothing is stored; or it has a first error, which
-    // is stored, and its code returned.
+    // `IsExplained`: the reply has details by the table `vsock_family`, and nothing is stored; or
+    // it has a first error, which is stored, and its code returned.
     ensures { IsExplained (AreDetailsOf vsock_family payload.now)
         (IsFirstError vsock_family payload.now)
         record { old = error.old; new = error.new; returned = result } }
@@ -227,8 +230,8 @@ pub extern "C" fn sockdiag_vsock_explain(payload: &[u8], error: &mut ErrorDetail
 /// is accepted, and then the error is unchanged.
 #[unsafe(no_mangle)]
 pub extern "C" fn sockdiag_xdp_explain(payload: &[u8], error: &mut ErrorDetails) -> u32
-    // `IsExplained`: the reply has details, and nothing is stored; or it has a first error, which
-    // is stored, and its code returned.
+    // `IsExplained`: the reply has details by the table `xdp_family`, and nothing is stored; or it
+    // has a first error, which is stored, and its code returned.
     ensures { IsExplained (AreDetailsOf xdp_family payload.now)
         (IsFirstError xdp_family payload.now)
         record { old = error.old; new = error.new; returned = result } }
@@ -261,8 +264,8 @@ pub extern "C" fn sockdiag_message_explain(
 /// error is unchanged.
 #[unsafe(no_mangle)]
 pub extern "C" fn sockdiag_framing_explain(bytes: &[u8], error: &mut ErrorDetails) -> u32
-    // The bytes begin with a message, and nothing is stored; or they have a framing error
-    // (`IsMessageError`), which is stored.
+    // `IsExplained`: the bytes begin with a message (`HasHeader`), and nothing is stored; or they
+    // have a framing error (`IsMessageError`), which is stored.
     ensures { IsExplained (HasHeader bytes.now) (IsMessageError bytes.now)
         record { old = error.old; new = error.new; returned = result } }
 {
@@ -300,6 +303,8 @@ pub extern "C" fn sockdiag_inet_explain_attribute(bytes: &[u8], error: &mut Erro
 // Stores the code and the fields of the error of the first attribute, and returns its code. Returns
 // 0 if the attribute is valid or there are no bytes. `V`: the view of the attributes of a family.
 fn explain_item<'a, V: FamilyView<'a> + Drop>(bytes: &'a [u8], error: &mut ErrorDetails) -> u32
+    // `IsItemExplained`: the bytes are empty or begin with an attribute that is valid by the set of
+    // `V`, and nothing is stored; or the first error is stored.
     ensures { IsItemExplained V.attribute_set bytes.entry.now
         record { old = error.old; new = error.new; returned = result } }
 {

@@ -55,15 +55,13 @@ const _: () = prove!(std::mem::size_of::<VsockRequest>() == 24);
 /// if the family is none of `AF_NETLINK`, `AF_PACKET` and `AF_XDP`; then nothing is written.
 #[unsafe(no_mangle)]
 pub extern "C" fn sockdiag_write_show_request(request: &ShowRequest, buffer: &mut [u8]) -> usize
-    // `written` is about the three families, and `family` about any other one. show_message family
-    // r: a netlink header (length 36, type SOCK_DIAG_BY_FAMILY, the rest from r.header), then the
-    // family, the protocol, two zeros, inode, show and cookie, little-endian. WritesMessage len
-    // message call: if the buffer has at least `len` bytes, the message is at its start, the bytes
-    // after it are unchanged, and `len` is returned; else nothing is written, and 0 is returned.
+    // `WritesMessage len message`: the message, of `len` bytes, is written and `len` returned; or 0
+    // is returned, if the buffer is shorter. `show_message`: a header and the record.
     ensures written { (request.now.family ≡ AF_NETLINK) ⊎ ((request.now.family ≡ AF_PACKET)
         ⊎ (request.now.family ≡ AF_XDP)) → WritesMessage 36
         (show_message request.now.family request.now)
         record { old = buffer.old; new = buffer.new; returned = result } }
+    // For any other family nothing is written.
     ensures family { request.now.family ≢ AF_NETLINK → request.now.family ≢ AF_PACKET
         → request.now.family ≢ AF_XDP → (result ≡ 0) × (buffer.new ≡ buffer.old) }
 {
@@ -81,7 +79,7 @@ pub extern "C" fn sockdiag_write_show_request(request: &ShowRequest, buffer: &mu
 #[unsafe(no_mangle)]
 pub extern "C" fn sockdiag_write_vsock_request(request: &VsockRequest, buffer: &mut [u8]) -> usize
     // `WritesMessage len message`: the message, of `len` bytes, is written and `len` returned; or 0
-    // is returned, if the buffer is shorter.
+    // is returned, if the buffer is shorter. `vsock_message`: a header and the record.
     ensures { WritesMessage 40 (vsock_message request.now)
         record { old = buffer.old; new = buffer.new; returned = result } }
 {
@@ -96,7 +94,7 @@ pub extern "C" fn sockdiag_write_vsock_request(request: &VsockRequest, buffer: &
 // nothing is written.
 fn write_show<const FAMILY: u8>(request: &ShowRequest, buffer: &mut [u8]) -> usize
     // `WritesMessage len message`: the message, of `len` bytes, is written and `len` returned; or 0
-    // is returned, if the buffer is shorter.
+    // is returned, if the buffer is shorter. `show_message`: a header and the record.
     ensures { WritesMessage 36 (show_message FAMILY request.now)
         record { old = buffer.old; new = buffer.new; returned = result } }
 {

@@ -72,12 +72,15 @@ impl From<MemInfo> for Memory {
 }
 
 impl Memory {
-    /// Sets the memory, if it was parsed, unless it is set already. Returns the error, if any.
+    /// Sets the memory to the value of `parsed`, unless it is set already. Fails with the error of
+    /// `parsed`, if any.
     pub(crate) fn set(&mut self, parsed: Result<MemInfo, DecodeError>) -> Result<(), DecodeError>
-        // `o`: the memory counters before the call, or None. `result_ok parsed`: the parsed ones,
-        // or None. `first_present`: the first of two, or else the second.
+        // `o`: the memory counters before the call, or None. `memory_struct o`: the struct that has
+        // them. `first_present`: the first counters, or else the second. `result_ok`: the value of
+        // a result, or None.
         ensures memory { (o : Option MemInfoModel) → self.old ≡ memory_struct o
             → self.new ≡ memory_struct (first_present o (result_ok parsed)) }
+        // `result_err`: the error of a result, or None.
         ensures error { result_err result ≡ result_err parsed }
     {
         let memory = parsed?;
@@ -88,18 +91,20 @@ impl Memory {
     }
 }
 
-/// Sets the record, if it was parsed, unless one is set already. `is_set` is 1 if one is set, else
-/// 0. Returns the error, if any.
+/// Sets the record to the value of `parsed`, unless one is set already: `is_set` is 1 if one is,
+/// else 0. Fails with the error of `parsed`, if any.
 pub(crate) fn set_record<T: Copy>(
     parsed: Result<T, DecodeError>,
     is_set: &mut u32,
     record: &mut T,
 ) -> Result<(), DecodeError>
-    // `o`: the record before the call, or None; then `record` was `zero`, the value of a record
-    // that is not set. `result_ok parsed`: the parsed record, or None.
+    // `zero`: what `record` contains if none is set. `o`: the record before the call, or None.
+    // `optional_record zero o`: 1 and this record, or 0 and `zero`. `first_present`: the first
+    // record, or else the second. `result_ok`: the value of a result, or None.
     ensures record { (zero : T) (o : Option T)
         → (is_set.old, record.old) ≡ optional_record zero o
         → (is_set.new, record.new) ≡ optional_record zero (first_present o (result_ok parsed)) }
+    // `result_err`: the error of a result, or None.
     ensures error { result_err result ≡ result_err parsed }
 {
     let found = parsed?;
@@ -113,7 +118,8 @@ pub(crate) fn set_record<T: Copy>(
 /// Stores the record, if there is one. Returns 1, or 0 if there is none; then the target is
 /// unchanged.
 pub(crate) fn store<T: Copy>(found: Option<T>, target: &mut T) -> u32
-    // `IsGetterResult`: the item of `found` is stored, and the result is 1; or 0 if it is None.
+    // `IsGetterResult`: the item of `found` is stored, and the result is 1; or it is 0, if `found`
+    // is None.
     ensures { IsGetterResult found
         record { old = target.old; new = target.new; returned = result } }
 {
@@ -126,14 +132,16 @@ pub(crate) fn store<T: Copy>(found: Option<T>, target: &mut T) -> u32
     }
 }
 
-/// Parses the header at the start of the payload. Returns it, and the bytes after it.
+/// Parses the header at the start of the payload. Returns it and the bytes after it, or fails with
+/// its error.
 #[tactic(auto, using(netlink_core::proofs::LayoutLaws::parsed_by_fields))]
 #[inline(always)]
 pub(crate) fn split_header<H: Record<Param = ()>>(payload: &[u8]) -> Result<(H, &[u8]), DecodeError>
-    // `H.layout`: the layout of the header; `least` is its length in bytes. The parser has no
-    // parameter (`tt`).
+    // `parse_record`: the parser of a record by its layout, `H.layout`, which has no parameter
+    // (`tt`).
     ensures header { IfOk result (λ (header, rest). parse_record H.layout tt payload.entry.now
         ≡ Ok header) }
+    // `least`: the length of the header in bytes.
     ensures rest { IfOk result (λ (header, rest). rest.now
         ≡ drop H.layout.least payload.entry.now) }
     ensures error { IfErr result (λ error. parse_record H.layout tt payload.entry.now

@@ -49,8 +49,9 @@ pub extern "C" fn sockdiag_write_inet_request_with_attributes(
     buffer: &mut [u8],
     outcome: &mut Outcome,
 ) -> usize
-    // `filtered_request`: the attributes are checked, and the request is serialized with them.
-    // `ParsesAndWrites`: its bytes are written; or nothing is, for one of the reasons above.
+    // `ParsesAndWrites`: bytes are written; or none are, for one of the reasons above.
+    // `filtered_request`: they are those of the request with these attributes, if their framing is
+    // valid.
     ensures { ParsesAndWrites (filtered_request request.now attributes.now) record {
       old = buffer.old;
       new = buffer.new;
@@ -103,8 +104,8 @@ impl Emitable for FilteredRequest<'_> {
     }
 }
 
-// Returns the length of a request for IPv4 or IPv6 sockets in bytes, without the caller's
-// attributes.
+// Returns the length of a request for IPv4 or IPv6 sockets of this protocol in bytes, without the
+// caller's attributes.
 fn request_len(protocol: u32) -> usize
     // `limit` is a consequence of `all`, for callers that add to the length.
     ensures all { result ≡ inet_message_length protocol }
@@ -121,6 +122,8 @@ fn write_request(len: u32, request: &InetRequest, buffer: &mut [u8])
     requires family { IsInetFamily request.now.family }
     // The buffer has exactly the length of the request without the caller's attributes.
     requires whole { length buffer.old ≡ inet_message_length request.now.protocol }
+    // `request_header_of`: the netlink header with this length and type. After it the record
+    // (`record_bytes`) and, if the protocol is above 255, its attribute (`protocol_attribute`).
     ensures { buffer.new
         ≡ header_bytes (request_header_of len SOCK_DIAG_BY_FAMILY request.now.header)
         ++ record_bytes inet_request (inet_request_from_c request.now)

@@ -74,8 +74,9 @@ impl<'a> InetDetails<'a> {
     // Sets the field of the attribute, unless an earlier attribute of its kind has set it.
     fn set(&mut self, nla: NlaView<'a>)
         ensures header { self.new.header ≡ self.old.header }
-        // The table of rows is about attributes, so the clause is for each attribute `a` that
-        // decodes to this value. `AddsValues`: the fields of `a` are set, unless they were set.
+        // For each attribute `a` that decodes to this value, since the rows are about attributes:
+        // the fields of `a` in the table `inet_rows` are set, unless they were set before
+        // (`AddsValues`).
         ensures values { (a : Attribute)
             → decode_attribute inet_attribute_set a ≡ Ok (inet_nla_view_model nla.entry)
             → AddsValues inet_rows a record { old = self.old; new = self.new } }

@@ -21,15 +21,14 @@ ghost use Rattle.sockdiag_c.specs.Walks.{IterationStep, StepsOverAttribute, Step
 ghost use Rattle.sockdiag_c.specs.Walks.{StoresCheckedMessage, attribute_in, bytes_after_step};
 ghost use Rattle.sockdiag_c.specs.Walks.{bytes_before_step};
 
-/// States that a step of an iteration over attributes returns the first attribute of the bytes
-/// left, and leaves the others (`next`); and that it returns 0 if no attribute is left (`end`).
-/// Each clause requires that the bytes left are a sequence of attributes, as the bytes after the
-/// header of an accepted reply are.
-///
-/// `SplitsIntoAttributes b attributes []`: the bytes `b` consist of these attributes, and nothing
-/// remains. `bytes_before_step` and `bytes_after_step`: the bytes from the cursor on, before and
-/// after the step. `attribute_in`: the attribute that the stored struct describes.
+/// States that a call of `sockdiag_next_attribute` returns the first of the attributes left, and
+/// leaves the others (`next`); and that it returns 0 if none is left (`end`). The bytes left have
+/// to be a sequence of attributes, as those after the header of an accepted reply are.
 pub fn a_step_passes_the_first_attribute()
+    // `SplitsIntoAttributes b attributes []`: the bytes `b` are these attributes, and nothing
+    // follows. `bytes_before_step` and `bytes_after_step`: the bytes from the cursor on, before and
+    // after the call. `StepsOverAttribute step`: `step` has the arguments and the results of such a
+    // call. `attribute_in`: the attribute that the stored struct describes.
     ensures next { (step : IterationStep AttributeRange)
         (first : Attribute) (later : List Attribute)
         → SplitsIntoAttributes (bytes_before_step step) (first ∷ later) []
@@ -41,16 +40,15 @@ pub fn a_step_passes_the_first_attribute()
         → StepsOverAttribute step → step.returned ≡ 0 }
 {}
 
-/// States that a step of an iteration over messages stores the first message of the bytes left and
-/// leaves the others (`next`; `StoresCheckedMessage` has what is returned); that it returns 0 if no
-/// bytes are left (`end`); and that it returns the code of the framing error if bytes are left that
-/// do not begin with a message (`error`).
-///
-/// `SplitsIntoMessages b messages end`: the bytes `b` consist of these messages, and then nothing
-/// (`None`) or bytes with the framing error `Some e`. `IsBytes b`: each number of `b` is below 256.
-/// `bytes_before_step` and `bytes_after_step`: the bytes from the cursor on, before and after the
-/// step.
+/// States that a call of `sockdiag_next_message` stores the first message of the bytes left, and
+/// leaves the others (`next`); that it returns 0 if no bytes are left (`end`); and that it returns
+/// the code of the framing error if bytes are left that do not begin with a message (`error`).
 pub fn a_step_passes_the_first_message()
+    // `IsBytes b`: each number of `b` is below 256. `bytes_before_step` and `bytes_after_step`: the
+    // bytes from the cursor on, before and after the call. `SplitsIntoMessages b messages end`: the
+    // bytes `b` are these messages, and then nothing (None), or bytes with the framing error
+    // `Some e`. `StepsOverMessage step`: `step` has the arguments and the results of such a call.
+    // `StoresCheckedMessage`: the message is stored, and 1 or the code of its error returned.
     ensures next { (step : IterationStep MessageRange)
         (message : List ℕ) (later : List (List ℕ)) (end : Option DecodeError)
         → IsBytes (bytes_before_step step)
@@ -68,9 +66,10 @@ pub fn a_step_passes_the_first_message()
         → (step.returned ≡ error_code e) × (bytes_after_step step ≡ []) }
 {}
 
-/// States that a lenient call agrees with the strict call, for each family: if `first` of the
-/// rejections is 0, the details are those of the strict call. Otherwise `first` is the code of the
-/// error that the strict call returns.
+/// States that a lenient call, `sockdiag_.._get_lenient_details`, agrees with the strict call,
+/// `sockdiag_.._get_details`, for each family: if the field `first` of the rejections is 0, the
+/// details are those of the strict call. Otherwise it is the code of the error that the strict call
+/// returns.
 pub fn lenient_calls_agree_with_strict_calls()
     ensures unix { CallsAgree unix_family }
     ensures inet { CallsAgree inet_family }
@@ -80,9 +79,10 @@ pub fn lenient_calls_agree_with_strict_calls()
     ensures xdp { CallsAgree xdp_family }
 {}
 
-/// States that the strict calls for UNIX and internet sockets accept and reject the replies that
-/// `sockdiag_check_unix_reply` and `sockdiag_check_inet_reply` do, with the same errors. These are
-/// the replies and errors of the codecs of `unix_response_spec` and `inet_response_spec`.
+/// States that `sockdiag_unix_get_details` and `sockdiag_inet_get_details` accept and reject the
+/// replies that `sockdiag_check_unix_reply` and `sockdiag_check_inet_reply` do, with the same
+/// errors. These are the replies and errors of the codecs of `unix_response_spec` and
+/// `inet_response_spec`.
 pub fn strict_calls_agree_with_checks()
     ensures unix { AgreesWithCodec unix_family unix_response_spec }
     ensures inet { AgreesWithCodec inet_family inet_response_spec }

@@ -76,6 +76,7 @@ impl Errors {
     /// Adds an error: it is the first one if there was none. Its code as a framing error or as the
     /// error of a kind is not stored; the caller does that.
     pub(crate) fn add(&mut self, error: DecodeError)
+        // `first_present`: the first error, or else the second.
         ensures first { self.new.first ≡ first_present self.old.first (Some error) }
         // If the code `first` of the rejections was that of the first error before, it still is.
         // `optional_code`: the code, or 0 for None.
@@ -92,8 +93,10 @@ impl Errors {
 
     /// Adds the error of an attribute of this kind.
     pub(crate) fn add_value(&mut self, kind: u16, error: DecodeError)
+        // `first_present`: the first error, or else the second.
         ensures first { self.new.first ≡ first_present self.old.first (Some error) }
         // If the code `first` of the rejections was that of the first error before, it still is.
+        // `optional_code`: the code, or 0 for None.
         ensures code { self.old.rejections.first ≡ optional_code self.old.first
             → self.new.rejections.first ≡ optional_code self.new.first }
         ensures framing { self.new.rejections.framing ≡ self.old.rejections.framing }

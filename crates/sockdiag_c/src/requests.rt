@@ -108,7 +108,7 @@ const _: () = prove!(std::mem::size_of::<InetRequest>() == 72);
 #[unsafe(no_mangle)]
 pub extern "C" fn sockdiag_write_unix_request(request: &UnixRequest, buffer: &mut [u8]) -> usize
     // `WritesMessage len message`: the message, of `len` bytes, is written and `len` returned; or 0
-    // is returned, if the buffer is shorter.
+    // is returned, if the buffer is shorter. `unix_message`: a header of this type and the record.
     ensures { WritesMessage 40 (unix_message SOCK_DIAG_BY_FAMILY request.now)
         record { old = buffer.old; new = buffer.new; returned = result } }
 {
@@ -122,7 +122,7 @@ pub extern "C" fn sockdiag_write_unix_request(request: &UnixRequest, buffer: &mu
 #[unsafe(no_mangle)]
 pub extern "C" fn sockdiag_write_unix_destroy(request: &UnixRequest, buffer: &mut [u8]) -> usize
     // `WritesMessage len message`: the message, of `len` bytes, is written and `len` returned; or 0
-    // is returned, if the buffer is shorter.
+    // is returned, if the buffer is shorter. `unix_message`: a header of this type and the record.
     ensures { WritesMessage 40 (unix_message SOCK_DESTROY request.now)
         record { old = buffer.old; new = buffer.new; returned = result } }
 {
@@ -165,7 +165,7 @@ pub extern "C" fn sockdiag_write_inet_destroy(request: &InetRequest, buffer: &mu
 // shorter; then nothing is written.
 fn write_unix(message_type: u16, request: &UnixRequest, buffer: &mut [u8]) -> usize
     // `WritesMessage len message`: the message, of `len` bytes, is written and `len` returned; or 0
-    // is returned, if the buffer is shorter.
+    // is returned, if the buffer is shorter. `unix_message`: a header of this type and the record.
     ensures { WritesMessage 40 (unix_message message_type request.now)
         record { old = buffer.old; new = buffer.new; returned = result } }
 {
@@ -240,13 +240,13 @@ pub(crate) fn write_message<R: Emitable>(
     attributes: &[u8],
     buffer: &mut [u8],
 ) -> usize
-    // `R.writable`: the record can be serialized. `R.bytes`: the bytes that it serializes to.
-    // `request_header_of`: the header with this length and type. `WritesMessage len message`: the
-    // message is written and `len` returned; or 0 is returned, if the buffer is shorter.
+    // The record can be serialized.
     requires writable { R.writable value.now }
-    // The length of the message fits `nlmsg_len`, a `__u32`: 16 bytes of the header, the record and
-    // the attributes.
+    // The length of the message fits `nlmsg_len`, a `__u32`: 16 bytes of the header, the bytes of
+    // the record (`R.bytes`), and the attributes.
     requires small { 16 + length (R.bytes value.now) + length attributes.now ≤ 4294967295 }
+    // `WritesMessage len message`: the message is written and `len` returned; or 0 is returned, if
+    // the buffer is shorter. `request_header_of`: the header with this length and type.
     ensures { let len = 16 + length (R.bytes value.now) + length attributes.now in
         WritesMessage len (header_bytes (request_header_of len message_type header.now)
         ++ R.bytes value.now ++ attributes.now)
@@ -266,10 +266,13 @@ pub(crate) fn write_message<R: Emitable>(
     len
 }
 
-// Writes a netlink header to the sixteen bytes of a buffer: `len` is the length of the message.
+// Writes a netlink header to the sixteen bytes of a buffer: of a message of `len` bytes and this
+// type, with the fields of `header`.
 fn write_header(len: u32, message_type: u16, header: &RequestHeader, buffer: &mut [u8])
     // The buffer has exactly the length of a netlink header.
     requires { length buffer.old ≡ 16 }
+    // `header_bytes`: the bytes of a netlink header. `request_header_of`: the header with this
+    // length and type.
     ensures { buffer.new ≡ header_bytes (request_header_of len message_type header.now) }
 {
     let (len_part, after_len) = buffer.split_at_mut(4);

@@ -44,16 +44,17 @@ pub extern "C" fn sockdiag_rewrite_unix_reply(
     buffer: &mut [u8],
     outcome: &mut Outcome,
 ) -> usize
-    // `reply_conversion`: the payload is parsed as a reply, and the value is serialized.
-    // `ParsesAndWrites`: its bytes are written; or nothing is, for one of the reasons above.
+    // `ParsesAndWrites`: bytes are written; or none are, for one of the reasons above.
+    // `reply_conversion`: they are those of the value that the payload parses as, by the codec of
+    // `unix_response_spec`.
     ensures rewrites { ParsesAndWrites (reply_conversion unix_response_spec payload.now) record {
       old = buffer.old;
       new = buffer.new;
       outcome = outcome.new;
       returned = result;
     } }
-    // If bytes were written (`0 < result`), an accepted and writable reply serializes to these
-    // bytes if and only if it is equivalent to this reply.
+    // If bytes were written, they (`take result`) are the canonical form: an accepted and writable
+    // reply serializes to them if and only if it is equivalent to this reply.
     ensures canonical { 0 < result
         → IsCanonicalForm unix_response_spec payload.now (take result buffer.new) }
 {
@@ -79,31 +80,38 @@ pub extern "C" fn sockdiag_rewrite_inet_reply(
     buffer: &mut [u8],
     outcome: &mut Outcome,
 ) -> usize
-    // `reply_conversion`: the payload is parsed as a reply, and the value is serialized.
-    // `ParsesAndWrites`: its bytes are written; or nothing is, for one of the reasons above.
+    // `ParsesAndWrites`: bytes are written; or none are, for one of the reasons above.
+    // `reply_conversion`: they are those of the value that the payload parses as, by the codec of
+    // `inet_response_spec`.
     ensures rewrites { ParsesAndWrites (reply_conversion inet_response_spec payload.now) record {
       old = buffer.old;
       new = buffer.new;
       outcome = outcome.new;
       returned = result;
     } }
-    // If bytes were written (`0 < result`), an accepted and writable reply serializes to these
-    // bytes if and only if it is equivalent to this reply.
+    // If bytes were written, they (`take result`) are the canonical form: an accepted and writable
+    // reply serializes to them if and only if it is equivalent to this reply.
     ensures canonical { 0 < result
         → IsCanonicalForm inet_response_spec payload.now (take result buffer.new) }
 {
     rewrite::<InetResponseHeader>(payload, buffer, outcome)
 }
 
-// Writes the canonical form of a reply with this kind of header, as the exports do, whose clauses
-// these are. `H.reply` has the codec of such replies.
+// Writes the canonical form of a reply, whose header has the type `H`, at the start of the buffer.
+// Returns the number of bytes that were written; or 0 if the reply is rejected or cannot be
+// serialized, or if the buffer is too short. The outcome says which.
 fn rewrite<H: ReplyHeader>(payload: &[u8], buffer: &mut [u8], outcome: &mut Outcome) -> usize
+    // `ParsesAndWrites`: bytes are written; or none are, for one of these reasons.
+    // `reply_conversion`: they are those of the value that the payload parses as, by the codec of
+    // `H.reply`.
     ensures rewrites { ParsesAndWrites (reply_conversion H.reply payload.now) record {
       old = buffer.old;
       new = buffer.new;
       outcome = outcome.new;
       returned = result;
     } }
+    // If bytes were written, an accepted and writable reply serializes to them (`take result`) if
+    // and only if it is equivalent to this reply.
     ensures canonical { 0 < result
         → IsCanonicalForm H.reply payload.now (take result buffer.new) }
 {
@@ -115,9 +123,10 @@ fn rewrite<H: ReplyHeader>(payload: &[u8], buffer: &mut [u8], outcome: &mut Outc
 
 // Serializes the value to the start of the buffer, if it is writable and the buffer is long enough.
 // Returns the number of bytes that were written, or 0. Sets `outcome.needed` to the number of bytes
-// that the value needs, or to 0 if it is not writable; and `outcome.error` to 0. `V.writable`: the
-// value is writable. `V.bytes`: the bytes that it serializes to.
+// that the value needs, or to 0 if it is not writable; and `outcome.error` to 0.
 pub(crate) fn write_value<V: Emitable>(value: &V, buffer: &mut [u8], outcome: &mut Outcome) -> usize
+    // `WritesValue`: these three cases. `V.writable`: the value is writable. `V.bytes`: the bytes
+    // that it serializes to.
     ensures { WritesValue (V.writable value.now) (V.bytes value.now) record {
       old = buffer.old;
       new = buffer.new;
@@ -139,6 +148,7 @@ pub(crate) fn write_value<V: Emitable>(value: &V, buffer: &mut [u8], outcome: &m
 
 // Stores the code of the error in the outcome. Returns 0, since nothing is written.
 pub(crate) fn reject(error: &DecodeError, outcome: &mut Outcome) -> usize
+    // `outcome_struct error needed`: the struct with these fields.
     ensures outcome { outcome.new ≡ outcome_struct (error_code error.now) 0 }
     ensures none { result ≡ 0 }
 {

@@ -38,6 +38,7 @@ pub extern "C" fn sockdiag_inet_get_tcp_info(payload: &[u8], info: &mut [u8; TCP
     ensures length { (attributes : List Attribute)
         → AreInetReplyAttributes payload.now attributes
         → result ≡ length (first_value_of_type INET_DIAG_INFO attributes) }
+    // `padded_or_truncated n`: the first `n` bytes of the value, and zeros if it has fewer.
     ensures bytes { (attributes : List Attribute)
         → AreInetReplyAttributes payload.now attributes
         → info.new ≡ padded_or_truncated TCP_INFO_LEN
@@ -64,6 +65,7 @@ pub extern "C" fn sockdiag_inet_get_long_tcp_info(
     ensures length { (attributes : List Attribute)
         → AreInetReplyAttributes payload.now attributes
         → result ≡ length (first_value_of_type INET_DIAG_INFO attributes) }
+    // `padded_or_truncated n`: the first `n` bytes of the value, and zeros if it has fewer.
     ensures bytes { (attributes : List Attribute)
         → AreInetReplyAttributes payload.now attributes
         → info.new ≡ padded_or_truncated LONG_TCP_INFO_LEN
@@ -92,6 +94,7 @@ pub extern "C" fn sockdiag_inet_get_mptcp_info(
     ensures length { (attributes : List Attribute)
         → AreInetReplyAttributes payload.now attributes
         → result ≡ length (first_value_of_type INET_DIAG_INFO attributes) }
+    // `padded_or_truncated n`: the first `n` bytes of the value, and zeros if it has fewer.
     ensures bytes { (attributes : List Attribute)
         → AreInetReplyAttributes payload.now attributes
         → info.new ≡ padded_or_truncated MPTCP_INFO_LEN
@@ -114,6 +117,7 @@ pub extern "C" fn sockdiag_inet_get_memory(payload: &[u8], memory: &mut [u8; MEM
     ensures length { (attributes : List Attribute)
         → AreInetReplyAttributes payload.now attributes
         → result ≡ length (first_value_of_type INET_DIAG_SKMEMINFO attributes) }
+    // `padded_or_truncated n`: the first `n` bytes of the value, and zeros if it has fewer.
     ensures bytes { (attributes : List Attribute)
         → AreInetReplyAttributes payload.now attributes
         → memory.new ≡ padded_or_truncated MEM_INFO_LEN
@@ -131,6 +135,7 @@ fn copy_first_value<const N: usize>(payload: &[u8], kind: u16, found: &mut [u8; 
     ensures length { (attributes : List Attribute)
         → AreInetReplyAttributes payload.now attributes
         → result ≡ length (first_value_of_type kind attributes) }
+    // `padded_or_truncated n`: the first `n` bytes of the value, and zeros if it has fewer.
     ensures bytes { (attributes : List Attribute)
         → AreInetReplyAttributes payload.now attributes
         → found.new ≡ padded_or_truncated N (first_value_of_type kind attributes) }
@@ -146,6 +151,7 @@ fn copy_first_value<const N: usize>(payload: &[u8], kind: u16, found: &mut [u8; 
 // Returns the value of the first attribute of the kind, or no bytes if there is none before the end
 // or a framing error.
 fn first_value(bytes: &[u8], kind: u16) -> &[u8]
+    // `attributes`: those at the start of the bytes, up to the end or a framing error.
     ensures { (attributes : List Attribute) → AreAttributesIn bytes.entry.now attributes
         → result.now ≡ first_value_of_type kind attributes }
 {

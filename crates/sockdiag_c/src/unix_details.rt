@@ -84,8 +84,9 @@ impl<'a> UnixDetails<'a> {
     // Sets the fields of the attribute, unless an earlier attribute of its kind has set them.
     fn set(&mut self, nla: NlaView<'a>)
         ensures header { self.new.header ≡ self.old.header }
-        // The table of rows is about attributes, so the clause is for each attribute `a` that
-        // decodes to this value. `AddsValues`: the fields of `a` are set, unless they were set.
+        // For each attribute `a` that decodes to this value, since the rows are about attributes:
+        // the fields of `a` in the table `unix_rows` are set, unless they were set before
+        // (`AddsValues`).
         ensures values { (a : Attribute)
             → decode_attribute unix_attribute_set a ≡ Ok (unix_nla_view_model nla.entry)
             → AddsValues unix_rows a record { old = self.old; new = self.new } }

@@ -226,14 +226,15 @@ pub extern "C" fn sockdiag_next_any_message(
 /// finds.
 #[unsafe(no_mangle)]
 pub extern "C" fn sockdiag_get_error_number(payload: &[u8], number: &mut i32) -> u32
-    // `leading_error_number`: the number in the first four bytes, or None if there are fewer.
+    // `IsGetterResult`: the number is stored, and the result is 1; or it is 0, if there is none.
+    // `leading_error_number`: the number in the first four bytes, or None.
     ensures { IsGetterResult (leading_error_number payload.now)
         record { old = number.old; new = number.new; returned = result } }
 {
     store(error_number(payload), number)
 }
 
-/// Returns the bytes from this offset on; none if the offset is past the end.
+/// Returns the bytes from this offset on, or no bytes if the offset is past the end.
 pub(crate) fn bytes_from(bytes: &[u8], offset: usize) -> &[u8]
     ensures { result.now ≡ drop offset bytes.entry.now }
 {

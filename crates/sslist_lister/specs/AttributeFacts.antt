@@ -223,8 +223,9 @@ newer_inet_outcome a =
     else Ok None
 
 -- `decoded_inet_outcome utf8 a value`: what the attribute `a` of an IPv4 or IPv6 socket says
--- (linux/inet_diag.h), which the port decodes as `value`. A `struct tcp_info` is shown from the
--- value of `a`, which may have fields that the decoded value lacks.
+-- (linux/inet_diag.h), which the port decodes as `value`. The option `--utf8` (`utf8`) changes only
+-- the name of a congestion control algorithm. A `struct tcp_info` is shown from the value of `a`,
+-- which may have fields that the decoded value lacks.
 abbrev pub decoded_inet_outcome : Bool → Attribute → InetNla (List ℕ) Attribute → Outcome
 decoded_inet_outcome utf8 a (inet_nla.LegacyMemInfo m) = Ok (Some (legacy_memory_facts m))
 decoded_inet_outcome utf8 a (inet_nla.TcpInfo t) = Ok (Some (tcp_info a.value))

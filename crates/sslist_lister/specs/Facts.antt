@@ -199,7 +199,8 @@ abbrev pub status_of : Outcome → Result Bool DecodeError
 status_of outcome = map_ok is_some outcome
 
 -- `AddsOutcome old new outcome status`: the facts of the outcome, if it has any, were appended to
--- the content `old` of a sink, which then is `new`, and `status` is the status of the outcome
+-- the content `old` of a sink, which then is `new`; and `status` is true if it has facts, false if
+-- the type of the attribute is unknown, or the error of its value (`status_of`)
 abbrev pub AddsOutcome : {Item : Type 0} {items : Facts → List Item} → SinkContent items
     → SinkContent items → Outcome → Result Bool DecodeError → Type 0
 AddsOutcome old new outcome =

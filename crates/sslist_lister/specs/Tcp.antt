@@ -73,8 +73,10 @@ hidden f member = row_of (tcp_span_of f) Never [] (Some member)
 abbrev pub option_row : ℕ → List ℕ → FieldRow
 option_row bit text = (offset_of field.Options, Byte, Bits bit, text, None)
 
--- The rows of the first eight bytes: the state, the options and the window scales. The table shows
--- the window scales if `tcpi_options` has TCPI_OPT_WSCALE.
+-- The rows of the first eight bytes, in their order. Two rows are of no form above: `wscale`, a
+-- byte that counts only if `tcpi_options` has TCPI_OPT_WSCALE (`Negotiated`) and is shown as its
+-- low half, a comma, its high half and `)` (`Halves`); and `app_limited`, bit 0 of a byte
+-- (`FirstBit`), which is shown if it is set (`Bits 1`).
 unfoldable pub tcp_state_rows : List FieldRow
 tcp_state_rows =
     hidden field.State (codes "state") ∷

@@ -1,6 +1,7 @@
 //! The facts of the attributes of a reply, except for the connection of a TCP socket, its MD5 keys
 //! and its upper layer protocol. A function of this module appends to a sink. If it fails, an
-//! allocation failed, and the content of the sink is not specified. In the contracts, `S.content
+//! allocation failed, and the content of the sink is not specified. In the contracts, `AddsFacts
+//! old new facts` states that the sink shows these facts after what it showed before. `S.content
 //! sink.old` and `S.content sink.new` are what the sink shows before and after the call.
 //!
 //! A function that returns a [`Status`] appends the facts of an attribute `nla`, which is
@@ -113,8 +114,8 @@ macro_rules! flag {
     };
 }
 
-/// Shows the facts of an attribute of a reply about these sockets, if it has any. The table shows
-/// names with letters that are not ASCII if `utf8` is set.
+/// Shows the facts of an attribute of a reply about these sockets, if it has any, and returns its
+/// status. The table shows names with letters that are not ASCII if `utf8` is set.
 pub(crate) fn show_attribute<S: FactSink>(
     sink: &mut S,
     alloc: Global,
@@ -134,7 +135,7 @@ pub(crate) fn show_attribute<S: FactSink>(
     }
 }
 
-/// Shows the facts of an attribute of a UNIX socket, if it has any.
+/// Shows the facts of an attribute of a UNIX socket, if it has any, and returns its status.
 fn show_unix<S: FactSink>(
     sink: &mut S,
     alloc: Global,
@@ -150,17 +151,18 @@ fn show_unix<S: FactSink>(
     }
 }
 
-/// Shows the facts of a decoded attribute of a UNIX socket, if it has any. Only JSON has the name,
-/// the peer and the queues here, since the table has columns for them. The memory is parsed again,
-/// since its view has only three of nine fields.
+/// Shows the facts of a decoded attribute of a UNIX socket, if it has any, and returns its status.
+/// Only JSON has the name, the peer and the queues here, since the table has columns for them. The
+/// memory is parsed again, since its view has only three of nine fields.
 fn show_unix_view<S: FactSink>(
     sink: &mut S,
     alloc: Global,
     nla: &NlaBuffer<'_>,
     view: &UnixView<'_>,
 ) -> Result<Status, AllocError>
-    // `unix_variant (unix_view_model view)`: the value that the port decodes, with lists for the
-    // bytes that it borrows. `decoded_unix_outcome`: what an attribute with this value says.
+    // `decoded_unix_outcome attribute value`: what an attribute with this value says. `unix_variant
+    // (unix_view_model view)`: the value that the port decodes, with lists for the bytes that it
+    // borrows.
     ensures { IfOk result (AddsOutcome (S.content sink.old) (S.content sink.new)
         (decoded_unix_outcome (buffered_attribute nla.now)
         (unix_variant (unix_view_model view.now)))) }
@@ -222,8 +224,8 @@ fn show_queues<S: FactSink>(sink: &mut S, first: u32, second: u32) -> Result<(),
     show_json_group(sink, "rqlen", &rows)
 }
 
-/// Shows the facts of an attribute of a UNIX socket that the port leaves undecoded, if it has any.
-/// Only JSON has the user id here, since the table has a column for it.
+/// Shows the facts of an attribute of a UNIX socket that the port leaves undecoded, if it has any,
+/// and returns its status. Only JSON has the user id here, since the table has a column for it.
 fn show_newer_unix<S: FactSink>(sink: &mut S, nla: &NlaBuffer<'_>) -> Result<Status, AllocError>
     // `newer_unix_outcome attribute`: the user id, or an error; nothing for any other kind.
     ensures { IfOk result (AddsOutcome (S.content sink.old) (S.content sink.new)
@@ -264,7 +266,8 @@ fn show_number<S: FactSink>(
 /// Returns the status of an attribute whose value does not have `need` bytes: the error
 /// `WrongLength`.
 pub(crate) fn length_error(nla: &NlaBuffer<'_>, need: usize) -> Status
-    // `length_outcome`: the outcome `WrongLength`. `status_of`: the status of an outcome.
+    // `status_of`: the status of an outcome. `length_outcome attribute need`: the error
+    // `WrongLength`.
     ensures { result ≡ status_of (length_outcome (buffered_attribute nla.now) need) }
 {
     Err(DecodeError::WrongLength {
@@ -274,8 +277,8 @@ pub(crate) fn length_error(nla: &NlaBuffer<'_>, need: usize) -> Status
     })
 }
 
-/// Shows the facts of an attribute of an IPv4 or IPv6 socket, if it has any. `info` is the meaning
-/// of `INET_DIAG_INFO`.
+/// Shows the facts of an attribute of an IPv4 or IPv6 socket, if it has any, and returns its
+/// status. `info` is the meaning of `INET_DIAG_INFO`.
 fn show_inet<S: FactSink>(
     sink: &mut S,
     alloc: Global,
@@ -296,8 +299,8 @@ fn show_inet<S: FactSink>(
     }
 }
 
-/// Shows the facts of an attribute of an IPv4 or IPv6 socket, if it has any. Its value is decoded
-/// by the port.
+/// Shows the facts of an attribute of an IPv4 or IPv6 socket, if it has any, and returns its
+/// status. Its value is decoded by the port.
 fn show_port_inet<S: FactSink>(
     sink: &mut S,
     alloc: Global,
@@ -314,8 +317,8 @@ fn show_port_inet<S: FactSink>(
     }
 }
 
-/// Shows the facts of a decoded attribute of an IPv4 or IPv6 socket, if it has any. A `struct
-/// tcp_info` is shown from its bytes, which may have fields that the view lacks.
+/// Shows the facts of a decoded attribute of an IPv4 or IPv6 socket, if it has any, and returns its
+/// status. A `struct tcp_info` is shown from its bytes, which may have fields that the view lacks.
 fn show_inet_view<S: FactSink>(
     sink: &mut S,
     alloc: Global,
@@ -323,8 +326,9 @@ fn show_inet_view<S: FactSink>(
     nla: &NlaBuffer<'_>,
     view: &InetView<'_>,
 ) -> Result<Status, AllocError>
+    // `decoded_inet_outcome utf8 attribute value`: what an attribute with this value says.
     // `inet_variant (inet_view_model view)`: the value that the port decodes, with lists for the
-    // bytes that it borrows. `decoded_inet_outcome`: what an attribute with this value says.
+    // bytes that it borrows.
     ensures { IfOk result (AddsOutcome (S.content sink.old) (S.content sink.new)
         (decoded_inet_outcome utf8 (buffered_attribute nla.now) (inet_variant
         (inet_view_model view.now)))) }
@@ -384,7 +388,7 @@ fn show_legacy_memory<S: FactSink>(sink: &mut S, memory: &LegacyMemInfo) -> Resu
 }
 
 /// Shows the facts of an attribute of an IPv4 or IPv6 socket that the port leaves undecoded, if it
-/// has any.
+/// has any, and returns its status.
 fn show_newer_inet<S: FactSink>(
     sink: &mut S,
     alloc: Global,
@@ -552,8 +556,8 @@ fn show_bbr_info<S: FactSink>(sink: &mut S, info: &BbrInfo) -> Result<(), AllocE
     show_group(sink, b" bbr:(", b")", "bbrinfo", &rows)
 }
 
-/// Returns the kind of the attribute with the memory of a netlink, packet, vsock or XDP socket.
-/// Vsock sockets have none.
+/// Returns the kind of the attribute with the memory of a socket of this family. Returns `None` for
+/// vsock sockets, which have none.
 pub(crate) fn memory_kind(family: Family) -> Option<u16>
     ensures { result ≡ memory_kind family }
 {
@@ -565,7 +569,8 @@ pub(crate) fn memory_kind(family: Family) -> Option<u16>
     }
 }
 
-/// Shows the facts of an attribute of a netlink, packet, vsock or XDP socket, if it has any.
+/// Shows the facts of an attribute of a netlink, packet, vsock or XDP socket, if it has any, and
+/// returns its status.
 fn show_family<S: FactSink>(
     sink: &mut S,
     family: Family,
@@ -607,8 +612,8 @@ fn show_memory_value<S: FactSink>(
     }
 }
 
-/// Shows the memory of a socket, in bytes, as ss(8) does. The backlog and the drops are shown only
-/// if the value has them.
+/// Shows the memory of a socket, in bytes, as ss(8) does, and as the object `member` in JSON. The
+/// backlog and the drops are shown only if the value has them.
 fn show_memory<S: FactSink>(sink: &mut S, member: &str, memory: &MemInfo) -> Result<(), AllocError>
     ensures { OnOk result (AddsFacts (S.content sink.old) (S.content sink.new)
         (memory_facts member.now memory.now)) }

@@ -1,6 +1,10 @@
 //! The attributes of a reply, sorted in one walk: the first valid attribute of a kind counts, and
 //! each one that is invalid or unknown is listed. If a function of this module fails, an allocation
 //! failed, and the collected attributes are not specified.
+//!
+//! In the contracts, `buffered_attribute` is the type and the value of an attribute,
+//! `slot_attribute` is that of the attribute in a slot, or None, and `collected self.now` is what
+//! the attributes in `self` say.
 
 ghost use Rattle.std.specs.Prelude.{◌≡◌, ◌<◌, ◌++◌, ◌∷◌, ℕ, List, IfOk, None, OnOk, Ok, length};
 ghost use Rattle.std.specs.Prelude.{map, slice_index_or};
@@ -67,9 +71,9 @@ impl<'a> Attributes<'a> {
     /// it.
     pub(crate) fn collect(&mut self, bytes: &'a [u8]) -> Result<(), AllocError>
         requires { HasNone self.now }
-        // `pieces_in`: each attribute in the bytes, and then the framing error, if there is one.
-        // `summary_of`: the first valid attribute of each kind, the unknown and the invalid ones,
-        // and this error.
+        // `summary_of ..`: the first valid attribute of each kind, the unknown and the invalid
+        // ones, and the framing error. `pieces_in`: each attribute in the bytes, and then this
+        // error, if there is one.
         ensures summary { OnOk result (collected self.new
             ≡ summary_of self.old.sockets (pieces_in bytes.entry.now)) }
         // `end` is also a member of the summary. This clause names it, since callers return it.
@@ -90,16 +94,15 @@ impl<'a> Attributes<'a> {
 
     /// Returns the first valid attribute of a kind. Returns `None` if there is none.
     pub(crate) fn first_of(&self, kind: u16) -> Option<NlaBuffer<'a>>
-        // `slot_attribute result`: the type and the value of the attribute, if there is one.
-        // `first_in`: the first valid attribute of this kind.
+        // `first_in kind ..`: the first valid attribute of this kind, or None.
         ensures { slot_attribute result ≡ first_in kind (collected self.now) }
     {
         element(&self.first.slots, kind as usize)
     }
 }
 
-/// Adds an attribute to the first valid ones, or to the others if it is unknown or invalid. It is
-/// not added if it is valid, but not the first one of its kind.
+/// Adds an attribute to its slot if it is the first valid one of its kind, or to the others, with
+/// its status, if it is unknown or invalid. Does nothing with any other one.
 fn add<'a>(
     sockets: Sockets,
     slots: &mut [Option<NlaBuffer<'a>>],
@@ -107,15 +110,16 @@ fn add<'a>(
     nla: NlaBuffer<'a>,
 ) -> Result<(), AllocError>
     ensures length { OnOk result (length slots.new ≡ length slots.old) }
-    // The first valid attribute of a kind `k` is the one in its slot, or else the first one in
-    // `later`, the attributes that are still to come. This attribute moves from `later` to a slot
-    // or to the others: searching the new slot and then `later` finds the same as searching the old
-    // slot, then this attribute and `later`. `k < length slots.old`: there is a slot for `k`.
+    // The first valid attribute of each kind `k` that has a slot is the same before and after the
+    // call: it is the one in the slot (`slice_index_or slots k None`), or else (`option_or`) the
+    // first one (`first_valid`) of those that are still to come. These are `later` after the call,
+    // and this attribute and `later` before it.
     ensures first { OnOk result ((later : List AttributeOrError) (k : ℕ) → k < length slots.old
         → option_or (slot_attribute (slice_index_or slots.new k None)) (first_valid sockets later k)
         ≡ option_or (slot_attribute (slice_index_or slots.old k None))
         (first_valid sockets (Ok (buffered_attribute nla.entry) ∷ later) k)) }
-    // This attribute was appended to the others if it is unknown or invalid.
+    // `other_in_piece ..`: this attribute and its status if it is unknown or invalid, or else
+    // nothing. `other_model`: an attribute in `others`, and its status.
     ensures others { OnOk result (map other_model others.new.items ≡ map other_model
         others.old.items ++ other_in_piece sockets (Ok (buffered_attribute nla.entry))) }
 {

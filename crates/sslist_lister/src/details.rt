@@ -96,8 +96,8 @@ fn push_valid(
     sockets: Sockets,
     slots: &[Option<NlaBuffer<'_>>],
 ) -> Result<(), AllocError>
-    // `slot_attribute slot`: the attribute in a slot, or None. `valid_detail`: the text of its
-    // facts, if the options select it; nothing for None.
+    // `valid_detail ..`: the text of the facts of an attribute, if the options select it; nothing
+    // for None. `slot_attribute slot`: the attribute in a slot, or None.
     ensures { OnOk result (text.new.items ≡ text.old.items
         ++ flat_map (λ slot. valid_detail options sockets (slot_attribute slot)) slots.now) }
 {
@@ -135,8 +135,8 @@ fn push_others(
     sockets: Sockets,
     others: &[(NlaBuffer<'_>, Status)],
 ) -> Result<(), AllocError>
-    // `other_model other`: an attribute and its status. `other_detail`: its text, if the options
-    // select it.
+    // `other_detail ..`: the text of an attribute with its status, if the options select it.
+    // `other_model other`: an attribute and its status.
     ensures { OnOk result (text.new.items ≡ text.old.items
         ++ flat_map (λ other. other_detail options sockets (other_model other)) others.now) }
 {
@@ -148,7 +148,8 @@ fn push_others(
     Ok(())
 }
 
-/// Returns the group of details that an attribute of this kind belongs to.
+/// Returns the group of details that an attribute of this kind belongs to: `Memory` (`-m`),
+/// `Connection` (`-i`) or `Extended` (`-e`).
 fn detail_group(sockets: Sockets, kind: u16) -> Detail
     ensures { result ≡ detail_group sockets kind }
 {

@@ -36,7 +36,7 @@ macro_rules! two {
     };
 }
 
-/// Appends the text of a diagnostic.
+/// Appends the text of a diagnostic: of a rejected message that of its decode error.
 pub(crate) fn push_reason(text: &mut Vec<u8>, diagnostic: &Diagnostic) -> Result<(), AllocError>
     ensures { OnOk result (text.new.items ≡ text.old.items ++ diagnostic_text diagnostic.now) }
 {
@@ -63,7 +63,7 @@ pub fn push_decode_error(text: &mut Vec<u8>, error: &DecodeError) -> Result<(), 
     push_sentence(text, sentence_of(error))
 }
 
-/// Appends the name of the record that an error is about, if it names one.
+/// Appends the name of the record that an error is about. Appends nothing if it names none.
 fn push_subject(text: &mut Vec<u8>, error: &DecodeError) -> Result<(), AllocError>
     ensures { OnOk result (text.new.items ≡ text.old.items ++ subject_text error.now) }
 {
@@ -73,7 +73,7 @@ fn push_subject(text: &mut Vec<u8>, error: &DecodeError) -> Result<(), AllocErro
     }
 }
 
-/// Appends a sentence.
+/// Appends a sentence: its texts, and its numbers in decimal.
 #[tactic(auto, using(crate::proofs::Adding::sentence_continues))]
 fn push_sentence(text: &mut Vec<u8>, sentence: Sentence) -> Result<(), AllocError>
     ensures { OnOk result (text.new.items ≡ text.old.items ++ sentence_text sentence) }
@@ -102,6 +102,8 @@ fn push_one(text: &mut Vec<u8>, before: &[u8], number: u64, after: &[u8]) -> Res
 /// Returns the text of a decode error, without the name of the record that it is about, which
 /// precedes this text.
 fn sentence_of(error: &DecodeError) -> Sentence
+    // `subject_text error`: the name of the record, or nothing. `sentence_text result`: the text of
+    // the result.
     ensures { subject_text error.now ++ sentence_text result ≡ decode_error_text error.now }
 {
     match *error {
@@ -168,7 +170,7 @@ fn sentence_of(error: &DecodeError) -> Sentence
     }
 }
 
-/// Returns the name of a record.
+/// Returns the name of a record, as texts of errors have it.
 fn name_of_record(name: &RecordName) -> Sentence
     ensures { sentence_text result ≡ record_text name.now }
 {

@@ -130,7 +130,7 @@ fn push_kernel_text(text: &mut Vec<u8>, value: Option<&[u8]>) -> Result<(), Allo
     push_kernel_text_bytes(text, text_bytes(value))
 }
 
-/// Appends the bytes of the kernel's text.
+/// Appends the bytes of the kernel's text, each by [`push_kernel_text_byte`].
 fn push_kernel_text_bytes(text: &mut Vec<u8>, bytes: &[u8]) -> Result<(), AllocError>
     ensures { OnOk result (text.new.items ≡ text.old.items ++ flat_map kernel_text_byte bytes.now) }
 {

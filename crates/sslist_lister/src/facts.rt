@@ -1,7 +1,10 @@
 //! The facts of a reply. A fact has a row: how the table shows it, and its name in JSON. Both show
 //! the same facts, in the same order. A function of this module appends to a sink. If it fails, an
-//! allocation failed, and the content of the sink is not specified. In the contracts, `S.content
-//! sink.old` and `S.content sink.new` are what the sink shows before and after the call.
+//! allocation failed, and the content of the sink is not specified.
+//!
+//! In the contracts, `AddsFacts old new facts` states that the sink shows these facts after what it
+//! showed before, and `AddsItems` states it of items. `S.content sink.old` and `S.content sink.new`
+//! are what the sink shows before and after the call.
 
 ghost use Rattle.std.specs.Prelude.{◌≡◌, ◌++◌, ◌∷◌, [], ℕ, List, OnOk, decimal, flat_map, map};
 ghost use Rattle.std.specs.Prelude.{option_map, refl};
@@ -92,8 +95,7 @@ pub(crate) trait FactSink {
         member: Option<&str>,
         number: u64,
     ) -> Result<(), AllocError>
-        // AddsFacts old new facts: the sink shows these facts after what it showed before.
-        // option_map (λ m. m.now) member.entry: the bytes of `member`, if there is one.
+        // `option_map (λ m. m.now) member.entry`: the bytes of `member`, if there is one.
         ensures { OnOk result (AddsFacts (content self.old) (content self.new)
             (number_facts format text.now (option_map (λ m. m.now) member.entry) number)) };
 
@@ -141,7 +143,6 @@ pub(crate) trait FactSink {
 
     /// Begins a group: the text `opening` in the table, and the object `member` in JSON.
     fn begin(&mut self, opening: &[u8], member: &str) -> Result<(), AllocError>
-        // `AddsItems old new items`: the sink shows these items after what it showed before.
         ensures { OnOk result (AddsItems (content self.old) (content self.new)
             (beginning opening.now member.now)) };
 
@@ -416,7 +417,8 @@ pub(crate) type Status = Result<bool, DecodeError>;
 /// or `None` if it is absent.
 pub(crate) type NumberRow<'a> = (Shown, &'a [u8], Option<&'a str>, Option<u64>);
 
-/// Shows a group of numbers: `opening` and `closing` in the table, and the object `member` in JSON.
+/// Shows the numbers of these rows as a group: between `opening` and `closing` in the table, and as
+/// the object `member` in JSON.
 #[inline(always)]
 pub(crate) fn show_group<S: FactSink>(
     sink: &mut S,
@@ -425,8 +427,8 @@ pub(crate) fn show_group<S: FactSink>(
     member: &str,
     rows: &[NumberRow<'_>],
 ) -> Result<(), AllocError>
-    // `number_row_of`: the row, with its texts as lists of bytes. `numbers`: the facts of these
-    // rows, in order; a row without a number has none.
+    // `numbers rows`: the facts of these rows, in order; a row without a number has none.
+    // `number_row_of`: a row, with its texts as lists of bytes.
     ensures { OnOk result (AddsFacts (S.content sink.old) (S.content sink.new)
         (group opening.now closing.now member.now (numbers (map number_row_of rows.now)))) }
 {
@@ -435,16 +437,16 @@ pub(crate) fn show_group<S: FactSink>(
     sink.end(closing)
 }
 
-/// Shows a group of numbers, which is the object `member` in JSON, and has no text around it in the
-/// table.
+/// Shows the numbers of these rows as a group, which is the object `member` in JSON, and has no
+/// text around it in the table.
 #[inline(always)]
 pub(crate) fn show_json_group<S: FactSink>(
     sink: &mut S,
     member: &str,
     rows: &[NumberRow<'_>],
 ) -> Result<(), AllocError>
-    // `number_row_of`: the row, with its texts as lists of bytes. `numbers`: the facts of these
-    // rows, in order; a row without a number has none.
+    // `numbers rows`: the facts of these rows, in order; a row without a number has none.
+    // `number_row_of`: a row, with its texts as lists of bytes.
     ensures { OnOk result (AddsFacts (S.content sink.old) (S.content sink.new)
         (json_group member.now (numbers (map number_row_of rows.now)))) }
 {
@@ -457,8 +459,8 @@ pub(crate) fn show_numbers<S: FactSink>(
     sink: &mut S,
     rows: &[NumberRow<'_>],
 ) -> Result<(), AllocError>
-    // `number_row_of`: the row, with its texts as lists of bytes. `numbers`: the facts of these
-    // rows, in order; a row without a number has none.
+    // `numbers rows`: the facts of these rows, in order; a row without a number has none.
+    // `number_row_of`: a row, with its texts as lists of bytes.
     ensures { OnOk result (AddsFacts (S.content sink.old) (S.content sink.new)
         (numbers (map number_row_of rows.now))) }
 {
@@ -575,9 +577,10 @@ fn push_each(text: &mut Vec<u8>, before: &[u8], numbers: &NumbersView<'_>) -> Re
 #[inline(always)]
 #[tactic(auto, unfolding(crate::specs::texts::JsonWriting::members_tokens))]
 fn write_named(writer: &mut Writer, member: Option<&str>, number: u64) -> Result<(), AllocError>
-    // `option_map (λ m. m.now) member.entry`: the bytes of the name, if there is one.
-    // `members_tokens (named_member name number)`: the tokens of the member; none without a name.
+    // `KeepsPrefix ..`: the bytes before the first token of the writer are unchanged.
     ensures prefix { KeepsPrefix result writer.old writer.new }
+    // `members_tokens (named_member name number)`: the tokens of the member; none without a name.
+    // `option_map (λ m. m.now) member.entry`: the bytes of the name, if there is one.
     ensures members { OnOk result (writer.new.tokens ≡ writer.old.tokens
         ++ members_tokens (named_member (option_map (λ m. m.now) member.entry) number)) }
 {

@@ -28,7 +28,8 @@ pub fn heading(alloc: Global, options: Options, name: Option<&str>) -> Result<Ve
     Ok(text)
 }
 
-/// Appends a caption with the name of a file. Appends nothing for `None`.
+/// Appends a caption with the name of a file, which is shown as names of sockets are. `utf8` is the
+/// option `--utf8`. Appends nothing for `None`.
 fn push_caption(text: &mut Vec<u8>, utf8: bool, name: Option<&str>) -> Result<(), AllocError>
     // `option_map (λ file. file.now) name.entry`: the bytes of the name, if there is one.
     ensures { OnOk result (text.new.items ≡ text.old.items

@@ -2,7 +2,11 @@
 //! list. A repeated request begins another list of sockets; lists are numbered from 1. If a
 //! function of this module fails, an allocation failed, and the content of the text or the writer
 //! is not specified. The clauses `prefix` state that the bytes before the first token of the writer
-//! are unchanged. In the contracts, `collected found.now` is what the attributes in `found` say.
+//! are unchanged.
+//!
+//! In the contracts, `members_tokens` and `json_tokens` are the tokens of members and of a value.
+//! `H.json_members` are the members of a header. `collected found.now` is what the attributes in
+//! `found` say, and `buffered_attribute nla.now` is the attribute `nla`.
 
 ghost use Rattle.std.specs.Prelude.{◌≡◌, ◌++◌, List, OnOk, codes, flat_map, map};
 ghost use Rattle.json.specs.Lex.{tokens};
@@ -47,10 +51,11 @@ pub(crate) fn push_json<H: JsonHeader>(
     header: &H,
     found: &Attributes<'_>,
 ) -> Result<(), AllocError>
+    // `socket_json list members ..`: the line, with these members of the header.
     ensures line { OnOk result (text.new.items ≡ text.old.items
         ++ socket_json list (H.json_members header.now) (collected found.now)) }
-    // The text can be parsed: its tokens are those of the object. This is stated of each line that
-    // was written.
+    // The text of the object can be parsed: `tokens` finds the tokens of the object in it. This is
+    // stated of each line that was written. `socket_members list ..`: the members of the object.
     ensures reads_back { let object = object_of
         (socket_members list (H.json_members header.now) (collected found.now)) in
         OnOk result (tokens (json_text object) ≡ json_tokens object) }
@@ -73,8 +78,8 @@ fn write_object<H: JsonHeader>(
     found: &Attributes<'_>,
 ) -> Result<(), AllocError>
     ensures prefix { KeepsPrefix result writer.old writer.new }
-    // socket_members list header summary: the members of the header, those of the attributes, and
-    // the number of the list if it is not the first one. json_tokens: the tokens of this object.
+    // `object_of members`: an object. `socket_members list header summary`: the members of the
+    // header, those of the attributes, and the number of the list if it is not the first one.
     ensures tokens { OnOk result (writer.new.tokens ≡ writer.old.tokens
         ++ json_tokens (object_of
         (socket_members list (H.json_members header.now) (collected found.now)))) }
@@ -86,7 +91,8 @@ fn write_object<H: JsonHeader>(
     writer.end_object()
 }
 
-/// Returns the number of a list. Returns `None` if it is the first one.
+/// Returns the number of a list as JSON has it: `None` for the first list, whose number is not
+/// written.
 fn later_list(list: u64) -> Option<u64>
     ensures { result ≡ later_list list }
 {
@@ -117,8 +123,8 @@ fn write_members(
     found: &Attributes<'_>,
 ) -> Result<(), AllocError>
     ensures prefix { KeepsPrefix result writer.old writer.new }
-    // `slot_attribute slot`: the attribute in a slot, or None. `valid_members sockets attribute`:
-    // the members of its facts; none for None.
+    // `valid_members sockets attribute`: the members of the facts of an attribute; none for None.
+    // `slot_attribute slot`: the attribute in a slot, or None.
     ensures members { OnOk result (writer.new.tokens ≡ writer.old.tokens
         ++ members_tokens
         (flat_map (valid_members found.now.sockets) (map slot_attribute found.now.first.slots))) }
@@ -135,8 +141,8 @@ fn write_valid(
     slots: &[Option<NlaBuffer<'_>>],
 ) -> Result<(), AllocError>
     ensures prefix { KeepsPrefix result writer.old writer.new }
-    // For each slot the tokens of its members. `slot_attribute slot`: the attribute in a slot, or
-    // None. `valid_members sockets attribute`: the members of its facts; none for None.
+    // `valid_members sockets attribute`: the members of the facts of an attribute; none for None.
+    // `slot_attribute slot`: the attribute in a slot, or None.
     ensures tokens { OnOk result (writer.new.tokens ≡ writer.old.tokens
         ++ flat_map (λ slot. members_tokens (valid_members sockets (slot_attribute slot)))
         slots.now) }
@@ -154,7 +160,8 @@ fn write_valid(
 #[tactic(auto, using(crate::proofs::Slots::other_rules))]
 fn write_others(writer: &mut Writer, found: &Attributes<'_>) -> Result<(), AllocError>
     ensures prefix { KeepsPrefix result writer.old writer.new }
-    // `other_model other`: an attribute and its status. `other_item`: the object for it.
+    // `array_member name items`: the member with this array. `other_item`: the object for an
+    // attribute. `other_model other`: an attribute and its status.
     ensures members { OnOk result (writer.new.tokens ≡ writer.old.tokens
         ++ members_tokens (array_member (codes "other_attributes")
         (map other_item (map other_model found.now.others.items)))) }
@@ -168,8 +175,7 @@ fn write_others(writer: &mut Writer, found: &Attributes<'_>) -> Result<(), Alloc
 /// Writes an item for each of these attributes.
 fn write_items(writer: &mut Writer, others: &[(NlaBuffer<'_>, Status)]) -> Result<(), AllocError>
     ensures prefix { KeepsPrefix result writer.old writer.new }
-    // For each attribute the tokens of its item. `other_model other`: the attribute and its status.
-    // `other_item`: the object for it.
+    // `other_item`: the object for an attribute. `other_model other`: an attribute and its status.
     ensures tokens { OnOk result (writer.new.tokens ≡ writer.old.tokens
         ++ flat_map (λ other. json_tokens (other_item (other_model other))) others.now) }
 {
@@ -182,8 +188,7 @@ fn write_items(writer: &mut Writer, others: &[(NlaBuffer<'_>, Status)]) -> Resul
 /// Writes an item for an attribute with this status: an object.
 fn write_item(writer: &mut Writer, nla: &NlaBuffer<'_>, status: &Status) -> Result<(), AllocError>
     ensures prefix { KeepsPrefix result writer.old writer.new }
-    // `buffered_attribute nla`: the type and the value of the attribute. `other_item`: the object
-    // for it.
+    // `other_item`: the object for an attribute and its status.
     ensures tokens { OnOk result (writer.new.tokens ≡ writer.old.tokens
         ++ json_tokens (other_item (buffered_attribute nla.now, status.now))) }
 {

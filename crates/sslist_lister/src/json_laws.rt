@@ -12,8 +12,8 @@ use sock_diag_attributes::unix::nlas::NameView;
 /// Proof only: the contract states that two different names never have the same JSON text. If the
 /// texts are equal, then the names are.
 pub fn different_names_have_different_texts(v: NameView<'_>, w: NameView<'_>)
-    // `name_view_model v`: the name `v`, with the bytes that it borrows as a list.
-    // `json_text (object_of (name_members ..))`: the JSON text of a name.
+    // `json_text (object_of (name_members ..))`: the JSON text of a name. `name_view_model v`: the
+    // name `v`, with the bytes that it borrows as a list.
     ensures { json_text (object_of (name_members (name_view_model v.entry)))
         ≡ json_text (object_of (name_members (name_view_model w.entry)))
         → name_view_model v.entry ≡ name_view_model w.entry }

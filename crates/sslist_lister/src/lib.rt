@@ -131,10 +131,11 @@ Exit status:
   1: anything else, which standard error names, except for a closed output pipe.
   2: an argument is wrong, and nothing was listed.";
 
-/// Lists a capture by [`run`], whose table begins with `heading`, and writes a line on `errors` if
-/// the run fails. The line begins with `front` and names the failure. A closed output pipe has no
-/// line. Returns the exit status: 0 if the whole capture was listed completely, and 1 if the
-/// run failed or a packet had an error.
+/// Lists the capture in `input` by [`run`]: writes the table, which begins with `heading`, on
+/// `output`, and the diagnostics on `errors`. If the run fails, writes a line on `errors` that
+/// names the failure; a closed output pipe has no line. Each line on `errors` begins with `front`.
+/// Returns the exit status: 0 if the whole capture was listed completely, and 1 if the run failed
+/// or a packet had an error.
 pub fn run_to_status<R: Source, W: Sink, E: Sink>(
     alloc: Global,
     options: Options,
@@ -144,12 +145,14 @@ pub fn run_to_status<R: Source, W: Sink, E: Sink>(
     output: &mut W,
     errors: &mut E,
 ) -> ExitCode
-    // The status is 0 if and only if the whole capture was listed completely: then the input is at
-    // its end, and the table was written. Otherwise the status is 1. On `errors` are the
-    // diagnostics and the line that names the failure, or a prefix of this text if a write failed
-    // there (`is_open` is false).
-    // R.left: the bytes that are left to read, if known. R.failed: a read failed with this error.
-    // W.held and E.held: the bytes written, if known. E.failed: a write failed with this error.
+    // `outcome`: the result of the run. `is_open`: whether no write on `errors` failed.
+    // `ListingEndsReported run outcome`: the run that the record describes had this outcome. If it
+    // is `Ok`, the input is at its end, and the table was written.
+    // R.left: the bytes that are left to read, if known. W.held and E.held: the bytes written, if
+    // known.
+    // R.failed and E.failed state that a read or a write failed with an error.
+    // `ReportsText .. text is_open`: this text was written on `errors`; if `is_open` is false, a
+    // prefix of it.
     ensures { (outcome : Result Bool ListError) × (is_open : Bool)
         × ((exit_status result ≡ 0) ↔ (outcome ≡ Ok true))
         × ((exit_status result ≡ 1) ↔ ¬ (outcome ≡ Ok true))
@@ -181,17 +184,19 @@ pub fn run_to_status<R: Source, W: Sink, E: Sink>(
     exit_code(&outcome)
 }
 
-/// Writes the line that names a failure, if `is_open` is set. Writes nothing if the run did not
-/// fail, or if the failure is a closed output pipe. If this write fails too, only the exit status
-/// reports the failure.
+/// Writes on `errors` the line that names the failure of a run, with the prefix `front`, if
+/// `is_open` is set. Writes nothing if the run did not fail, or if the failure is a closed output
+/// pipe. If this write fails too, only the exit status reports the failure.
 fn report_outcome<E: Sink>(
     errors: &mut E,
     is_open: &mut bool,
     front: &str,
     outcome: &Result<bool, ListError>,
 )
-    // `Reports before after text`: this text was reported. `closing_text`: the line, or nothing.
-    // E.held: the bytes written, if known. E.failed: a write failed with this error.
+    // `Reports before after text`: this text was reported. `error_output ..`: the state of `errors`
+    // and `is_open`.
+    // E.held: the bytes written, if known. E.failed states that a write failed with an error.
+    // `closing_text front outcome`: the line, or nothing.
     ensures { Reports (error_output (E.held errors.old) (E.failed errors.old) is_open.old)
         (error_output (E.held errors.new) (E.failed errors.new) is_open.new)
         (closing_text front.now outcome.now) }

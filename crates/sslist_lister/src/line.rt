@@ -1,7 +1,10 @@
 //! Lines of the replies about UNIX, IPv4 and IPv6 sockets. If a function of this module fails, an
-//! allocation failed, and the content of the text is not specified. In the contracts, `collected
-//! found.now` is what the attributes in `found` say. `list` is the number of the list of sockets
-//! that a reply belongs to, since a repeated request begins another list; only JSON has it.
+//! allocation failed, and the content of the text is not specified. `list` is the number of the
+//! list of sockets that a reply belongs to, since a repeated request begins another list; only JSON
+//! has it. `protocol` is that of the request that a reply answers, if it is known.
+//!
+//! In the contracts, `pieces_in bytes` is each attribute in the bytes, and then the framing error,
+//! if there is one. `collected found.now` is what the attributes in `found` say.
 
 ghost use Rattle.std.specs.Prelude.{◌≡◌, ◌++◌, if◌then◌else◌, Some, drop, IfOk, OnOk, option_map};
 ghost use Rattle.std.specs.Prelude.{option_and_then};
@@ -59,8 +62,7 @@ pub(crate) const LOCAL_WIDTH: usize = 30;
 /// No interface, for the peer: the interface is shown after the local address only.
 const NO_INTERFACE: u32 = 0;
 
-/// Appends the lines of a message of this type with this payload. `list` is the number of the list
-/// of the socket, and `protocol` is the protocol of the request, if it is known.
+/// Appends the lines of a message of this type with this payload.
 ///
 /// Returns the decode error of the message, if it has one: it is not a reply, its header is
 /// invalid, or bytes after the header are not an attribute. An attribute with an invalid value is
@@ -73,10 +75,12 @@ pub(crate) fn push_reply(
     message_type: u16,
     payload: &[u8],
 ) -> Result<Option<DecodeError>, AllocError>
-    // `response_kind payload message_type`: the kind of the reply (UNIX or internet), or the reason
-    // why the message is neither, such as another family.
+    // `payload_lines .. kind payload`: the lines of a payload of this kind. `response_kind payload
+    // message_type`: the kind of the reply (UNIX or internet), or the reason why the message is
+    // neither, such as another family.
     ensures lines { OnOk result (text.new.items ≡ text.old.items ++ payload_lines options list
         protocol (response_kind payload.now message_type) payload.now) }
+    // `payload_error kind payload`: the decode error of a payload of this kind, or None.
     ensures error { IfOk result (λ error.
         error ≡ payload_error (response_kind payload.now message_type) payload.now) }
 {
@@ -101,12 +105,14 @@ fn push_unix(
     list: u64,
     payload: &[u8],
 ) -> Result<Option<DecodeError>, AllocError>
-    // `parse_record ..`: the header, or its decode error. `pieces_in ..`: the attributes after it,
-    // and then the error of bytes that are none. An invalid header has no lines.
+    // `reply_lines lines sockets header attributes`: `lines` of the header and its attributes; none
+    // if the header is invalid. `unix_output ..`: what is written for a UNIX socket. `parse_record
+    // ..`: the header, or its decode error.
     ensures lines { OnOk result (text.new.items ≡ text.old.items
         ++ reply_lines (unix_output options list) Unix
         (parse_record unix_response_header tt payload.now)
         (pieces_in (drop UNIX_RESPONSE_HEADER_LEN payload.now))) }
+    // `reply_error header attributes`: the error of the header, or else the framing error, or None.
     ensures error { IfOk result (λ error. error
         ≡ reply_error (parse_record unix_response_header tt payload.now)
         (pieces_in (drop UNIX_RESPONSE_HEADER_LEN payload.now))) }
@@ -129,9 +135,8 @@ fn push_unix_socket(
     header: &UnixResponseHeader,
     bytes: &[u8],
 ) -> Result<Option<DecodeError>, AllocError>
-    // `pieces_in`: each attribute in the bytes, and then the framing error, if there is one.
-    // `summary_of`: the first valid attribute of each kind, the unknown and the invalid ones, and
-    // this error.
+    // `unix_output ..`: what is written for the socket. `summary_of ..`: the first valid attribute
+    // of each kind, the unknown and the invalid ones, and the framing error.
     ensures lines { OnOk result (text.new.items ≡ text.old.items ++ unix_output options list
         header.now (summary_of Unix (pieces_in bytes.now))) }
     ensures error { IfOk result
@@ -146,8 +151,8 @@ fn push_unix_socket(
     Ok(found.end)
 }
 
-/// Appends the lines of the table for a UNIX socket with this header and these attributes, or its
-/// line of JSON.
+/// Appends the lines of the table for a UNIX socket with this header and the attributes `found`, or
+/// its line of JSON.
 fn push_unix_lines(
     text: &mut Vec<u8>,
     options: Options,
@@ -155,6 +160,7 @@ fn push_unix_lines(
     header: &UnixResponseHeader,
     found: &Attributes<'_>,
 ) -> Result<(), AllocError>
+    // `socket_json list members ..`: the line of JSON, with these members of the header.
     ensures { OnOk result (text.new.items ≡ text.old.items
         ++ (if options.json
         then socket_json list (unix_header_members header.now) (collected found.now)
@@ -186,7 +192,7 @@ fn push_unix_columns(
 
 /// Returns the first columns of a UNIX socket. `queues` are the lengths of its receive queue and
 /// its send queue; for a listening socket these are numbers of connections. `uid` is the user id of
-/// its owner.
+/// its owner. Each is `None` if the reply does not have it.
 fn unix_cells(header: &UnixResponseHeader, queues: Option<(u32, u32)>, uid: Option<u32>) -> Cells
     // `cells_model`: the cells, with the text of `kind` as a list of bytes.
     ensures { cells_model result ≡ unix_first_columns header.now queues uid }
@@ -207,8 +213,8 @@ fn unix_cells(header: &UnixResponseHeader, queues: Option<(u32, u32)>, uid: Opti
 
 /// Returns the name of a UNIX socket, if the reply has it.
 fn name_in<'a>(found: &Attributes<'a>) -> Option<NameView<'a>>
-    // `unix_value kind ..`: the value of the first valid attribute of this kind, if there is one.
-    // `name_view_model`: the name, with the bytes that it borrows as a list.
+    // `name_view_model`: a name, with the bytes that it borrows as a list. `unix_value kind ..`:
+    // the value of the first valid attribute of this kind, if there is one.
     ensures { option_map name_view_model result
         ≡ unix_value UNIX_DIAG_NAME (collected found.now) }
 {
@@ -248,7 +254,8 @@ fn queues_in(found: &Attributes<'_>) -> Option<(u32, u32)>
 
 /// Returns the user id of the owner of a UNIX socket, if the reply has it.
 fn user_in(found: &Attributes<'_>) -> Option<u32>
-    // `first_in`: the first valid attribute of this kind. `user_id`: the number in its value.
+    // `user_id`: the number in the value of an attribute. `first_in kind ..`: the first valid
+    // attribute of this kind, if there is one.
     ensures { result ≡ option_and_then user_id (first_in UNIX_DIAG_UID (collected found.now)) }
 {
     parse_uid(found.first_of(UNIX_DIAG_UID)?.value())
@@ -265,8 +272,8 @@ pub(crate) struct InetSocket {
     pub(crate) header: InetResponseHeader,
 }
 
-/// Appends the lines of an IPv4 or IPv6 socket. `protocol` is that of the request, if it is known.
-/// Returns the decode error of the reply, if it has one.
+/// Appends the lines of an IPv4 or IPv6 socket. Returns the decode error of the reply, if it has
+/// one.
 fn push_inet(
     text: &mut Vec<u8>,
     options: Options,
@@ -274,13 +281,16 @@ fn push_inet(
     protocol: Option<u32>,
     payload: &[u8],
 ) -> Result<Option<DecodeError>, AllocError>
-    // `parse_record ..`: the header, or its decode error. `pieces_in ..`: the attributes after it,
-    // and then the error of bytes that are none. An invalid header has no lines.
+    // `reply_lines lines sockets header attributes`: `lines` of the header and its attributes; none
+    // if the header is invalid. `inet_output ..`: what is written for a socket. `inet_socket ..`:
+    // the socket with this header. `info_of_protocol`: the meaning of `INET_DIAG_INFO`.
+    // `parse_record ..`: the header, or its decode error.
     ensures lines { OnOk result (text.new.items ≡ text.old.items
         ++ reply_lines
         (λ header. inet_output options list (inet_socket protocol payload.now header))
         (Inet (info_of_protocol protocol)) (parse_record inet_response_header tt payload.now)
         (pieces_in (drop INET_RESPONSE_HEADER_LEN payload.now))) }
+    // `reply_error header attributes`: the error of the header, or else the framing error, or None.
     ensures error { IfOk result (λ error. error
         ≡ reply_error (parse_record inet_response_header tt payload.now)
         (pieces_in (drop INET_RESPONSE_HEADER_LEN payload.now))) }
@@ -309,9 +319,9 @@ fn push_inet_socket(
     socket: &InetSocket,
     bytes: &[u8],
 ) -> Result<Option<DecodeError>, AllocError>
-    // `pieces_in`: each attribute in the bytes, and then the framing error, if there is one.
-    // `summary_of`: the first valid attribute of each kind, the unknown and the invalid ones, and
-    // this error.
+    // `inet_output ..`: what is written for the socket. `summary_of ..`: the first valid attribute
+    // of each kind, the unknown and the invalid ones, and the framing error. `info_of_protocol`:
+    // the meaning of `INET_DIAG_INFO`.
     ensures lines { OnOk result (text.new.items ≡ text.old.items
         ++ inet_output options list socket.now
         (summary_of (Inet (info_of_protocol socket.now.protocol)) (pieces_in bytes.now))) }
@@ -329,7 +339,7 @@ fn push_inet_socket(
 }
 
 /// Appends the lines of the table for an IPv4 or IPv6 socket with the attributes `found`, or its
-/// line of JSON, which also has the number of its list, `list`.
+/// line of JSON.
 fn push_inet_lines(
     text: &mut Vec<u8>,
     options: Options,
@@ -337,6 +347,7 @@ fn push_inet_lines(
     socket: &InetSocket,
     found: &Attributes<'_>,
 ) -> Result<(), AllocError>
+    // `socket_json list members ..`: the line of JSON, with these members of the header.
     ensures { OnOk result (text.new.items ≡ text.old.items ++ (if options.json
         then socket_json list (inet_header_members socket.now.protocol socket.now.timer
         socket.now.header) (collected found.now)
@@ -353,7 +364,6 @@ fn push_inet_lines(
 
 /// Returns whether the options select the IPv4 or IPv6 socket with this header: they list its
 /// protocol, its IP version and its state, and its ports and addresses meet their conditions.
-/// `protocol` is that of the request, if it is known.
 fn lists_inet(options: Options, protocol: Option<u32>, header: &InetResponseHeader) -> bool
     ensures { result ≡ lists_inet options protocol header.now }
 {
@@ -369,7 +379,8 @@ fn lists_inet(options: Options, protocol: Option<u32>, header: &InetResponseHead
             .meets_addresses(id.source_address, id.destination_address)
 }
 
-/// Returns the meaning of `INET_DIAG_INFO`, by the protocol of the request if it is known.
+/// Returns the meaning of `INET_DIAG_INFO` by the protocol: `Unknown` for any other than TCP and
+/// MPTCP, and for `None`.
 fn info_of(protocol: Option<u32>) -> Info
     ensures { result ≡ info_of_protocol protocol }
 {
@@ -380,8 +391,7 @@ fn info_of(protocol: Option<u32>) -> Info
     }
 }
 
-/// Appends the columns of an IPv4 or IPv6 socket. `protocol` is that of the request, if it is
-/// known.
+/// Appends the columns of an IPv4 or IPv6 socket.
 fn push_inet_columns(
     text: &mut Vec<u8>,
     protocol: Option<u32>,
@@ -406,8 +416,7 @@ fn push_inet_columns(
     )
 }
 
-/// Returns the first columns of an IPv4 or IPv6 socket. `protocol` is that of the request, if it is
-/// known.
+/// Returns the first columns of an IPv4 or IPv6 socket.
 fn inet_cells(protocol: Option<u32>, header: &InetResponseHeader) -> Cells
     // `cells_model`: the cells, with the text of `kind` as a list of bytes.
     ensures { cells_model result ≡ inet_first_columns protocol header.now }

@@ -1,6 +1,10 @@
 //! Lines and diagnostics of the packets of a capture. If a function of this module fails, an
 //! allocation failed, and the lines, diagnostics and requests are not specified. Only the prefix of
 //! the diagnostics is still unchanged, as the clauses `front` state.
+//!
+//! In the contracts, `past_requests` is what a [`Requests`] has, `message_parts` is the header and
+//! the payload of a message, and `line_start ..` is the start of a line about a message: `front`
+//! and the numbers of the packet and the message.
 
 ghost use Rattle.std.specs.Prelude.{◌≡◌, ◌<◌, ◌+◌, ◌++◌, IfOk, OnOk, option_map, Some};
 ghost use Rattle.netlink_captures.specs.Capture.{captured_packet};
@@ -104,14 +108,15 @@ pub fn list_packet(
     packet: &[u8],
     header: &PacketHeader,
 ) -> Result<bool, AllocError>
-    // The lines and the result, by the requests before the packet. `captured_packet` is the packet
-    // with its header.
+    // `ListsCapturedPacket .. before after result`: the text `after` is `before` and the lines of
+    // the packet, and the result is as above. `captured_packet`: the packet with its header.
     ensures lists { IfOk result (ListsCapturedPacket options (past_requests requests.old)
         (captured_packet packet.now header.now) written.old.lines.items written.new.lines.items) }
     // The request in the packet, if there is one, was added.
     ensures asked { OnOk result (past_requests requests.new
         ≡ requests_after_packet (past_requests requests.old) packet.now) }
-    // The diagnostics.
+    // `DiagnosesPacket .. before after`: the text `after` is `before` and the diagnostics of the
+    // packet.
     ensures diagnosed { OnOk result (DiagnosesPacket written.old.front.now number
         (captured_packet packet.now header.now) written.old.diagnostics.items
         written.new.diagnostics.items) }
@@ -123,8 +128,8 @@ pub fn list_packet(
 }
 
 /// Appends the lines and the diagnostics of the captured bytes of the packet with this number and
-/// this header. Returns whether these have no error. `is_whole` is false if the packet was
-/// truncated, which is reported already.
+/// this header, and stores its request, if there is one. Returns whether the bytes have no error.
+/// `is_whole` is false if the packet was truncated, which is reported already.
 #[tactic(auto, using(crate::proofs::RequestsAfterPacket::requests_rules))]
 fn list_content(
     written: &mut PacketOutput<'_>,
@@ -135,13 +140,14 @@ fn list_content(
     packet: &[u8],
     header: &PacketHeader,
 ) -> Result<bool, AllocError>
-    // The lines and the result, by the requests before the packet. `captured_packet` is the packet
-    // with its header.
+    // `ListsPacket .. before after result`: the text `after` is `before` and the lines of the
+    // packet, and the result is as above. `captured_packet`: the packet with its header.
     ensures lists { IfOk result (ListsPacket options (past_requests requests.old)
         (captured_packet packet.now header.now) written.old.lines.items written.new.lines.items) }
     // The request in the packet, if there is one, was added.
     ensures asked { OnOk result (past_requests requests.new
         ≡ requests_after_packet (past_requests requests.old) packet.now) }
+    // `DiagnosesContent .. before after`: the text `after` is `before` and the diagnostics.
     ensures diagnosed { OnOk result (DiagnosesContent written.old.front.now number is_whole
         packet.now written.old.diagnostics.items written.new.diagnostics.items) }
     ensures front { written.new.front ≡ written.old.front }
@@ -158,8 +164,8 @@ fn list_content(
     }
 }
 
-/// Appends the diagnostic of a packet that is shorter than the cooked header. Appends nothing if
-/// the packet was truncated (`is_whole` is false).
+/// Appends the diagnostic of the packet of this number, which is shorter than the cooked header.
+/// Appends nothing if the packet was truncated (`is_whole` is false).
 fn push_short_if_whole(
     written: &mut PacketOutput<'_>,
     number: u64,
@@ -189,12 +195,14 @@ fn list_sock_diag(
     datagram: &[u8],
     header: &PacketHeader,
 ) -> Result<bool, AllocError>
-    // The lines and the result, by the requests before the datagram.
+    // `ListsDatagram .. before after result`: the text `after` is `before` and the lines, and the
+    // result is as above.
     ensures lists { IfOk result (ListsDatagram options (past_requests requests.old) header.now
         datagram.now written.old.lines.items written.new.lines.items) }
     // The request, if the datagram begins with one, was added.
     ensures asked { OnOk result (past_requests requests.new
         ≡ requests_after_datagram (past_requests requests.old) datagram.now) }
+    // `DiagnosesDatagram .. before after`: the text `after` is `before` and the diagnostics.
     ensures diagnosed { OnOk result (DiagnosesDatagram written.old.front.now number is_whole
         datagram.now written.old.diagnostics.items written.new.diagnostics.items) }
     ensures front { written.new.front ≡ written.old.front }
@@ -211,9 +219,10 @@ fn list_sock_diag(
     }
 }
 
-/// Appends the lines and the diagnostics of the messages of a datagram. Stops at bytes that are not
-/// a message. Returns whether the datagram was listed completely. `number` is the number of its
-/// packet. `is_whole` is false if the packet was truncated.
+/// Appends the lines and the diagnostics of the messages of a datagram, which may answer one of
+/// `requests`. Stops at bytes that are not a message. Returns whether the datagram was listed
+/// completely. `number` is the number of its packet. `is_whole` is false if the packet was
+/// truncated.
 fn list_datagram(
     written: &mut PacketOutput<'_>,
     requests: &Requests,
@@ -222,9 +231,11 @@ fn list_datagram(
     is_whole: bool,
     datagram: &[u8],
 ) -> Result<bool, AllocError>
-    // The lines and the result, by the requests that the messages may answer.
+    // `ListsMessages .. before after result`: the text `after` is `before` and the lines, and the
+    // result is as above.
     ensures lists { IfOk result (ListsMessages options (past_requests requests.now) datagram.now
         written.old.lines.items written.new.lines.items) }
+    // `DiagnosesMessages .. before after`: the text `after` is `before` and the diagnostics.
     ensures diagnosed { OnOk result (DiagnosesMessages written.old.front.now number is_whole
         datagram.now written.old.diagnostics.items written.new.diagnostics.items) }
     ensures front { written.new.front ≡ written.old.front }
@@ -261,7 +272,6 @@ fn push_framing_error(
     error: DecodeError,
 ) -> Result<(), AllocError>
     ensures lines { OnOk result (written.new.lines.items ≡ written.old.lines.items) }
-    // `line_start ..`: the start of the line, with the numbers of the packet and the message.
     ensures diagnostics { OnOk result (written.new.diagnostics.items ≡ written.old.diagnostics.items
         ++ framing_error_line
         (line_start written.old.front.now position.packet position.message) is_whole
@@ -295,8 +305,8 @@ fn next_number(count: u64, limit: usize) -> u64
     if count < limit { count + 1 } else { limit }
 }
 
-/// Appends the lines and the diagnostics of a message. Returns whether it has no diagnostic, or
-/// only a note.
+/// Appends the lines and the diagnostics of the message at this position, which may answer one of
+/// `requests`. Returns whether it has no diagnostic, or only a note.
 fn list_message(
     written: &mut PacketOutput<'_>,
     requests: &Requests,
@@ -304,12 +314,10 @@ fn list_message(
     position: Position,
     message: &Message<'_>,
 ) -> Result<bool, AllocError>
-    // `message_parts message`: its header and its payload.
     ensures lines { OnOk result (written.new.lines.items ≡ written.old.lines.items
         ++ message_lines options (past_requests requests.now) (message_parts message.now)) }
     ensures clean { IfOk result (λ is_clean. is_clean
         ≡ is_clean_message (message_parts message.now)) }
-    // `line_start ..`: the start of each line, with the numbers of the packet and the message.
     ensures diagnosed { OnOk result (written.new.diagnostics.items ≡ written.old.diagnostics.items
         ++ lines_about_message (line_start written.old.front.now position.packet position.message)
         (message_parts message.now)) }
@@ -343,15 +351,15 @@ fn is_none_or_informational(diagnostic: &Option<Diagnostic>) -> bool
     )
 }
 
-/// Appends the lines of a message if it is a reply. Returns the diagnostic of the message, if it
-/// has one, except for `Interrupted`.
+/// Appends the lines of a message if it is a reply, which may answer one of `requests`. Returns the
+/// diagnostic of the message, or `None` if it has none. The diagnostic `Interrupted` is not
+/// considered.
 fn push_message(
     lines: &mut Vec<u8>,
     requests: &Requests,
     options: Options,
     message: &Message<'_>,
 ) -> Result<Option<Diagnostic>, AllocError>
-    // `message_parts message`: its header and its payload.
     ensures lines { OnOk result (lines.new.items ≡ lines.old.items
         ++ message_lines options (past_requests requests.now) (message_parts message.now)) }
     ensures diagnostic { IfOk result (λ diagnostic. diagnostic
@@ -375,8 +383,8 @@ fn push_message(
     Ok(diagnostic_of_rejection(error))
 }
 
-/// Returns the diagnostic of a control message: `NLMSG_NOOP`, `NLMSG_ERROR`, `NLMSG_DONE` or
-/// `NLMSG_OVERRUN`.
+/// Returns the diagnostic of a control message: `None` for `NLMSG_NOOP`, `Lost` for
+/// `NLMSG_OVERRUN`, and for `NLMSG_ERROR` and `NLMSG_DONE` that of the error number in the payload.
 fn diagnostic_of_control(message_type: u16, payload: &[u8]) -> Option<Diagnostic>
     ensures { result ≡ control_diagnostic message_type payload.now }
 {
@@ -387,7 +395,7 @@ fn diagnostic_of_control(message_type: u16, payload: &[u8]) -> Option<Diagnostic
     }
 }
 
-/// Returns the diagnostic of a decode error. Returns `None` if there is no error.
+/// Returns the diagnostic `Refused` of a decode error. Returns `None` if there is no error.
 fn diagnostic_of_rejection(error: Option<DecodeError>) -> Option<Diagnostic>
     ensures { result ≡ option_map Refused error }
 {
@@ -397,9 +405,9 @@ fn diagnostic_of_rejection(error: Option<DecodeError>) -> Option<Diagnostic>
     }
 }
 
-/// Returns the diagnostic of an `NLMSG_ERROR` or `NLMSG_DONE`. A negative `number` is a negated
-/// number of errno(3), and any other is no error. `number` is `None` if the message is too short
-/// for one.
+/// Returns the diagnostic of an `NLMSG_ERROR` or `NLMSG_DONE` with this number. A negative one is a
+/// negated number of errno(3). Any other is no error: then there is no diagnostic. Returns
+/// `NoNumber` if the message is too short for a number (`None`).
 fn diagnostic_of_answer(number: Option<i32>) -> Option<Diagnostic>
     ensures { result ≡ answer_diagnostic number }
 {
@@ -410,7 +418,8 @@ fn diagnostic_of_answer(number: Option<i32>) -> Option<Diagnostic>
     }
 }
 
-/// Returns the diagnostic of an error number of errno(3).
+/// Returns the diagnostic of an error number of errno(3): a note for `ENOENT` and `EINVAL`, or else
+/// `Answered`.
 fn diagnostic_of_errno(errno: u32) -> Diagnostic
     ensures { result ≡ errno_diagnostic errno }
 {
@@ -428,7 +437,6 @@ fn push_optional_diagnostic(
     diagnostic: &Option<Diagnostic>,
 ) -> Result<(), AllocError>
     ensures lines { OnOk result (written.new.lines.items ≡ written.old.lines.items) }
-    // `line_start ..`: the start of the line, with the numbers of the packet and the message.
     ensures diagnostics { OnOk result (written.new.diagnostics.items ≡ written.old.diagnostics.items
         ++ diagnostic_line (line_start written.old.front.now position.packet position.message)
         diagnostic.now) }
@@ -450,8 +458,8 @@ fn push_explained_diagnostic(
     message: &Message<'_>,
 ) -> Result<(), AllocError>
     ensures lines { OnOk result (written.new.lines.items ≡ written.old.lines.items) }
-    // `line_start ..`: the start of the line, with the numbers of the packet and the message.
-    // `explanation ..`: what the message explains, after the text of the diagnostic.
+    // `explained_line start diagnostic text`: the line of the diagnostic, which ends with this
+    // text. `explanation ..`: what the message explains.
     ensures diagnostics { OnOk result (written.new.diagnostics.items ≡ written.old.diagnostics.items
         ++ explained_line (line_start written.old.front.now position.packet position.message)
         diagnostic.now (explanation (message_parts message.now))) }
@@ -472,8 +480,8 @@ fn push_explained_line(
     explained: &Message<'_>,
 ) -> Result<(), AllocError>
     ensures lines { OnOk result (written.new.lines.items ≡ written.old.lines.items) }
-    // `line_start ..`: the start of the line, with the numbers of the packet and the message.
-    // `explanation ..`: what the message explains, after the text of the diagnostic.
+    // `explained_line start diagnostic text`: the line of the diagnostic, which ends with this
+    // text. `explanation ..`: what the message explains.
     ensures diagnostics { OnOk result (written.new.diagnostics.items ≡ written.old.diagnostics.items
         ++ explained_line (line_start written.old.front.now position.packet position.message)
         (Some diagnostic.now) (explanation (message_parts explained.now))) }
@@ -505,7 +513,6 @@ fn push_diagnostic(
     diagnostic: &Diagnostic,
 ) -> Result<(), AllocError>
     ensures lines { OnOk result (written.new.lines.items ≡ written.old.lines.items) }
-    // `line_start ..`: the start of the line, with the numbers of the packet and the message.
     ensures diagnostics { OnOk result (written.new.diagnostics.items ≡ written.old.diagnostics.items
         ++ diagnostic_line (line_start written.old.front.now position.packet position.message)
         (Some diagnostic.now)) }

@@ -1,5 +1,6 @@
 //! Lists of sockets. A capture has several if its first request was repeated. In the contracts,
-//! `message_parts request.now` is the header and the payload of a request.
+//! `message_parts request.now` is the header and the payload of a request, and `first_request` is
+//! the type and the payload of the request in a [`FirstRequest`], or None.
 
 ghost use Rattle.std.specs.Prelude.{◌≡◌, OnOk, None};
 ghost use Rattle.sslist_lister.specs.Messages.{message_parts};
@@ -28,8 +29,8 @@ impl FirstRequest {
         }
     }
 
-    /// Returns whether a request is the same as the first one, which precedes it. Only the types
-    /// and the bytes after the headers are compared. Returns false if there was no request before.
+    /// Returns whether a request is the same as the first one. Only the types and the bytes after
+    /// the headers are compared. Returns false if there was no request before.
     pub(crate) fn is_repeated_by(&self, request: &Message<'_>) -> bool
         ensures { result ≡ is_repetition (first_request self.now) (message_parts request.now) }
     {
@@ -42,8 +43,8 @@ impl FirstRequest {
         }
     }
 
-    /// Stores a request, unless an earlier one is stored. If it fails, an allocation failed, and
-    /// the first request is not specified.
+    /// Stores a request, unless an earlier one is stored: then it does nothing. If it fails, an
+    /// allocation failed, and the first request is not specified.
     pub(crate) fn add(&mut self, request: &Message<'_>) -> Result<(), AllocError>
         ensures { OnOk result (first_request self.new
             ≡ first_with (message_parts request.now) (first_request self.old)) }

@@ -1,6 +1,7 @@
 //! The MD5 keys of a TCP socket (`INET_DIAG_MD5SIG`). A function of this module that appends to a
 //! text or to a writer may fail: then an allocation failed, and the content is not specified. The
-//! clauses `prefix` state that the bytes before the first token of the writer are unchanged.
+//! clauses `prefix` state that the bytes before the first token of the writer are unchanged. In the
+//! contracts, `members_tokens` and `json_tokens` are the tokens of members and of a value.
 
 ghost use Rattle.std.specs.Prelude.{◌≡◌, ◌≤◌, ◌++◌, OnOk, SomeIff, flat_map, length};
 ghost use Rattle.json.specs.Tree.{json_tokens};
@@ -27,7 +28,7 @@ pub(crate) fn has_md5_keys(value: &[u8]) -> bool
     value.len() >= KEY_LENGTH && value.len() % KEY_LENGTH == 0
 }
 
-/// Appends the keys in a value.
+/// Appends the keys in a value, as the table shows them.
 #[tactic(auto, unfolding(crate::specs::Md5Keys::md5_facts))]
 pub(crate) fn push_md5_keys(text: &mut Vec<u8>, value: &[u8]) -> Result<(), AllocError>
     // `(md5_facts value).text`: what the table shows of the keys.
@@ -49,7 +50,8 @@ fn read_key(bytes: &[u8]) -> Option<Md5Signature>
 /// Appends a colon and the keys, separated by commas.
 #[tactic(auto, using(crate::proofs::Md5Keys::key_rules))]
 fn push_keys(text: &mut Vec<u8>, value: &[u8]) -> Result<(), AllocError>
-    // 58 is the colon, which the first key follows.
+    // `md5_keys_text separator keys`: the keys, the first one after this separator; 58 is the
+    // colon. `md5_keys value`: the keys in the value.
     ensures { OnOk result (text.new.items ≡ text.old.items
         ++ md5_keys_text 58 (md5_keys value.now)) }
 {
@@ -91,7 +93,7 @@ fn push_peer_ip(text: &mut Vec<u8>, ip: Option<IpAddr>) -> Result<(), AllocError
     }
 }
 
-/// Appends the bytes of a key.
+/// Appends the bytes of a key, each by [`push_key_byte`].
 fn push_key_bytes(text: &mut Vec<u8>, bytes: &[u8]) -> Result<(), AllocError>
     ensures { OnOk result (text.new.items ≡ text.old.items ++ flat_map key_byte bytes.now) }
 {
@@ -119,7 +121,7 @@ pub(crate) fn write_md5_keys(
     value: &[u8],
 ) -> Result<(), AllocError>
     ensures prefix { KeepsPrefix result writer.old writer.new }
-    // `(md5_facts value).members`: the member with the keys. `members_tokens`: its tokens.
+    // `(md5_facts value).members`: the member with the keys.
     ensures members { OnOk result (writer.new.tokens ≡ writer.old.tokens
         ++ members_tokens (md5_facts value.now).members) }
 {
@@ -133,8 +135,7 @@ pub(crate) fn write_md5_keys(
 #[tactic(auto, using(crate::proofs::Md5Keys::key_rules))]
 fn write_keys(alloc: Global, writer: &mut Writer, value: &[u8]) -> Result<(), AllocError>
     ensures prefix { KeepsPrefix result writer.old writer.new }
-    // `md5_keys value`: the keys in the value. `json_tokens (md5_key_value key)`: the tokens of the
-    // object of a key.
+    // `md5_key_value key`: the object of a key. `md5_keys value`: the keys in the value.
     ensures tokens { OnOk result (writer.new.tokens ≡ writer.old.tokens
         ++ flat_map (λ key. json_tokens (md5_key_value key)) (md5_keys value.now)) }
 {

@@ -1,7 +1,10 @@
 //! Lines of the replies about netlink, packet, vsock and XDP sockets. If a function of this module
-//! fails, an allocation failed, and the content of the text is not specified. In the contracts,
-//! `collected found.now` is what the attributes in `found` say. `list` is the number of the list of
-//! sockets that a reply belongs to, since a repeated request begins another list; only JSON has it.
+//! fails, an allocation failed, and the content of the text is not specified. `list` is the number
+//! of the list of sockets that a reply belongs to, since a repeated request begins another list;
+//! only JSON has it.
+//!
+//! In the contracts, `collected found.now` is what the attributes in `found` say. `H.json_members`
+//! are the members of a header in JSON.
 
 ghost use Rattle.std.specs.Prelude.{◌≡◌, ◌++◌, ◌≤◌, drop, IfOk, OnOk, option_map};
 ghost use Rattle.sslist_lister.specs.texts.CellsModel.{cells_model};
@@ -86,7 +89,7 @@ pub(crate) trait Listed: Record<Param = ()> + JsonHeader + Drop {
     fn family() -> Family
         ensures { result ≡ listed_family };
 
-    /// Returns the values of the socket.
+    /// Returns the values of the socket with this header and the attributes `found`.
     fn socket(&self, found: &Attributes<'_>) -> OtherSocket
         ensures { result ≡ listed self.now (collected found.now) };
 }
@@ -114,11 +117,11 @@ pub(crate) fn push_other(
     number: u8,
     payload: &[u8],
 ) -> Result<Option<DecodeError>, AllocError>
-    // `family_lines options list family bytes`: the lines of a reply of this family;
-    // `family_error`: its decode error. `family_numbered number`: the family, or `None` for an
-    // unknown one.
+    // `family_lines options list family bytes`: the lines of a reply of this family.
+    // `family_numbered number`: the family, or `None` for an unknown one.
     ensures lines { OnOk result (text.new.items ≡ text.old.items
         ++ family_lines options list (family_numbered number) payload.now) }
+    // `family_error family bytes`: the decode error of a reply of this family, or None.
     ensures error { IfOk result
         (λ error. error ≡ family_error (family_numbered number) payload.now) }
 {
@@ -139,7 +142,9 @@ fn push_listed<H: Listed>(
     list: u64,
     payload: &[u8],
 ) -> Result<Option<DecodeError>, AllocError>
-    // The record states how replies with this header are listed (`ReplyFormat`).
+    // `other_reply_lines options list format payload`: the lines of a reply in this format
+    // (`ReplyFormat`). Here the format is that of `H`: `layout` is the layout of the header, and
+    // `socket` and `members` are what the table and JSON show of it.
     ensures lines { OnOk result (text.new.items ≡ text.old.items
         ++ other_reply_lines options list (record {
           family = H.listed_family;
@@ -147,6 +152,8 @@ fn push_listed<H: Listed>(
           socket = H.listed;
           members = H.json_members;
         }) payload.now) }
+    // `other_reply_error layout payload`: the decode error of a reply with this layout of its
+    // header, or None.
     ensures error { IfOk result (λ error. error ≡ other_reply_error H.layout payload.now) }
 {
     match read_record::<H>(payload, ()) {
@@ -164,9 +171,9 @@ fn push_socket<H: Listed>(
     header: &H,
     bytes: &[u8],
 ) -> Result<Option<DecodeError>, AllocError>
-    // `pieces_in`: each attribute in the bytes, and then the framing error, if there is one.
-    // `summary_of`: the first valid attribute of each kind, the unknown and the invalid ones, and
-    // this error.
+    // `summary_of ..`: the first valid attribute of each kind, the unknown and the invalid ones,
+    // and the framing error. `pieces_in bytes`: each attribute, and then this error. `other_output
+    // ..`: what is written for a socket. `H.listed ..`: the values of the socket.
     ensures lines { let summary = summary_of (Other H.listed_family) (pieces_in bytes.now) in
         OnOk result (text.new.items ≡ text.old.items
         ++ other_output options list (H.listed header.now summary) (H.json_members header.now)
@@ -181,8 +188,8 @@ fn push_socket<H: Listed>(
     Ok(found.end)
 }
 
-/// Appends what is written for a socket with this header and these attributes, if the options
-/// select it: its lines of the table, or its line of JSON.
+/// Appends what is written for the socket with this header, the values `socket` and the attributes
+/// `found`, if the options select it: its lines of the table, or its line of JSON.
 fn push_output<H: Listed>(
     text: &mut Vec<u8>,
     options: Options,
@@ -215,7 +222,7 @@ fn attributes_of<H: Listed>(payload: &[u8]) -> &[u8]
     &payload[least..]
 }
 
-/// Appends the lines of the table for a socket with these attributes.
+/// Appends the lines of the table for a socket with the attributes `found`.
 #[tactic(auto, using(crate::proofs::Adding::three_texts_concatenate))]
 fn push_lines(
     text: &mut Vec<u8>,
@@ -278,6 +285,7 @@ fn user_kind(family: Family) -> Option<u16>
 
 /// Appends the column of the local address.
 fn push_local(text: &mut Vec<u8>, address: Address) -> Result<(), AllocError>
+    // `column width text`: the text, padded with spaces to this width.
     ensures { OnOk result (text.new.items ≡ text.old.items
         ++ column LOCAL_WIDTH (address_text address)) }
 {

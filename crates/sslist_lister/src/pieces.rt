@@ -1,5 +1,6 @@
 //! Attributes after the header of a reply. Each is parsed by itself, so that an invalid value does
-//! not hide other attributes.
+//! not hide other attributes. In the contracts, `pieces_in bytes` is each attribute in the bytes,
+//! and then the framing error, if there is one.
 
 ghost use Rattle.std.specs.Prelude.{◌≡◌, option_map};
 ghost use Rattle.netlink_core.specs.Walk.{buffered_attribute};
@@ -8,13 +9,14 @@ ghost use Rattle.sslist_lister.specs.Pieces.{framing_error_of};
 
 use netlink_core::{DecodeError, NlaBuffer, NlasIterator};
 
-/// Returns the next attribute, or the error of the remaining bytes. Nothing follows an error.
+/// Returns the next attribute, or the error of the remaining bytes. Returns `None` at the end, and
+/// after an error.
 #[tactic(auto, using(crate::proofs::PieceWalk::iterator_step_rules))]
 pub(crate) fn next_piece<'a>(
     walk: &mut NlasIterator<'a>,
 ) -> Option<Result<NlaBuffer<'a>, DecodeError>>
-    // The result is the first attribute or error that was left, or `None` if none was. The later
-    // ones are left.
+    // The result is the first attribute or error that was left in `walk`, or `None` if none was.
+    // The later ones are left.
     ensures { YieldsFirstPiece walk.old result walk.new }
 {
     walk.next()
@@ -23,9 +25,8 @@ pub(crate) fn next_piece<'a>(
 /// Returns the first attribute of this kind. Returns `None` if there is none before the end, or
 /// before bytes that are not an attribute.
 pub(crate) fn find_kind<'a>(bytes: &'a [u8], kind: u16) -> Option<NlaBuffer<'a>>
-    // `pieces_in bytes`: each attribute in the bytes, and then the framing error, if there is one.
     // `option_map buffered_attribute result`: the type and the value of the attribute, if there is
-    // one.
+    // one. `first_of_kind kind ..`: the first attribute of this kind, or None.
     ensures { option_map buffered_attribute result
         ≡ first_of_kind kind (pieces_in bytes.entry.now) }
 {
@@ -39,7 +40,7 @@ pub(crate) fn find_kind<'a>(bytes: &'a [u8], kind: u16) -> Option<NlaBuffer<'a>>
     None
 }
 
-/// Returns the error of the bytes after the last attribute, if there are any.
+/// Returns the error of the bytes after the last attribute, or `None` if there are no such bytes.
 pub(crate) fn find_framing_error(bytes: &[u8]) -> Option<DecodeError>
     ensures { result ≡ framing_error_of (pieces_in bytes.now) }
 {

@@ -22,7 +22,8 @@ use netlink_captures::PacketHeader;
 use sock_diag_records::constants::SOCK_DESTROY;
 use std::alloc::AllocError;
 
-/// Appends the line of a request, if `--requests` is set and `--json` is not.
+/// Appends the line of a request, if `--requests` is set and `--json` is not. `header` has the time
+/// of its capture.
 pub(crate) fn push_shown_request(
     text: &mut Vec<u8>,
     options: Options,
@@ -55,13 +56,14 @@ fn push_request_line(
     Ok(text.push(b'\n')?)
 }
 
-/// Appends what a request asks for, in parentheses. The request is the one that `bytes` begin with.
-/// Appends `unknown` if they do not begin with a request, or if it is not known what it asks for.
+/// Appends, in parentheses, what the request at the start of `bytes` asks for. Appends `unknown` if
+/// they do not begin with a request, or if it is not known what it asks for.
 pub(crate) fn push_request_note(
     text: &mut Vec<u8>,
     unknown: &[u8],
     bytes: &[u8],
 ) -> Result<(), AllocError>
+    // `request_in bytes`: the request at the start of the bytes, or None.
     ensures { OnOk result (text.new.items ≡ text.old.items ++ request_note unknown.now
         (request_in bytes.now)) }
 {
@@ -127,7 +129,8 @@ fn request_verb(message_type: u16) -> &'static [u8]
 }
 
 /// Appends the text about requested sockets: for IPv4 and IPv6 sockets the protocol, the family and
-/// a bit for each state; for UNIX sockets `unix` and these bits; or else the name of the family.
+/// a bit for each state; for UNIX sockets `unix` and these bits; for other families the name; and
+/// `other` for `Unknown`.
 fn push_requested(text: &mut Vec<u8>, requested: Requested) -> Result<(), AllocError>
     ensures { OnOk result (text.new.items ≡ text.old.items ++ requested_text requested) }
 {
@@ -142,7 +145,7 @@ fn push_requested(text: &mut Vec<u8>, requested: Requested) -> Result<(), AllocE
     }
 }
 
-/// Appends the text about requested IPv4 or IPv6 sockets.
+/// Appends the text about requested IPv4 or IPv6 sockets. Example: `tcp family:inet states:0xfff`.
 fn push_inet_request(text: &mut Vec<u8>, query: Query) -> Result<(), AllocError>
     ensures { OnOk result (text.new.items ≡ text.old.items ++ inet_request_text query) }
 {

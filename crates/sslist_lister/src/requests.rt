@@ -1,6 +1,6 @@
 //! Captured requests. They contain the protocols of the sockets in the replies, and separate lists
 //! of sockets. In the contracts, `message_parts request.now` is the header and the payload of a
-//! request.
+//! request, and `past_requests` is what a [`Requests`] has.
 
 ghost use Rattle.std.specs.Prelude.{◌≡◌, ◌≤◌, length, OnOk, option_map};
 ghost use Rattle.std.proofs.Common.{rules};
@@ -80,8 +80,8 @@ impl Requests {
         self.add_query(request)
     }
 
-    /// Returns the number of the list after one more request: the next number if the request
-    /// repeats the first one.
+    /// Returns the number of the list of sockets after one more request: the next number if the
+    /// request repeats the first one, or else the same number.
     fn list_with(&self, request: &Message<'_>) -> u64
         ensures { result ≡ list_with (message_parts request.now) (past_requests self.now) }
     {
@@ -120,8 +120,8 @@ impl Requests {
     }
 }
 
-/// Returns the protocol of the first of these requests that a reply with these numbers may answer.
-/// Returns `None` if there is none.
+/// Returns the protocol of the first of the requests `asked` that a reply with these numbers may
+/// answer (see [`Requests::find_protocol`]). Returns `None` if there is none.
 fn find_in(asked: &[Query], sequence_number: u32, port_number: u32) -> Option<u32>
     ensures { result ≡ protocol_of asked.now sequence_number port_number }
 {
@@ -178,8 +178,8 @@ fn is_about_sockets(message_type: u16) -> bool
     matches!(message_type, SOCK_DIAG_BY_FAMILY | SOCK_DESTROY)
 }
 
-/// Returns what a request for sockets of this family asks for. `None` is a family other than
-/// netlink, packet, vsock and XDP.
+/// Returns what a request for sockets of this netlink, packet, vsock or XDP family asks for.
+/// Returns `Unknown` for any other family (`None`).
 fn requested_other(family: Option<Family>) -> Requested
     ensures { result ≡ requested_other family }
 {
@@ -207,8 +207,8 @@ fn query_of(request: &Message<'_>) -> Query
     }
 }
 
-/// Returns the protocol in the attribute `INET_DIAG_REQ_PROTOCOL` if its value has four bytes.
-/// Otherwise, or if there is no attribute, returns `byte`, the protocol in the header.
+/// Returns the protocol of a request: the value of the attribute `INET_DIAG_REQ_PROTOCOL` if it has
+/// four bytes. Otherwise, or if there is no attribute, returns `byte`, the protocol in the header.
 fn choose_protocol(byte: u8, attribute: Option<NlaBuffer<'_>>) -> u32
     // `option_map buffered_attribute attribute.entry`: the type and the value of the attribute, if
     // there is one.

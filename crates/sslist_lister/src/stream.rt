@@ -15,10 +15,10 @@ use netlink_captures::CaptureError;
 use program_streams::{ReadError, Sink, Source, send};
 use std::alloc::Global;
 
-/// Writes the table of a capture: `heading`, and the lines of each packet before the next one is
-/// read. Then flushes. Writes the diagnostics on `errors`, each line with the prefix `front`, as
-/// long as `is_open` is set. If a write on `errors` fails, clears `is_open`, and writes nothing
-/// more there. Returns whether all packets were listed completely.
+/// Writes the table of the capture in `input` on `output`: `heading`, and the lines of each packet
+/// before the next one is read. Then flushes. Writes the diagnostics on `errors`, each line with
+/// the prefix `front`, as long as `is_open` is set. If a write on `errors` fails, clears `is_open`,
+/// and writes nothing more there. Returns whether all packets were listed completely.
 ///
 /// It fails with `Header` if the capture could not be opened; then nothing was written. It fails
 /// with `Packet` if a packet could not be read, and with `Memory` if an allocation failed while a
@@ -38,8 +38,12 @@ pub fn run<R: Source, W: Sink, E: Sink>(
     errors: &mut E,
     is_open: &mut bool,
 ) -> Result<bool, ListError>
-    // R.left: the bytes that are left to read, if known. R.failed: a read failed with this error.
-    // W.held and E.held: the bytes written, if known. E.failed: a write failed with this error.
+    // `ListingEnds run result`: the run that the record describes had this result, as stated above.
+    // R.left: the bytes that are left to read, if known. W.held and E.held: the bytes written, if
+    // known.
+    // R.failed and E.failed state that a read or a write failed with an error.
+    // `Reports before after text`: this text was reported. `error_output ..`: the state of `errors`
+    // and `is_open`.
     ensures ended { ListingEnds (record {
       options = options;
       heading = heading.now;

@@ -1,7 +1,8 @@
 //! The facts of a TCP or MPTCP connection: the fields of `struct tcp_info` or `struct mptcp_info`,
 //! as far as a value contains them. If a function of this module fails, an allocation failed, and
-//! the content of the sink is not specified. In the contracts, `S.content sink.old` and `S.content
-//! sink.new` are what the sink shows before and after the call.
+//! the content of the sink is not specified. In the contracts, `AddsFacts old new facts` states
+//! that the sink shows these facts after what it showed before, and `AddsItems` states it of items.
+//! `S.content sink.old` and `S.content sink.new` are what the sink shows before and after the call.
 
 ghost use Rattle.std.specs.Prelude.{◌≡◌, OnOk, flat_map, map, option_map};
 ghost use Rattle.sslist_lister.specs.Facts.{AddsFacts, AddsItems};
@@ -252,9 +253,8 @@ pub(crate) fn show_mptcp_info<S: FactSink>(sink: &mut S, bytes: &[u8]) -> Result
 /// Returns the rows of the first eight bytes of `struct tcp_info`.
 #[tactic(auto, unfolding(crate::specs::Tcp::tcp_state_rows))]
 fn tcp_state_rows() -> &'static [FieldRow]
-    // The rows are those of the definition `tcp_state_rows`, which names the fields of `struct
-    // tcp_info` instead of their offsets. `field_row_of`: the row, with its texts as lists of
-    // bytes.
+    // `field_row_of`: a row, with its texts as lists of bytes. The definition `tcp_state_rows` has
+    // the same rows. It names the fields of `struct tcp_info` instead of their offsets.
     ensures { map field_row_of result.now ≡ tcp_state_rows }
 {
     &TCP_STATE_ROWS
@@ -263,9 +263,8 @@ fn tcp_state_rows() -> &'static [FieldRow]
 /// Returns the rows of the times and metrics in `struct tcp_info`.
 #[tactic(auto, unfolding(crate::specs::Tcp::tcp_metric_rows))]
 fn tcp_metric_rows() -> &'static [FieldRow]
-    // The rows are those of the definition `tcp_metric_rows`, which names the fields of `struct
-    // tcp_info` instead of their offsets. `field_row_of`: the row, with its texts as lists of
-    // bytes.
+    // `field_row_of`: a row, with its texts as lists of bytes. The definition `tcp_metric_rows` has
+    // the same rows. It names the fields of `struct tcp_info` instead of their offsets.
     ensures { map field_row_of result.now ≡ tcp_metric_rows }
 {
     &TCP_METRIC_ROWS
@@ -274,9 +273,8 @@ fn tcp_metric_rows() -> &'static [FieldRow]
 /// Returns the rows of the rates and counters in `struct tcp_info`.
 #[tactic(auto, unfolding(crate::specs::Tcp::tcp_rate_rows))]
 fn tcp_rate_rows() -> &'static [FieldRow]
-    // The rows are those of the definition `tcp_rate_rows`, which names the fields of `struct
-    // tcp_info` instead of their offsets. `field_row_of`: the row, with its texts as lists of
-    // bytes.
+    // `field_row_of`: a row, with its texts as lists of bytes. The definition `tcp_rate_rows` has
+    // the same rows. It names the fields of `struct tcp_info` instead of their offsets.
     ensures { map field_row_of result.now ≡ tcp_rate_rows }
 {
     &TCP_RATE_ROWS
@@ -285,9 +283,8 @@ fn tcp_rate_rows() -> &'static [FieldRow]
 /// Returns the rows of `struct mptcp_info`.
 #[tactic(auto, unfolding(crate::specs::Tcp::mptcp_rows))]
 fn mptcp_rows() -> &'static [FieldRow]
-    // The rows are those of the definition `mptcp_rows`, which names the fields of `struct
-    // mptcp_info` instead of their offsets. `field_row_of`: the row, with its texts as lists of
-    // bytes.
+    // `field_row_of`: a row, with its texts as lists of bytes. The definition `mptcp_rows` has the
+    // same rows. It names the fields of `struct mptcp_info` instead of their offsets.
     ensures { map field_row_of result.now ≡ mptcp_rows }
 {
     &MPTCP_ROWS
@@ -296,8 +293,8 @@ fn mptcp_rows() -> &'static [FieldRow]
 /// Shows the facts of these rows, in the order of the rows, as far as the bytes contain their
 /// fields.
 fn show_fields<S: FactSink>(sink: &mut S, bytes: &[u8], rows: &[FieldRow]) -> Result<(), AllocError>
-    // `field_row_of`: the row, with its texts as lists of bytes. `field_facts bytes rows`: the
-    // facts of those rows whose fields the bytes contain.
+    // `field_facts bytes rows`: the facts of those rows whose fields the bytes contain.
+    // `field_row_of`: a row, with its texts as lists of bytes.
     ensures { OnOk result (AddsFacts (S.content sink.old) (S.content sink.new)
         (field_facts bytes.now (map field_row_of rows.now))) }
 {
@@ -321,8 +318,8 @@ fn show_rows<S: FactSink>(sink: &mut S, bytes: &[u8], rows: &[FieldRow]) -> Resu
     Ok(())
 }
 
-/// Returns the number of a row. Returns `None` if the value ends before the end of the field, or if
-/// the number does not apply to the connection (`Negotiated`).
+/// Returns the number of the row with this offset and this part. Returns `None` if the value ends
+/// before the end of the field, or if the number does not apply to the connection (`Negotiated`).
 #[inline(always)]
 fn number_in(value: &[u8], offset: usize, part: FieldPart) -> Option<u64>
     ensures { result ≡ number_in part offset value.now }

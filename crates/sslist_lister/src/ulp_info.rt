@@ -1,8 +1,10 @@
 //! The facts of the upper layer protocol of a TCP socket (`INET_DIAG_ULP_INFO`): its name, and what
 //! TLS and MPTCP report. A function of this module that appends to a sink may fail: then an
-//! allocation failed, and the content of the sink is not specified. In the contracts, `S.content
-//! sink.old` and `S.content sink.new` are what the sink shows before and after the call. `bytes`
-//! are nested attributes.
+//! allocation failed, and the content of the sink is not specified. `bytes` are nested attributes.
+//!
+//! In the contracts, `AddsFacts old new facts` states that the sink shows these facts after what it
+//! showed before, and `AddsItems` states it of items. `S.content sink.old` and `S.content sink.new`
+//! are what the sink shows before and after the call.
 
 ghost use Rattle.std.specs.Prelude.{◌≡◌, ◌≤◌, IfOk, OnOk, codes, flat_map, map, option_map};
 ghost use Rattle.netlink_core.specs.Errors.{map_ok};
@@ -86,10 +88,12 @@ static SUBFLOW_ROWS: [UlpRow; 10] = [
     subflow!(Never, b"", "id_loc", LocalId),
 ];
 
-/// Shows the upper layer protocol in the value of an attribute. If the value has no valid name,
-/// shows nothing, and the status is the error of the name.
+/// Shows the upper layer protocol in the value of an attribute, and returns the status of the
+/// attribute. If the value has no valid name, shows nothing, and the status is the error of the
+/// name.
 pub(crate) fn show_ulp<S: FactSink>(sink: &mut S, value: &[u8]) -> Result<Status, AllocError>
-    // The facts of the outcome, if it has any, were appended, and the result is its status.
+    // `AddsOutcome old new outcome`: the facts of the outcome, if it has any, were appended, and
+    // the result is its status. `ulp_outcome value`: what a value says.
     ensures { IfOk result (AddsOutcome (S.content sink.old) (S.content sink.new)
         (ulp_outcome value.now)) }
 {
@@ -105,7 +109,8 @@ pub(crate) fn show_ulp<S: FactSink>(sink: &mut S, value: &[u8]) -> Result<Status
 /// Shows the name of a protocol, and what the value has about TLS and MPTCP, as an object in JSON.
 /// The table has no text around them.
 fn show_ulp_info<S: FactSink>(sink: &mut S, name: &str, value: &[u8]) -> Result<(), AllocError>
-    // `ulp_parts`: the name, and the facts about TLS and MPTCP.
+    // `json_group member facts`: the facts as this object in JSON. `ulp_parts ..`: the name, and
+    // the facts about TLS and MPTCP.
     ensures { OnOk result (AddsFacts (S.content sink.old) (S.content sink.new)
         (json_group (codes "ulp_info") (ulp_parts name.now value.now))) }
 {
@@ -126,9 +131,9 @@ fn show_ulp_parts<S: FactSink>(sink: &mut S, name: &str, value: &[u8]) -> Result
 
 /// Shows what TLS reports, if the value has it.
 fn show_tls<S: FactSink>(sink: &mut S, value: &[u8]) -> Result<(), AllocError>
-    // `nested_value kind value`: the value of the first attribute of this kind, if there is one.
     // `nested_group member facts found`: `facts` of the attributes in `found`, as the object
-    // `member`; no facts for None.
+    // `member`; no facts for None. `nested_value kind value`: the value of the first attribute of
+    // this kind, if there is one.
     ensures { OnOk result (AddsFacts (S.content sink.old) (S.content sink.new)
         (nested_group (codes "tls") tls_facts (nested_value INET_ULP_INFO_TLS value.now))) }
 {
@@ -159,8 +164,8 @@ fn show_tls_parts<S: FactSink>(sink: &mut S, bytes: &[u8]) -> Result<(), AllocEr
     show_presence(sink, bytes, TLS_INFO_RX_NO_PAD, b" no_pad_rx", "rx_no_pad")
 }
 
-/// Shows whether the nested attributes have one of this kind. If so, the table shows `text`. JSON
-/// has `member`.
+/// Shows whether the nested attributes have one of this kind. If so, the table shows `text`, or
+/// else nothing. JSON has `member`, as `true` or `false`.
 fn show_presence<S: FactSink>(
     sink: &mut S,
     bytes: &[u8],
@@ -189,8 +194,8 @@ fn show_tls_numbers<S: FactSink>(sink: &mut S, bytes: &[u8]) -> Result<(), Alloc
 /// Returns the rows of the numbers about TLS.
 #[tactic(auto, unfolding(crate::specs::UlpInfo::tls_rows))]
 fn list_tls_rows() -> &'static [UlpRow]
-    // The rows are those of the definition. `ulp_row_of`: the row, with its texts as lists of
-    // bytes.
+    // `ulp_row_of`: a row, with its texts as lists of bytes. The definition `tls_rows` has the same
+    // rows.
     ensures { map ulp_row_of result.now ≡ tls_rows }
 {
     &TLS_ROWS
@@ -198,9 +203,9 @@ fn list_tls_rows() -> &'static [UlpRow]
 
 /// Shows what MPTCP reports, if the value has it.
 fn show_subflow<S: FactSink>(sink: &mut S, value: &[u8]) -> Result<(), AllocError>
-    // `nested_value kind value`: the value of the first attribute of this kind, if there is one.
     // `nested_group member facts found`: `facts` of the attributes in `found`, as the object
-    // `member`; no facts for None.
+    // `member`; no facts for None. `nested_value kind value`: the value of the first attribute of
+    // this kind, if there is one.
     ensures { OnOk result (AddsFacts (S.content sink.old) (S.content sink.new)
         (nested_group (codes "mptcp") subflow_facts (nested_value INET_ULP_INFO_MPTCP value.now))) }
 {
@@ -245,15 +250,15 @@ fn show_subflow_numbers<S: FactSink>(sink: &mut S, bytes: &[u8]) -> Result<(), A
 /// Returns the rows of the numbers of a subflow.
 #[tactic(auto, unfolding(crate::specs::UlpInfo::subflow_rows))]
 fn list_subflow_rows() -> &'static [UlpRow]
-    // The rows are those of the definition. `ulp_row_of`: the row, with its texts as lists of
-    // bytes.
+    // `ulp_row_of`: a row, with its texts as lists of bytes. The definition `subflow_rows` has the
+    // same rows.
     ensures { map ulp_row_of result.now ≡ subflow_rows }
 {
     &SUBFLOW_ROWS
 }
 
-/// Shows the tokens of a connection and the ids of the addresses, which JSON has as numbers of the
-/// subflow, if all four are present.
+/// Shows the tokens of a connection and the ids of the addresses in the table, if all four are
+/// present. JSON has them among the numbers of the subflow.
 fn show_tokens<S: FactSink>(sink: &mut S, bytes: &[u8]) -> Result<(), AllocError>
     ensures { OnOk result (AddsFacts (S.content sink.old) (S.content sink.new)
         (tokens_in bytes.now)) }
@@ -267,7 +272,7 @@ fn show_tokens<S: FactSink>(sink: &mut S, bytes: &[u8]) -> Result<(), AllocError
     )
 }
 
-/// Shows these tokens and ids, if all four are present.
+/// Shows these two tokens and two ids in the table, if all four are present, or else nothing.
 fn show_four<S: FactSink>(
     sink: &mut S,
     remote: Option<u64>,

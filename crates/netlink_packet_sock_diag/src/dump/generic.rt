@@ -27,10 +27,11 @@ fn interrupted_by(was_interrupted: bool, header: &NetlinkHeader) -> bool
     was_interrupted || header.flags & NLM_F_DUMP_INTR != 0
 }
 
-// Reads the messages of a datagram up to the end of the dump, and returns the new state of the dump
-// and the error number of its end. The type and the flags of a message are read before its payload.
-// If the error is `Memory`, then the first message that was not kept may need memory, or the list
-// is full.
+// Reads the messages of a datagram up to the end of the dump. Appends what is kept of each to
+// `messages`, and sets `interrupted` if one has `NLM_F_DUMP_INTR`, even if its payload is rejected.
+// Returns the new state of the dump and the error number of its end, or the error that ends it. The
+// error is `Memory` only if the first message that was not kept may need memory, or the list is
+// full.
 fn take_messages<I: DumpEntry>(
     alloc: Global,
     messages: &mut Vec<I>,
@@ -137,7 +138,8 @@ impl<I: DumpEntry> GenericDump<I> {
     /// Reads the messages of a datagram; see [`DumpReader::feed`](crate::DumpReader::feed).
     pub(crate) fn feed(&mut self, datagram: &[u8]) -> Result<(), DumpError>
         // `FeedLeadsTo item_is (old, datagram) (new, result)`: what a call does to the progress of
-        // the reader, by its result.
+        // the reader, by its result. `generic_dump_progress I.model dump`: this progress, with the
+        // models of what is kept as its messages.
         ensures leaves { FeedLeadsTo I.item_is
             (generic_dump_progress I.model self.old, datagram.now)
             (generic_dump_progress I.model self.new, result) }

@@ -1,4 +1,5 @@
-//! Dumps that continue after invalid replies.
+//! Dumps that continue after invalid replies. In the contracts `lossy_progress dump` is the
+//! progress of a reader: its entries, its state, its error number, and whether it is interrupted.
 
 ghost use Rattle.std.specs.Prelude.{◌≡◌, ◌⊎◌, Err, Ok};
 ghost use Rattle.netlink_core.specs.declared.error.DecodeError.TheVariants.{Memory};
@@ -29,8 +30,7 @@ impl LossyDump {
     /// Returns a reader that nothing was fed to: it has no entries, its state is `Reading`, it has
     /// no error number, and it is not interrupted. It keeps the allocator.
     pub fn new(alloc: Global) -> Self
-        // `lossy_progress`: the entries, the state, the error number and the interruption of a
-        // reader. `new_dump`: those of a reader that nothing was fed to.
+        // `new_dump`: the progress of a reader that nothing was fed to.
         ensures { lossy_progress result ≡ new_dump }
     {
         LossyDump {

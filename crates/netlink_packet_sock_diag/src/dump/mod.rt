@@ -1,4 +1,6 @@
-//! Dumps: the messages of several datagrams, up to the message that ends the dump.
+//! Dumps: the messages of several datagrams, up to the message that ends the dump. In the contracts
+//! `reader_progress reader` is the progress of a reader: its messages, its state, its error number,
+//! and whether it is interrupted.
 
 ghost use Rattle.std.specs.Prelude.{◌≡◌, map};
 ghost use Rattle.std.proofs.Common.{rules};
@@ -69,8 +71,7 @@ impl DumpReader {
     /// Returns a reader that nothing was fed to: it has no messages, its state is `Reading`, it has
     /// no error number, and it is not interrupted. It keeps the allocator.
     pub fn new(alloc: Global) -> Self
-        // `reader_progress`: the messages, the state, the error number and the interruption of a
-        // reader. `new_dump`: those of a reader that nothing was fed to.
+        // `new_dump`: the progress of a reader that nothing was fed to.
         ensures { reader_progress result ≡ new_dump }
     {
         DumpReader {

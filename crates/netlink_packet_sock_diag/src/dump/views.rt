@@ -1,4 +1,6 @@
-//! Borrowed messages of a datagram, with their payloads.
+//! Borrowed messages of a datagram, with their payloads. In the contracts `payload_view_model` is
+//! the model of a borrowed payload: the payload, with the model of its inner message or with its
+//! bytes.
 
 ghost use Rattle.std.specs.Prelude.{◌≡◌, ◌↔◌, length, IfOk, IfErr, IsTrue, SomeIff};
 ghost use Rattle.netlink_core.specs.NetlinkMessage.{IsInnerMessageType, HoldsOfInnerMessage};
@@ -47,6 +49,7 @@ fn read_payload<'a>(
 // writable.
 fn payload_writable_len(payload: &PayloadView<'_>) -> Option<usize>
     // `HoldsOfInnerMessage is_writable payload`: the inner message is writable, if there is one.
+    // `payload_bytes serialized payload`: the bytes of the payload.
     ensures { SomeIff result (HoldsOfInnerMessage message_codec.is_writable
         (payload_view_model payload.now))
         (length (payload_bytes message_codec.serialized (payload_view_model payload.now))) }
@@ -84,8 +87,7 @@ impl<'a> MessageView<'a> {
     ///   control message: `NLMSG_NOOP`, `NLMSG_ERROR`, `NLMSG_DONE` or `NLMSG_OVERRUN`.
     #[inline(always)]
     pub fn parse(bytes: &'a [u8]) -> Result<MessageView<'a>, DecodeError>
-        // `netlink_message_view_model view`: the header, and the payload with the model of its
-        // inner message or with its bytes.
+        // `netlink_message_view_model view`: the header, and the model of the payload.
         ensures value { IfOk result (λ view.
             netlink_message_codec.parses bytes.entry.now tt (netlink_message_view_model view)) }
         ensures error { IfErr result (netlink_message_codec.rejects bytes.entry.now tt) }
@@ -99,8 +101,7 @@ impl<'a> MessageView<'a> {
     /// Returns whether the message is writable: its inner message is writable, and the message has
     /// at most 4,294,967,295 bytes, including the 16 bytes of its header.
     pub fn is_writable(&self) -> bool
-        // `netlink_message_view_model view`: the header, and the payload with the model of its
-        // inner message or with its bytes.
+        // `netlink_message_view_model view`: the header, and the model of the payload.
         ensures { IsTrue result
             ↔ netlink_message_codec.is_writable (netlink_message_view_model self.now) }
     {
@@ -115,6 +116,7 @@ impl<'a> MessageView<'a> {
 // the length in its header.
 #[inline(always)]
 fn payload_of<'a>(header: &NetlinkHeader, message: &'a [u8]) -> Result<PayloadView<'a>, DecodeError>
+    // `HasHeader message header`: the message starts with this header.
     requires header { HasHeader message.now header.now }
     requires whole { header.now.length ≡ length message.now }
     // `IsItemOf codec message item`: the item is the payload of the message, or its decode error.

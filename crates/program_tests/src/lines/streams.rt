@@ -476,6 +476,7 @@ fn assert_reported(
 
 #[test]
 fn reports_on_errors_why_it_failed(rt: HostRuntime) {
+    // The first read fails, a read within the first line, the flush, and no call.
     for (read_fails, write_fails, expected) in [
         (0, NEVER, "sockdiag: reading failed\n"),
         (30, NEVER, "sockdiag: reading failed\n"),

@@ -1,4 +1,5 @@
-//! The attributes of a reply about an IPv4 or IPv6 socket, and the types of their values.
+//! The attributes of a reply about an IPv4 or IPv6 socket, and the types of their values. In the
+//! contracts `inet_attribute_set` is the set of the known attributes.
 
 ghost use Rattle.std.specs.Prelude.{◌≡◌, [], Ok, Err, IsOk, IfOk, MatchResult, true};
 ghost use Rattle.netlink_core.specs.Attribute.{FitsLengthField, attribute_bytes};
@@ -129,7 +130,7 @@ impl Nla {
     /// allocation fails. Only a text, and an attribute of another kind whose value is not empty,
     /// may need an allocation.
     pub fn clone(&self, alloc: Global) -> Result<Self, AllocError>
-        // inet_nla_model: the decoded value of the attribute.
+        // `inet_nla_model`: the decoded value of the attribute.
         ensures equal { IfOk result (λ copy. inet_nla_model copy ≡ inet_nla_model self.now) }
         // `needs_no_memory`: cloning does not fail if the attribute is of a type whose values need
         // no memory: any variant except `Congestion` and `Other`.
@@ -152,9 +153,9 @@ impl<T: AsStr, O: OtherNla> InetNla<T, O> {
     // Returns the attribute with an owned text and owned bytes. Fails only if an allocation fails.
     #[inline(always)]
     fn owned(&self, alloc: Global) -> Result<Nla, AllocError>
-        // inet_nla_model: the decoded value of an owned attribute. `inet_nla_value ..` and
-        // `inet_nla_attribute ..`: the decoded value of this attribute, and what it serializes as.
-        // `T.text` returns the bytes of a text, and `O.attribute` a raw attribute.
+        // `inet_nla_model`: the decoded value of an owned attribute. `inet_nla_value ..`: that of
+        // this one, in which `T.text` returns the bytes of a text, and `O.attribute` a raw
+        // attribute.
         ensures equal { IfOk result (λ nla. inet_nla_model nla
             ≡ inet_nla_value T.text O.attribute self.now) }
         // `needs_no_memory`: the call does not fail for any variant except `Congestion` and
@@ -162,8 +163,8 @@ impl<T: AsStr, O: OtherNla> InetNla<T, O> {
         ensures needs_no_memory { NeedsNoMemoryIn inet_attribute_set
             (inet_nla_value T.text O.attribute self.now)
             → IsOk result }
-        // `empty`: the call does not fail if the serialized value is empty: for an `Other` without
-        // bytes.
+        // `empty`: the call does not fail if the serialized attribute (`inet_nla_attribute ..`) has
+        // an empty value: for an `Other` without bytes.
         ensures empty { (inet_nla_attribute T.text O.attribute self.now).value ≡ []
             → IsOk result }
     {
@@ -188,8 +189,8 @@ impl<T: AsStr, O: OtherNla> InetNla<T, O> {
     // Returns the type field and the value that the attribute serializes as.
     #[inline(always)]
     pub(super) fn type_and_value(&self) -> (u16, Value<'_>)
-        // `inet_nla_attribute ..`: the type field and the bytes that it serializes as. `T.text`
-        // returns the bytes of a text, and `O.attribute` a raw attribute. value_bytes: the bytes
+        // `inet_nla_attribute ..`: the type field and the value that it serializes as. `T.text`
+        // returns the bytes of a text, and `O.attribute` a raw attribute. `value_bytes`: the bytes
         // that a `Value` serializes to.
         ensures kind { result.0 ≡ (inet_nla_attribute T.text O.attribute self.now).type_word }
         ensures value { value_bytes result.1
@@ -226,9 +227,9 @@ impl<'a> NlaView<'a> {
     /// number or a flag has another length, `NotUtf8` if a text is not valid UTF-8.
     #[inline(always)]
     pub fn parse(nla: &NlaBuffer<'a>) -> Result<NlaView<'a>, DecodeError>
-        // decode_attribute set attribute: `Ok` of what the attribute decodes to by the set, or
+        // `decode_attribute set attribute`: `Ok` of what the attribute decodes to by the set, or
         // `Err` of the error of its value. `buffered_attribute nla.now`: the type field and the
-        // value of `nla`. inet_nla_view_model: the decoded value of a view.
+        // value of `nla`. `inet_nla_view_model`: the decoded value of a view.
         ensures { MatchResult result
             (λ view. decode_attribute inet_attribute_set (buffered_attribute nla.now)
             ≡ Ok (inet_nla_view_model view))
@@ -255,6 +256,9 @@ impl<'a> NlaView<'a> {
     /// attribute. No length is tested again.
     #[inline(always)]
     pub fn new(nla: &NlaBuffer<'a>) -> NlaView<'a>
+        // `decode_attribute set attribute`: `Ok` of what the attribute decodes to by the set, or
+        // `Err`. `buffered_attribute`: the type field and the value of `nla`.
+        // `inet_nla_view_model`: the decoded value of a view.
         requires { IsOk (decode_attribute inet_attribute_set (buffered_attribute nla.now)) }
         ensures { decode_attribute inet_attribute_set (buffered_attribute nla.now)
             ≡ Ok (inet_nla_view_model result) }
@@ -281,7 +285,7 @@ impl<'a> NlaView<'a> {
     /// whose value is not empty, may need an allocation.
     #[inline(always)]
     pub fn to_owned(&self, alloc: Global) -> Result<Nla, AllocError>
-        // inet_nla_model and inet_nla_view_model: the decoded value of an owned and of a borrowed
+        // `inet_nla_model`, `inet_nla_view_model`: the decoded value of an owned and of a borrowed
         // attribute.
         ensures equal { IfOk result (λ nla. inet_nla_model nla ≡ inet_nla_view_model self.now) }
         // `needs_no_memory`: the call does not fail if the attribute is of a type whose values need

@@ -1,4 +1,6 @@
-//! The name of a UNIX socket.
+//! The name of a UNIX socket. In the contracts `socket_name_model vec_items name` is an owned name
+//! with its bytes as a list, and `name_view_model name` a borrowed one. `name_bytes` are the bytes
+//! that such a name serializes to, including its zero.
 
 ghost use Rattle.std.specs.Prelude.{◌≡◌, ◌≤◌, length, IfOk, IsOk};
 ghost use Rattle.std.specs.Prelude.{MatchOption, MatchResult, Ok, Err, true, refl, vec_items, ⊤};
@@ -51,11 +53,9 @@ impl UnixDiagName {
     /// same bytes. Fails only if an allocation fails. A name that serializes to one byte, its zero,
     /// needs no allocation.
     pub fn clone(&self, alloc: Global) -> Result<Self, AllocError>
-        // socket_name_model bytes name: the name with its bytes as a list, here of a `Vec`.
-        // name_bytes: the bytes that a name serializes to, including its zero.
         ensures equal { IfOk result (λ name. socket_name_model vec_items name
             ≡ socket_name_model vec_items self.now) }
-        // `needs_no_memory`: cloning does not fail if there are no bytes besides this zero.
+        // `needs_no_memory`: cloning does not fail if there are no bytes besides the zero.
         ensures needs_no_memory { length (name_bytes (socket_name_model vec_items self.now)) ≤ 1
             → IsOk result }
     {
@@ -65,8 +65,6 @@ impl UnixDiagName {
     // Returns the name with borrowed bytes: a path for a path, and an abstract name for an abstract
     // one, with the same bytes.
     pub(crate) fn view(&self) -> NameView<'_>
-        // name_view_model and `socket_name_model vec_items`: a borrowed and an owned name with its
-        // bytes as a list.
         ensures { name_view_model result ≡ socket_name_model vec_items self.now }
     {
         match self {
@@ -86,9 +84,8 @@ impl<'a> NameView<'a> {
     #[inline(always)]
     #[tactic(auto, using(crate::specs::laws::Name::parse_name_rules))]
     pub fn parse(bytes: &'a [u8]) -> Result<NameView<'a>, DecodeError>
-        // parse_name bytes: `Ok` of the name, with its bytes as a list, or `Err` of the error.
-        // name_view_model name: the name with its bytes as a list. `bytes.entry` is the argument
-        // as it was passed.
+        // `parse_name bytes`: `Ok` of the name, with its bytes as a list, or `Err` of the error.
+        // `bytes.entry`: the argument as it was passed.
         ensures { MatchResult result
             (λ name. parse_name bytes.entry.now ≡ Ok (name_view_model name))
             (λ e. parse_name bytes.entry.now ≡ Err e) }
@@ -111,6 +108,7 @@ impl<'a> NameView<'a> {
     #[inline(always)]
     #[tactic(auto, using(crate::specs::laws::Name::accepted_name_is_path))]
     pub fn new(bytes: &'a [u8]) -> NameView<'a>
+        // `parse_name bytes`: `Ok` of the name, with its bytes as a list, or `Err` of the error.
         requires { IsOk (parse_name bytes.now) }
         ensures { parse_name bytes.entry.now ≡ Ok (name_view_model result) }
     {
@@ -125,7 +123,6 @@ impl<'a> NameView<'a> {
 
     // Returns the number of bytes that the name serializes to, including its zero.
     pub(crate) fn len(&self) -> usize
-        // name_bytes (name_view_model name): the bytes that the borrowed name serializes to.
         ensures { result ≡ length (name_bytes (name_view_model self.now)) }
     {
         match self {
@@ -138,7 +135,6 @@ impl<'a> NameView<'a> {
     // bytes after it are unchanged.
     #[tactic(auto, using(crate::specs::laws::Name::name_in_range_rules))]
     pub(crate) fn emit_name(&self, buffer: &mut [u8])
-        // name_bytes (name_view_model name): the bytes that the borrowed name serializes to.
         requires { length (name_bytes (name_view_model self.now)) ≤ length buffer.old }
         ensures written { HoldsAtStart (name_bytes (name_view_model self.now))
             buffer.old buffer.new }
@@ -161,11 +157,9 @@ impl<'a> NameView<'a> {
     /// one. Fails only if an allocation fails. A name that serializes to one byte, its zero, needs
     /// no allocation.
     pub fn to_owned(&self, alloc: Global) -> Result<UnixDiagName, AllocError>
-        // socket_name_model vec_items and name_view_model: an owned and a borrowed name with its
-        // bytes as a list.
         ensures equal { IfOk result (λ name.
             socket_name_model vec_items name ≡ name_view_model self.now) }
-        // `needs_no_memory`: the call does not fail if there are no bytes besides this zero.
+        // `needs_no_memory`: the call does not fail if there are no bytes besides the zero.
         ensures needs_no_memory { length (name_bytes (name_view_model self.now)) ≤ 1 → IsOk result }
     {
         Ok(match self {

@@ -1,4 +1,5 @@
-//! The attributes of a reply about a UNIX socket, and the types of their values.
+//! The attributes of a reply about a UNIX socket, and the types of their values. In the contracts
+//! `unix_attribute_set` is the set of the known attributes.
 
 ghost use Rattle.std.specs.Prelude.{◌≡◌, [], Ok, Err, IsOk, IfOk, MatchResult, true};
 ghost use Rattle.netlink_core.specs.Attribute.{FitsLengthField, attribute_bytes};
@@ -114,7 +115,7 @@ impl Nla {
     /// allocation fails. Only a name, a list that is not empty, and an attribute of another kind
     /// whose value is not empty, may need an allocation.
     pub fn clone(&self, alloc: Global) -> Result<Self, AllocError>
-        // unix_nla_model: the decoded value of the attribute.
+        // `unix_nla_model`: the decoded value of the attribute.
         ensures equal { IfOk result (λ copy. unix_nla_model copy ≡ unix_nla_model self.now) }
         // `needs_no_memory`: cloning does not fail if the attribute is of a type whose values need
         // no memory: any variant except `Name`, `PendingConnections` and `Other`.
@@ -139,10 +140,9 @@ impl<N: BorrowName, L: BorrowNumbers, O: OtherNla> UnixNla<N, L, O> {
     #[inline(always)]
     #[tactic(auto, using(crate::specs::laws::Number::no_numbers))]
     fn owned(&self, alloc: Global) -> Result<Nla, AllocError>
-        // unix_nla_model: the decoded value of an owned attribute. `unix_nla_value ..` and
-        // `unix_nla_attribute ..`: the decoded value of this attribute, and what it serializes as.
-        // `N.name`, `L.numbers` and `O.attribute` return a name, the numbers of a list, and a raw
-        // attribute.
+        // `unix_nla_model`: the decoded value of an owned attribute. `unix_nla_value ..`: that of
+        // this one, in which `N.name`, `L.numbers` and `O.attribute` return a name, the numbers of
+        // a list, and a raw attribute.
         ensures equal { IfOk result (λ nla.
             unix_nla_model nla ≡ unix_nla_value N.name L.numbers O.attribute self.now) }
         // `needs_no_memory`: the call does not fail for any variant except `Name`,
@@ -150,8 +150,8 @@ impl<N: BorrowName, L: BorrowNumbers, O: OtherNla> UnixNla<N, L, O> {
         ensures needs_no_memory { NeedsNoMemoryIn unix_attribute_set
             (unix_nla_value N.name L.numbers O.attribute self.now)
             → IsOk result }
-        // `empty`: the call does not fail if the serialized value is empty: for a
-        // `PendingConnections` or an `Other` without bytes.
+        // `empty`: the call does not fail if the serialized attribute (`unix_nla_attribute ..`) has
+        // an empty value: for a `PendingConnections` or an `Other` without bytes.
         ensures empty { (unix_nla_attribute N.name L.numbers O.attribute self.now).value ≡ []
             → IsOk result }
     {
@@ -172,9 +172,9 @@ impl<N: BorrowName, L: BorrowNumbers, O: OtherNla> UnixNla<N, L, O> {
     // Returns the type field and the value that the attribute serializes as.
     #[inline(always)]
     pub(super) fn type_and_value(&self) -> (u16, Value<'_>)
-        // `unix_nla_attribute ..`: the type field and the bytes that it serializes as. `N.name`,
+        // `unix_nla_attribute ..`: the type field and the value that it serializes as. `N.name`,
         // `L.numbers` and `O.attribute` return a name, the numbers of a list, and a raw attribute.
-        // value_bytes: the bytes that a `Value` serializes to.
+        // `value_bytes`: the bytes that a `Value` serializes to.
         ensures kind { result.0
             ≡ (unix_nla_attribute N.name L.numbers O.attribute self.now).type_word }
         ensures value { value_bytes result.1
@@ -211,9 +211,9 @@ impl<'a> NlaView<'a> {
     /// is not a multiple of 4, or the error of [`NameView::parse`].
     #[inline(always)]
     pub fn parse(nla: &NlaBuffer<'a>) -> Result<NlaView<'a>, DecodeError>
-        // decode_attribute set attribute: `Ok` of what the attribute decodes to by the set, or
+        // `decode_attribute set attribute`: `Ok` of what the attribute decodes to by the set, or
         // `Err` of the error of its value. `buffered_attribute nla.now`: the type field and the
-        // value of `nla`. unix_nla_view_model: the decoded value of a view.
+        // value of `nla`. `unix_nla_view_model`: the decoded value of a view.
         ensures { MatchResult result
             (λ view. decode_attribute unix_attribute_set (buffered_attribute nla.now)
             ≡ Ok (unix_nla_view_model view))
@@ -239,6 +239,9 @@ impl<'a> NlaView<'a> {
     /// attribute. No length is tested again, and a name is not searched for zeros again.
     #[inline(always)]
     pub fn new(nla: &NlaBuffer<'a>) -> NlaView<'a>
+        // `decode_attribute set attribute`: `Ok` of what the attribute decodes to by the set, or
+        // `Err`. `buffered_attribute`: the type field and the value of `nla`.
+        // `unix_nla_view_model`: the decoded value of a view.
         requires { IsOk (decode_attribute unix_attribute_set (buffered_attribute nla.now)) }
         ensures { decode_attribute unix_attribute_set (buffered_attribute nla.now)
             ≡ Ok (unix_nla_view_model result) }
@@ -264,7 +267,7 @@ impl<'a> NlaView<'a> {
     /// empty, and an attribute of another kind whose value is not empty, may need an allocation.
     #[inline(always)]
     pub fn to_owned(&self, alloc: Global) -> Result<Nla, AllocError>
-        // unix_nla_model and unix_nla_view_model: the decoded value of an owned and of a borrowed
+        // `unix_nla_model`, `unix_nla_view_model`: the decoded value of an owned and of a borrowed
         // attribute.
         ensures equal { IfOk result (λ nla. unix_nla_model nla ≡ unix_nla_view_model self.now) }
         // `needs_no_memory`: the call does not fail if the attribute is of a type whose values need

@@ -157,8 +157,9 @@ impl Flags for ExtensionFlags {
 
 /// States which bits have a name in this crate: bits 1 to 11 of a [`StateFlags`] (0xffe), and all
 /// eight bits of an [`ExtensionFlags`] (0xff). `known_bits table` are the bits of all flags in a
-/// table of names and bits. Contracts of parsers do not use these tables: in the layout of a
-/// request 0xffe is the mask of the states, and the byte of extensions has no mask.
+/// table of names and bits, such as `inet_state_flags`. Contracts of parsers do not use these
+/// tables: in the layout of a request 0xffe is the mask of the states, and the byte of extensions
+/// has no mask.
 ///
 /// Proof only: the contract states the property.
 #[tactic(auto, unfolding(bitflags::proofs::OnLiterals::bitflags_on_literals))]

@@ -159,7 +159,7 @@ impl InetResponseHeader {
     }
 }
 
-// Returns the whole milliseconds of a duration, modulo 2^32.
+// Returns the whole milliseconds of a duration, modulo 2^32 (`u32_milliseconds`).
 fn wrapped_milliseconds(time: Duration) -> u32
     ensures { result ≡ u32_milliseconds time }
 {
@@ -169,11 +169,12 @@ fn wrapped_milliseconds(time: Duration) -> u32
 /// Returns the fields `idiag_timer`, `idiag_retrans` and `idiag_expires` of `struct inet_diag_msg`,
 /// the last in whole milliseconds modulo 2^32, with 0 for each that the timer does not have.
 pub fn timer_fields(timer: &Option<Timer>) -> (u8, u8, u32)
-    // class_of, retransmits_of and expires_of: the `idiag_timer` of the timer, its number of
-    // retransmits and its time, each 0 if it has none. u32_milliseconds: whole milliseconds modulo
-    // 2^32.
+    // `class_of timer`: its `idiag_timer`, or 0 for `None`.
     ensures class { result.0 ≡ class_of timer.now }
+    // `retransmits_of timer`: its number of retransmits, or 0 if it has none.
     ensures retransmits { result.1 ≡ retransmits_of timer.now }
+    // `u32_milliseconds`: the whole milliseconds of a time, modulo 2^32. `expires_of timer`: its
+    // time, or 0 if it has none.
     ensures expires { result.2 ≡ u32_milliseconds (expires_of timer.now) }
 {
     match timer {

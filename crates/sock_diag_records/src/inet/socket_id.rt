@@ -104,8 +104,9 @@ pub type SocketIdBuffer = RecordBuffer<SocketId, SOCKET_ID_LEN>;
 // Parses the IPv4 address at the offset: four octets. Requires that the bytes contain them.
 fn ipv4_at(bytes: &[u8], offset: usize) -> Ipv4Addr
     requires { offset + 4 ≤ length bytes.now }
-    // address_fields offset version: the fields of an address of this IP version at the offset.
-    // values_of fields bytes: the numbers in those that are not ignored, here the octets.
+    // `ipv4_octets`: the octets of an address. `values_of fields bytes`: the numbers in those
+    // fields that are not ignored. `address_fields offset version`: the fields of an address at the
+    // offset.
     ensures { ipv4_octets result ≡ values_of (address_fields offset ipv4) bytes.now }
 {
     Ipv4Addr::new(
@@ -120,8 +121,9 @@ fn ipv4_at(bytes: &[u8], offset: usize) -> Ipv4Addr
 // Requires that the bytes contain them.
 fn ipv6_at(bytes: &[u8], offset: usize) -> Ipv6Addr
     requires { offset + 16 ≤ length bytes.now }
-    // address_fields offset version: the fields of an address of this IP version at the offset.
-    // values_of fields bytes: the numbers in those that are not ignored, here the segments.
+    // `ipv6_segments`: the segments of an address. `values_of fields bytes`: the numbers in those
+    // fields that are not ignored. `address_fields offset version`: the fields of an address at the
+    // offset.
     ensures { ipv6_segments result ≡ values_of (address_fields offset ipv6) bytes.now }
 {
     Ipv6Addr::from_segments(u16s_be_at(bytes, offset))
@@ -131,11 +133,13 @@ fn ipv6_at(bytes: &[u8], offset: usize) -> Ipv6Addr
 // address.
 fn write_address(address: IpAddr, buffer: &mut [u8])
     requires { length buffer.old ≡ 16 }
+    // `address_field_bytes address`: these 16 bytes.
     ensures written { buffer.new ≡ address_field_bytes address }
-    // `shaped` and `in_range` hold for each Rust address; they are stated for the laws of the
-    // record. The address has the number of octets or segments of its IP version.
+    // The address has the number of octets or segments of its IP version. This and `in_range` hold
+    // for each Rust address; they are stated for the laws of the record.
     ensures shaped { HasAddressLength address }
-    // The octets or segments fit their fields, at whatever offset the address is stored.
+    // `address_fields offset version`: the fields of an address of this IP version at any offset.
+    // `address_values`: the octets or segments, which fit these fields.
     ensures in_range { (offset : ℕ)
         → FitFields (address_fields offset (ip_version_of address)) (address_values address) }
 {

@@ -132,8 +132,8 @@ impl Flags for ShowFlags {
 
 /// States which bits have a name in this crate: bits 1 and 10 of a [`StateFlags`] (0x402), and bits
 /// 0 to 5 of a [`ShowFlags`] (0x3f). `known_bits table` are the bits of all flags in a table of
-/// names and bits. Contracts of parsers do not use these tables: the layout of a request has the
-/// same two numbers as masks.
+/// names and bits, such as `unix_state_flags`. Contracts of parsers do not use these tables: the
+/// layout of a request has the same two numbers as masks.
 ///
 /// Proof only: the contract states the property.
 #[tactic(auto, unfolding(bitflags::proofs::OnLiterals::bitflags_on_literals))]

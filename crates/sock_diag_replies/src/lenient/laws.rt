@@ -34,20 +34,20 @@ use sock_diag_records::unix::UNIX_RESPONSE_HEADER_LEN;
 use std::alloc::AllocError;
 
 /// States which items a `LenientNlas` yields until its end: for each attribute in the bytes left,
-/// in order, its value or its error; and last the framing error, if there is one. `Drains`: `given`
-/// are all items that `next` yields until it returns `None`.
+/// in order, its value or its error; and last the framing error, if there is one.
 pub fn complete_lenient_iteration<'a, V: FamilyView<'a>>()
-    // `YieldsLenientItem set model`: what one call of `next` does. `HasLenientItems set bytes
-    // items`: these are all items of the bytes. `unread_lenient_bytes walk`: the bytes that the
-    // iterator `walk` has not read yet. `lenient_item_model set model item`: the model of a yielded
-    // item.
+    // `Drains step walk given`: calling `next` on the iterator `walk` until it returns `None`
+    // yields exactly `given`. `YieldsLenientItem ..`: what one call of `next` does.
+    // `HasLenientItems set bytes items`: these are all items of the bytes. `unread_lenient_bytes
+    // walk`: the bytes that `walk` has not read yet. `lenient_item_model ..`: the model of a
+    // yielded item.
     ensures items { (walk : LenientNlas V) (given : List (Result V LenientError))
         → Drains (YieldsLenientItem V.attribute_set V.model) walk given
         → HasLenientItems V.attribute_set (unread_lenient_bytes walk)
         (map (lenient_item_model V.attribute_set V.model) given) }
 {}
 
-/// States that bytes have at most one list of lenient items (`HasLenientItems`).
+/// States that bytes have at most one list of lenient items.
 pub fn one_list_of_lenient_items<'a, V: FamilyView<'a>>()
     // `HasLenientItems set bytes items`: these are all items of the bytes, in order. Any two such
     // lists are equal.
@@ -62,16 +62,17 @@ pub fn one_list_of_lenient_items<'a, V: FamilyView<'a>>()
 /// them (`strict`). If every item that it yields is a value (`map Ok views`), the bytes decode to
 /// these values (`accepted`).
 pub fn lenient_walk_of_good_bytes<'a, V: FamilyView<'a>>()
-    // `Drains (YieldsLenientItem ..) walk given`: `given` are all items that the iterator `walk`
-    // yields until its end. `map (lenient_item_model ..) given`: the models of these items.
-    // `unread_lenient_bytes walk`: the bytes that were left to it. `decoded_in decode bytes`: what
-    // the attributes in the bytes decode to, in order. `DecodeTo decode bytes values`: the bytes
-    // have no error, and decode to these values.
+    // `HasNoAttributeError (decode_attribute set) bytes`: the bytes split into attributes, and each
+    // of them decodes by the set. `unread_lenient_bytes walk`: the bytes left to the iterator
+    // `walk`. `Drains (YieldsLenientItem ..) walk given`: `walk` yields exactly `given` until its
+    // end. `lenient_item_model ..`: the model of an item. `decoded_in decode bytes`: what the
+    // attributes in the bytes decode to, in order.
     ensures strict { (walk : LenientNlas V) (given : List (Result V LenientError))
         → HasNoAttributeError (decode_attribute V.attribute_set) (unread_lenient_bytes walk)
         → Drains (YieldsLenientItem V.attribute_set V.model) walk given
         → map (lenient_item_model V.attribute_set V.model) given
         ≡ map Ok (decoded_in (decode_attribute V.attribute_set) (unread_lenient_bytes walk)) }
+    // `DecodeTo decode bytes values`: the bytes have no error, and decode to these values.
     ensures accepted { (walk : LenientNlas V) (views : List V)
         → Drains (YieldsLenientItem V.attribute_set V.model) walk (map Ok views)
         → DecodeTo (decode_attribute V.attribute_set) (unread_lenient_bytes walk)

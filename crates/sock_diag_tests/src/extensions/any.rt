@@ -212,7 +212,9 @@ fn assert_emits_its_bytes(rt: &impl Abort, alloc: Global, row: &str) {
 /// Asserts that a reply is rejected with an error that has this text.
 fn assert_rejected(rt: &impl Abort, alloc: Global, row: &str, text: &str) {
     let bytes = decoded(rt, alloc, row);
-    let error = AnySockDiagView::parse(&bytes, 20).err().expect(rt, "accepted");
+    let error = AnySockDiagView::parse(&bytes, 20)
+        .err()
+        .expect(rt, "accepted");
     let shown = format!(in alloc; "{error}").expect(rt, "memory");
     assert!(rt; shown.as_str() == text, "{row}");
 }

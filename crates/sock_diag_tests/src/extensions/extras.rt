@@ -262,8 +262,10 @@ fn error_message(rt: &impl Abort, alloc: Global, flags: &str, bytes: &[u8]) -> S
 }
 
 // A row has a word, bytes in hexadecimal, and after `|` the expected text, which `content_text`
-// makes of the bytes by the word. Linux 6.18 sent the bytes of the rows 512, 256 and `done`, of the
-// first rows 768 and 0, of the `ulp` row about MPTCP, and of the first two rows `mptcp`.
+// makes of the bytes by the word: of `reply` and `unix` the items of a lenient reply with these
+// attributes, each with its value or its error. Linux 6.18 sent the bytes of the rows 512, 256 and
+// `done`, of the first rows 768 and 0, of the `ulp` row about MPTCP, and of the first two rows
+// `mptcp`.
 //
 // A number in place of the word is the flags of an `NLMSG_ERROR`: 256 is `NLM_F_CAPPED`, 512 is
 // `NLM_F_ACK_TLVS`, and 768 is both. The text of an acknowledgement has what `acknowledged`

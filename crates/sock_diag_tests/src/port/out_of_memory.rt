@@ -74,17 +74,17 @@ fn assert_forms_or_memory(rt: &impl Abort, report: &Report, bytes: &[u8]) {
     assert_form_or_memory(rt, &report.view_form, bytes);
 }
 
-/// Asserts that each parser returns the value of the original bytes, and each serializer the
-/// canonical form, unless an allocation fails.
+/// Asserts that each parser returns the value of `equivalent_bytes` for `bytes`, and each
+/// serializer the canonical form `form`, unless an allocation fails.
 fn assert_parses_or_memory(
     rt: &impl Abort,
     alloc: Global,
     subject: Subject,
     bytes: &[u8],
-    original: &[u8],
+    equivalent_bytes: &[u8],
     form: &[u8],
 ) {
-    let report = examine(alloc, subject, bytes, Some(original), false);
+    let report = examine(alloc, subject, bytes, Some(equivalent_bytes), false);
     assert!(rt; report.are_original_or_memory);
     assert_forms_or_memory(rt, &report, form);
 }
@@ -128,9 +128,16 @@ fn assert_row_parses_or_memory(
     let (header, attributes, canonical) = *row;
     let bytes = reply(rt, alloc, header, attributes)?;
     let form = reply(rt, alloc, header, canonical)?;
-    let original = equivalent(rt, alloc, header, canonical)?;
-    assert_parses_or_memory(rt, alloc, subject, &bytes, &original, &form);
-    assert_parses_or_memory(rt, alloc, Subject::Message, &bytes, &original, &form);
+    let equivalent_bytes = equivalent(rt, alloc, header, canonical)?;
+    assert_parses_or_memory(rt, alloc, subject, &bytes, &equivalent_bytes, &form);
+    assert_parses_or_memory(
+        rt,
+        alloc,
+        Subject::Message,
+        &bytes,
+        &equivalent_bytes,
+        &form,
+    );
     Some(())
 }
 

@@ -181,9 +181,8 @@ impl MemInfoBuffer {
     /// `None` if and only if there are fewer than 28 bytes.
     pub fn read_prefix(payload: &[u8]) -> Option<Self>
         ensures enough { IsSome result ↔ MEM_INFO_SEVEN_LEN ≤ length payload.now }
-        // The bytes in the buffer, whatever its variant, are the first seven, eight or nine `u32`
-        // of the payload (`mem_info_u32_count`), of four bytes each: as many as it contains, at
-        // most nine.
+        // `mem_info_buffer_bytes array`: the bytes in the array, whatever its variant.
+        // `mem_info_u32_count n`: the number of complete `u32` in `n` bytes: 7, 8 or 9.
         ensures bytes { IfSome result
             (λ buffer. mem_info_buffer_bytes buffer.bytes
             ≡ take (4 * mem_info_u32_count (length payload.now)) payload.now) }
@@ -228,7 +227,7 @@ impl From<&MemInfo> for MemInfoBuffer {
 impl MemInfoBytes {
     /// Returns the 28, 32 or 36 bytes as a slice.
     pub fn as_slice(&self) -> &[u8]
-        // mem_info_buffer_bytes array: the bytes in the array, whatever its variant.
+        // `mem_info_buffer_bytes array`: the bytes in the array, whatever its variant.
         ensures { result.now ≡ mem_info_buffer_bytes self.now }
     {
         match self {
@@ -256,8 +255,8 @@ fn u32_if_present(payload: &[u8], offset: usize) -> Option<u32>
 fn to_array<const N: usize>(value: &MemInfo) -> [u8; N]
     requires { length (record_bytes mem_info value.now) ≡ N }
     ensures written { result ≡ record_bytes mem_info value.now }
-    // Each number of the value fits its field. This is so for each Rust value; it is stated for
-    // proofs about the bytes.
+    // Each number of the value fits its field, as in each Rust value; stated for proofs about the
+    // bytes.
     ensures in_range { IsInRange mem_info value.now }
 {
     let mut buffer = [0; N];

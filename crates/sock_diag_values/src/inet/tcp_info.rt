@@ -306,7 +306,8 @@ impl TcpInfo {
         read_record(payload, ())
     }
 
-    // Writes the fields at offsets 0 to 91 to the buffer, which has to have exactly their 92 bytes.
+    // Writes the 92 bytes of the fields at offsets 0 to 91 (`bytes_0_to_92`) to the buffer, which
+    // has to have exactly this length.
     fn write_0_to_92(&self, buffer: &mut [u8])
         requires { length buffer.old ≡ 92 }
         ensures written { buffer.new ≡ bytes_0_to_92 self.now }
@@ -322,8 +323,8 @@ impl TcpInfo {
         write_u32s(&self.u32s_at_60(), u32s_at_60);
     }
 
-    // Writes the fields at offsets 92 to 191 to the buffer, which has to have exactly their 100
-    // bytes.
+    // Writes the 100 bytes of the fields at offsets 92 to 191 (`bytes_92_to_192`) to the buffer,
+    // which has to have exactly this length.
     fn write_92_to_192(&self, buffer: &mut [u8])
         requires { length buffer.old ≡ 100 }
         ensures written { buffer.new ≡ bytes_92_to_192 self.now }
@@ -339,8 +340,8 @@ impl TcpInfo {
         write_u64s(&self.u64s_at_160(), u64s_at_160);
     }
 
-    // Writes the fields at offsets 192 to 231 to the buffer, which has to have exactly their 40
-    // bytes.
+    // Writes the 40 bytes of the fields at offsets 192 to 231 (`bytes_192_to_232`) to the buffer,
+    // which has to have exactly this length.
     fn write_192_to_232(&self, buffer: &mut [u8])
         requires { length buffer.old ≡ 40 }
         ensures written { buffer.new ≡ bytes_192_to_232 self.now }
@@ -354,7 +355,7 @@ impl TcpInfo {
         write_u32s(&self.u32s_at_216(), u32s_at_216);
     }
 
-    // Returns the numbers in the eight `u8` from offset 0 on.
+    // Returns the eight `u8` fields from offset 0 on, as the definition of the same name does.
     fn u8s_at_0(&self) -> [u8; 8]
         ensures { result ≡ u8s_at_0 self.now }
     {
@@ -370,7 +371,7 @@ impl TcpInfo {
         ]
     }
 
-    // Returns the numbers in the nine `u32` from offset 8 on.
+    // Returns the nine `u32` fields from offset 8 on, as the definition of the same name does.
     fn u32s_at_8(&self) -> [u32; 9]
         ensures { result ≡ u32s_at_8 self.now }
     {
@@ -387,7 +388,7 @@ impl TcpInfo {
         ]
     }
 
-    // Returns the numbers in the four `u32` from offset 44 on.
+    // Returns the four `u32` fields from offset 44 on, as the definition of the same name does.
     fn u32s_at_44(&self) -> [u32; 4]
         ensures { result ≡ u32s_at_44 self.now }
     {
@@ -399,7 +400,7 @@ impl TcpInfo {
         ]
     }
 
-    // Returns the numbers in the eight `u32` from offset 60 on.
+    // Returns the eight `u32` fields from offset 60 on, as the definition of the same name does.
     fn u32s_at_60(&self) -> [u32; 8]
         ensures { result ≡ u32s_at_60 self.now }
     {
@@ -415,14 +416,14 @@ impl TcpInfo {
         ]
     }
 
-    // Returns the numbers in the three `u32` from offset 92 on.
+    // Returns the three `u32` fields from offset 92 on, as the definition of the same name does.
     fn u32s_at_92(&self) -> [u32; 3]
         ensures { result ≡ u32s_at_92 self.now }
     {
         [self.rcv_rtt, self.rcv_space, self.total_retrans]
     }
 
-    // Returns the numbers in the four `u64` from offset 104 on.
+    // Returns the four `u64` fields from offset 104 on, as the definition of the same name does.
     fn u64s_at_104(&self) -> [u64; 4]
         ensures { result ≡ u64s_at_104 self.now }
     {
@@ -434,7 +435,7 @@ impl TcpInfo {
         ]
     }
 
-    // Returns the numbers in the six `u32` from offset 136 on.
+    // Returns the six `u32` fields from offset 136 on, as the definition of the same name does.
     fn u32s_at_136(&self) -> [u32; 6]
         ensures { result ≡ u32s_at_136 self.now }
     {
@@ -448,7 +449,7 @@ impl TcpInfo {
         ]
     }
 
-    // Returns the numbers in the four `u64` from offset 160 on.
+    // Returns the four `u64` fields from offset 160 on, as the definition of the same name does.
     fn u64s_at_160(&self) -> [u64; 4]
         ensures { result ≡ u64s_at_160 self.now }
     {
@@ -460,21 +461,21 @@ impl TcpInfo {
         ]
     }
 
-    // Returns the numbers in the two `u32` from offset 192 on.
+    // Returns the two `u32` fields from offset 192 on, as the definition of the same name does.
     fn u32s_at_192(&self) -> [u32; 2]
         ensures { result ≡ u32s_at_192 self.now }
     {
         [self.delivered, self.delivered_ce]
     }
 
-    // Returns the numbers in the two `u64` from offset 200 on.
+    // Returns the two `u64` fields from offset 200 on, as the definition of the same name does.
     fn u64s_at_200(&self) -> [u64; 2]
         ensures { result ≡ u64s_at_200 self.now }
     {
         [self.bytes_sent, self.bytes_retrans]
     }
 
-    // Returns the numbers in the four `u32` from offset 216 on.
+    // Returns the four `u32` fields from offset 216 on, as the definition of the same name does.
     fn u32s_at_216(&self) -> [u32; 4]
         ensures { result ≡ u32s_at_216 self.now }
     {

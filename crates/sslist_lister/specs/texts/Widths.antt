@@ -4,9 +4,9 @@ use Rattle.std.specs.Prelude.{length, replicate}
 use Rattle.std.specs.Str.{is_utf8}
 use Rattle.unicode_width.specs.Width.{str_width}
 
--- `cell_width utf8 cell`: the number of columns of a cell. With `--utf8` (`utf8`) it is the width
--- of its characters as `unicode_width` counts it: 2 for a wide character (`false`: characters of
--- ambiguous width are narrow). Else it is the number of bytes, which are ASCII.
+-- `cell_width utf8 cell`: the number of columns of a cell: the width of its characters, as
+-- `unicode_width` counts it, if `--utf8` is set (`utf8`) and the cell is valid UTF-8; or else the
+-- number of its bytes. `false`: characters of ambiguous width are narrow.
 abbrev pub cell_width : Bool → List ℕ → ℕ
 cell_width utf8 cell =
     if utf8 && is_utf8 cell then str_width false (chars cell) else length cell

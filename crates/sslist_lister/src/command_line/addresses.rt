@@ -62,7 +62,7 @@ fn address_number(address: IpAddr) -> u128
     }
 }
 
-/// Returns the number of bits of an address, by its version.
+/// Returns the number of bits of an address: 32 for IPv4, 128 for IPv6.
 fn width(address: IpAddr) -> u32
     ensures value { result ≡ width address }
     // So a length that is at most this number fits a `u8` (`begins_with`).
@@ -89,9 +89,9 @@ pub(crate) fn address_condition(text: &[u8]) -> Option<AddressCondition>
     }
 }
 
-/// Returns the condition that an address begins with the first `length` bits of this one, by
-/// [`begins_with`]. Returns `None` if the address or the length is missing, or if the address has
-/// fewer bits.
+/// Returns the condition that another address begins with the first `length` bits of `address`, by
+/// [`begins_with`]. Returns `None` if one of them is missing (`None`), or if `address` has fewer
+/// bits.
 fn in_network(address: Option<IpAddr>, length: Option<u16>) -> Option<AddressCondition>
     ensures { result ≡ in_network address length }
 {

@@ -102,8 +102,8 @@ pub(crate) enum Argument {
     Rejected(Rejection),
 }
 
-/// Parses an argument at its place: as an option or the name of a file, as the name of a family, or
-/// as the name of a file.
+/// Parses an argument by its place: at `Any` as an option or the name of a file, at `Family` as the
+/// name of a family, at `File` as the name of a file. An invalid one is returned as `Rejected`.
 pub(crate) fn argument_at(place: Place, argument: &[u8]) -> Argument
     ensures { result ≡ argument_at place argument.now }
 {
@@ -123,7 +123,7 @@ fn is_file(argument: &[u8]) -> bool
     argument.len() < 2 || !argument.starts_with(b"-")
 }
 
-/// Parses an option.
+/// Parses an option. Any other argument is returned as `Rejected`.
 fn option_argument(argument: &[u8]) -> Argument
     ensures { result ≡ option_argument argument.now }
 {
@@ -156,7 +156,7 @@ fn equal(argument: &[u8], text: &str) -> bool
 }
 
 /// Parses an option that contains its value, such as `--sport=80`. Any other argument is parsed as
-/// letters, or as the long name of a letter.
+/// letters, such as `-tl`, or as the long name of a letter, such as `--tcp`.
 fn value_or_letters_argument(argument: &[u8]) -> Argument
     ensures { result ≡ value_or_letters_argument argument.now }
 {
@@ -180,7 +180,8 @@ fn value_or_letters_argument(argument: &[u8]) -> Argument
     }
 }
 
-/// Parses the name of a state or of a group of states. Any other text is rejected.
+/// Parses the value of `--state=`, the name of a state or of a group of states. Any other text is
+/// rejected.
 fn state_argument(name: &[u8]) -> Argument
     ensures { result ≡ state_argument name.now }
 {
@@ -190,7 +191,8 @@ fn state_argument(name: &[u8]) -> Argument
     }
 }
 
-/// Parses a condition on the port of an end. Any other text is rejected.
+/// Parses the value of `--sport=` or `--dport=`, a condition on the port of this end. Any other
+/// text is rejected.
 fn port_argument(end: End, text: &[u8]) -> Argument
     ensures { result ≡ port_argument end text.now }
 {
@@ -200,7 +202,8 @@ fn port_argument(end: End, text: &[u8]) -> Argument
     }
 }
 
-/// Parses a condition on the address of an end. Any other text is rejected.
+/// Parses the value of `--src=` or `--dst=`, a condition on the address of this end. Any other text
+/// is rejected.
 fn address_argument(end: End, text: &[u8]) -> Argument
     ensures { result ≡ address_argument end text.now }
 {
@@ -210,7 +213,8 @@ fn address_argument(end: End, text: &[u8]) -> Argument
     }
 }
 
-/// Parses letters after a hyphen, or the long name of a letter. Any other argument is rejected.
+/// Parses letters after a hyphen, such as `-tl`, or the long name of a letter, such as `--tcp`. Any
+/// other argument is rejected.
 fn letters_argument(argument: &[u8]) -> Argument
     ensures { result ≡ letters_argument argument.now }
 {
@@ -227,7 +231,7 @@ fn letters_argument(argument: &[u8]) -> Argument
     }
 }
 
-/// Parses the long name of a letter. Any other argument is rejected.
+/// Parses the long name of a letter, such as `--tcp`. Any other argument is rejected.
 fn long_argument(argument: &[u8]) -> Argument
     ensures { result ≡ long_argument argument.now }
 {
@@ -245,9 +249,10 @@ fn letter_named(name: &[u8]) -> Option<u8>
     letter_in(&LONG_NAMES, name)
 }
 
-/// Returns the letter of the first row with this name.
+/// Returns the letter of the first row with this name, or `None` if there is none.
 fn letter_in(rows: &[(&str, u8)], name: &[u8]) -> Option<u8>
-    // `row.0`: the name of a row. `row.1`: its letter.
+    // `row.1`: the letter of a row. `find`: the first row for which the test is true. `row.0`: the
+    // name of a row.
     ensures { result ≡ option_map (λ row. row.1)
         (find (λ row. bytes_eq name.now row.0.now) rows.now) }
 {
@@ -308,7 +313,7 @@ fn is_long_name_with_value(argument: &[u8]) -> bool
     }
 }
 
-/// Returns the reason why letters are rejected. `letter` is the one that [`first_rejected_letter`]
+/// Returns the reason to reject letters because of `letter`, the one that [`first_rejected_letter`]
 /// finds.
 fn letter_rejection(letter: u8) -> Rejection
     ensures { result ≡ letter_rejection letter }
@@ -415,7 +420,8 @@ impl Argument {
 }
 
 impl Options {
-    /// Sets the options of an argument, which is parsed as `parsed`.
+    /// Sets the options of an argument, if it has any. `parsed` is what [`argument_at`] returned
+    /// for it.
     pub(crate) fn add_argument(&mut self, parsed: Argument, argument: &[u8])
         ensures { self.new ≡ with_argument self.old parsed argument.now }
     {
@@ -450,7 +456,7 @@ impl Options {
         }
     }
 
-    /// Sets the options of letters.
+    /// Sets the option of each of these letters.
     fn add_letters(&mut self, letters: &[u8])
         ensures { self.new ≡ with_letters letters.now self.old }
     {
@@ -458,7 +464,7 @@ impl Options {
         self.add_sockets(letters);
     }
 
-    /// Sets the options of letters that select details or their form.
+    /// Sets the options of those letters that select details or their form.
     fn add_details(&mut self, letters: &[u8])
         ensures { self.new ≡ with_details letters.now self.old }
     {
@@ -470,7 +476,7 @@ impl Options {
         self.no_heading |= letters.contains(&b'H');
     }
 
-    /// Sets the options of letters that select sockets.
+    /// Sets the options of those letters that select sockets.
     fn add_sockets(&mut self, letters: &[u8])
         ensures { self.new ≡ with_sockets letters.now self.old }
     {
@@ -486,7 +492,7 @@ impl Options {
 }
 
 impl SocketFilter {
-    /// Sets the condition on the port of an end.
+    /// Sets the condition on the port of an end, local or remote.
     fn set_port(&mut self, end: End, condition: PortCondition)
         ensures { self.new ≡ with_end_port end condition self.old }
     {
@@ -496,7 +502,7 @@ impl SocketFilter {
         }
     }
 
-    /// Sets the condition on the address of an end.
+    /// Sets the condition on the address of an end, local or remote.
     fn set_address(&mut self, end: End, condition: AddressCondition)
         ensures { self.new ≡ with_end_address end condition self.old }
     {

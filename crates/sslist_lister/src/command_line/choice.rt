@@ -49,11 +49,10 @@ pub enum Choice<'a> {
     Captures(Options),
 }
 
-/// Returns the request of the arguments after the program's name. The first argument that requests
-/// the help text or the version, or is rejected, decides: an unknown option, letters of which one
-/// is unknown or misplaced, the name of an unknown family after `-f`, or an option whose value is
-/// missing, unexpected, unknown or invalid. If there is none, captures are listed with the options
-/// of all arguments. Names of files are not considered.
+/// Returns what the arguments after the program's name request. The first one that requests the
+/// help text or the version, or is rejected ([`Rejection`]), decides. If there is none, captures
+/// are listed with the options of all arguments; but if the last one is letters that end in `f`,
+/// the name of a family is missing. Names of files are not considered.
 pub fn choose(arguments: &[String]) -> Choice<'_>
     // `IsChoice arguments choice`: the arguments, as lists of bytes, request `choice`.
     ensures { IsChoice (map string_bytes arguments.entry.now) result }

@@ -57,8 +57,7 @@ pub fn list_captures<L: ListCapture>(arguments: &[String], lister: &mut L) -> Ex
 
 /// Returns whether the arguments name more than one capture.
 pub fn names_several(arguments: &[String]) -> bool
-    // `map string_bytes arguments`: the bytes of each argument. `captures_in`: the captures that
-    // they name.
+    // `captures_in`: the captures that the arguments, as lists of bytes (`string_bytes`), name.
     ensures { IsTrue result ↔ (1 < length (captures_in (map string_bytes arguments.now))) }
 {
     let mut has_one = false;
@@ -84,7 +83,7 @@ fn capture_named(name: &str) -> Option<&str>
     if name == "-" { None } else { Some(name) }
 }
 
-/// Returns the second status unless it is 0, or else the first.
+/// Returns `next` unless it is 0, success, or else `before`.
 fn later_failure(before: ExitCode, next: ExitCode) -> ExitCode
     ensures { exit_status result ≡ later_failure (exit_status before) (exit_status next) }
 {

@@ -55,7 +55,7 @@ pub struct PortCondition {
 }
 
 impl SocketFilter {
-    /// Returns whether a state is one of the selected states.
+    /// Returns whether a state is one of the states that `--state` selects.
     pub(crate) fn has_state(self, state: u8) -> bool
         ensures { result ≡ has_state self.states state }
     {
@@ -72,14 +72,16 @@ impl SocketFilter {
             || self.destination_address.is_some()
     }
 
-    /// Returns whether the ports of a socket meet the conditions on them.
+    /// Returns whether the local port `source` and the remote port `destination` of a socket meet
+    /// the conditions on them.
     pub fn meets_ports(self, source: u16, destination: u16) -> bool
         ensures { result ≡ meets_ports self source destination }
     {
         meets_port(self.source_port, source) && meets_port(self.destination_port, destination)
     }
 
-    /// Returns whether the addresses of a socket meet the conditions on them.
+    /// Returns whether the local address `source` and the remote address `destination` of a socket
+    /// meet the conditions on them.
     pub fn meets_addresses(self, source: IpAddr, destination: IpAddr) -> bool
         ensures { result ≡ meets_addresses self source destination }
     {
@@ -98,7 +100,7 @@ fn meets_port(condition: Option<PortCondition>, port: u16) -> bool
     }
 }
 
-/// Returns the bit of a state. All states from 31 on share bit 31.
+/// Returns the bit of a state in a set of states: `1 << state`. All states from 31 on share bit 31.
 fn state_bit(state: u8) -> u32
     ensures { result ≡ state_bit state }
 {

@@ -218,14 +218,15 @@ impl Options {
         }
     }
 
-    /// Returns whether an option that selects sockets is set.
+    /// Returns whether an option that selects sockets is set, by protocol or by family.
     fn selects_sockets(self) -> bool
         ensures { result ≡ selects_sockets self }
     {
         self.selects_inet_protocol() || self.inet || self.inet6 || self.selects_other_family()
     }
 
-    /// Returns whether the option of a protocol of IPv4 and IPv6 sockets is set.
+    /// Returns whether the option of a protocol of IPv4 and IPv6 sockets is set: `-t`, `-u` or
+    /// `-M`.
     fn selects_inet_protocol(self) -> bool
         ensures { result ≡ selects_inet_protocol self }
     {

@@ -18,7 +18,7 @@ pub(crate) fn index_of(byte: u8, text: &[u8]) -> Option<usize>
 }
 
 /// Parses a number in decimal. Zeros may precede it. Returns `None` if it exceeds 65535, if a byte
-/// is not a digit, or if there is none.
+/// is not a digit, or if there are no bytes.
 pub(crate) fn decimal_u16(digits: &[u8]) -> Option<u16>
     ensures { result ≡ decimal_u16 digits.now }
 {
@@ -32,8 +32,8 @@ pub(crate) fn decimal_u16(digits: &[u8]) -> Option<u16>
     Some(number)
 }
 
-/// Appends a digit to a number. Returns `None` if it is not a digit, or if the number exceeds
-/// 65535.
+/// Returns the number with a decimal digit appended: 123 for 12 and `b'3'`. Returns `None` if
+/// `digit` is not an ASCII digit, or if the result exceeds 65535.
 fn with_digit(number: u16, digit: u8) -> Option<u16>
     ensures { result ≡ with_digit number digit }
 {

@@ -185,7 +185,7 @@ pub(crate) fn push_digits(text: &mut Vec<u8>, byte: u8) -> Result<(), AllocError
     text.extend_from_slice(&digits)
 }
 
-/// Appends a number, such as the inode of a UNIX socket's peer, or `*` for `None`.
+/// Appends a number in decimal, such as the inode of a UNIX socket's peer, or `*` for `None`.
 pub(crate) fn push_number_or_star(text: &mut Vec<u8>, number: Option<u32>) -> Result<(), AllocError>
     ensures { OnOk result (text.new.items ≡ text.old.items ++ number_or_star number) }
 {
@@ -195,8 +195,8 @@ pub(crate) fn push_number_or_star(text: &mut Vec<u8>, number: Option<u32>) -> Re
     }
 }
 
-/// Appends a column, padded to `width` bytes as by [`push_column`], with an address and a port, as
-/// [`push_endpoint`] writes them.
+/// Appends a column, padded to `width` bytes as by [`push_column`], with an address, an interface
+/// and a port, as [`push_endpoint`] writes them.
 pub(crate) fn push_endpoint_column(
     text: &mut Vec<u8>,
     width: usize,
@@ -246,7 +246,7 @@ fn push_host(text: &mut Vec<u8>, address: IpAddr) -> Result<(), AllocError>
     }
 }
 
-/// Appends a port, or `*` for 0.
+/// Appends a port in decimal, or `*` for 0.
 fn push_port(text: &mut Vec<u8>, port: u16) -> Result<(), AllocError>
     ensures { OnOk result (text.new.items ≡ text.old.items ++ port_text port) }
 {

@@ -1,6 +1,7 @@
 //! Members of JSON objects. A function of this module appends to a writer. If it fails, an
-//! allocation failed, and the content of the writer is not specified. The clauses `prefix` state
-//! that the bytes before the first token of the writer are unchanged.
+//! allocation failed, and the content of the writer is not specified. If it succeeds, the bytes
+//! before the first token of the writer are unchanged (`KeepsPrefix`), and the last argument of
+//! `AddsTokens` or `AddsMembers`, tokens or members, was appended.
 
 ghost use Rattle.std.specs.Prelude.{◌≡◌, ◌∷◌, [], ◌++◌, OnOk, map, false, codes, decimal, flat_map};
 ghost use Rattle.std.specs.Fmt.{digits};
@@ -40,7 +41,7 @@ pub(crate) fn write_text(writer: &mut Writer, name: &str, text: &str) -> Result<
 /// Writes members whose values are numbers: a name and a number for each row.
 pub(crate) fn write_numbers(writer: &mut Writer, rows: &[(&str, u64)]) -> Result<(), AllocError>
     ensures prefix { KeepsPrefix result writer.old writer.new }
-    // `row.0`: the name of a row. `row.1`: its number.
+    // `number_members`: a member for each row, with the name `row.0` and the number `row.1`.
     ensures members { AddsMembers result writer.old writer.new
         (number_members (map (λ row. (row.0.now, row.1)) rows.now)) }
 {
@@ -50,7 +51,7 @@ pub(crate) fn write_numbers(writer: &mut Writer, rows: &[(&str, u64)]) -> Result
 /// Writes the tokens of each row: a name and a number.
 fn write_rows(writer: &mut Writer, rows: &[(&str, u64)]) -> Result<(), AllocError>
     ensures prefix { KeepsPrefix result writer.old writer.new }
-    // `row.0`: the name of a row. `row.1`: its number.
+    // For each row, the token of its name `row.0`, and that of its number `row.1` in decimal.
     ensures tokens { AddsTokens result writer.old writer.new
         (flat_map (λ row. key row.0.now ∷ number (decimal row.1) ∷ []) rows.now) }
 {

@@ -39,8 +39,9 @@ pub enum ListError {
 impl ListError {
     /// Returns the text of the error, without the number of the packet.
     pub(crate) fn text(&self) -> ErrorText
-        // `packet_number_prefix error`: `packet N: ` if the error is about a packet, or else
-        // nothing. Together with the result it is the text of the error, `list_error_text`.
+        // `packet_number_prefix`: `packet N: ` if the error is about a packet, or else nothing.
+        // With the bytes of the result after it (`error_text_bytes`), it is the text of the error
+        // (`list_error_text`).
         ensures { packet_number_prefix self.now ++ error_text_bytes result
             ≡ list_error_text self.now }
     {
@@ -51,7 +52,7 @@ impl ListError {
         }
     }
 
-    /// Returns whether the output is a pipe without a reader.
+    /// Returns whether the error is that the output is a pipe without a reader.
     pub(crate) fn is_closed_pipe(&self) -> bool
         ensures { IsTrue result ↔ (self.now ≡ ListError.Write WriteError.Closed) }
     {
@@ -112,13 +113,14 @@ pub(crate) fn read_header<R: Source>(
     alloc: Global,
     input: &mut R,
 ) -> Result<CaptureReader, ListError>
-    // `bytes`: the bytes that were read, with which a capture starts. `R.left`: the remaining
-    // bytes, if known. `Consumes left left' bytes`: these bytes were read. `state_of reader`: the
-    // state after them.
+    // `bytes`: the bytes that were read. A capture starts with them (`IsCaptureStart`), and
+    // `state_of reader` is the state of the reader after them. `Consumes left left' bytes`: they
+    // were read from the input, whose remaining bytes are `R.left`, if known.
     ensures read { IfOk result (λ reader. (bytes : List ℕ) × IsCaptureStart bytes (state_of reader)
         × Consumes (R.left input.old) (R.left input.new) bytes) }
-    // `error`: why no capture was opened. `part`: the bytes that were read. `R.failed`: a read
-    // failed with this error.
+    // `error`: why no capture was opened. `part`: the bytes that were read until then.
+    // `IsCaptureStartStop`: the reason is in these bytes, or the input ends after them, or a read
+    // failed (`R.failed`).
     ensures stopped { IfErr result (λ e. (error : CaptureError) × (e ≡ ListError.Header error)
         × (part : List ℕ)
         × Consumes (R.left input.old) (R.left input.new) part
@@ -139,17 +141,19 @@ pub(crate) fn read_packet<R: Source>(
     number: u64,
     packet: &mut Vec<u8>,
 ) -> Result<Option<PacketHeader>, ListError>
-    // `bytes`: the bytes that were read. `R.left`: the remaining bytes, if known. If no packet
-    // follows, all bytes were read (`IsAtEnd`), and `bytes` has no packet (`IsCaptureEnd`). Else
-    // `bytes` leads over one packet, with this header and with the bytes in `packet`.
+    // `bytes`: the bytes that were read from the input (`Consumes`), whose remaining bytes are
+    // `R.left`, if known. If no packet was found, they were the last ones (`IsAtEnd`), and have no
+    // packet (`IsCaptureEnd`). Else they lead the reader to its new state (`state_of`) over one
+    // packet (`ReadsPacket`), with the bytes in `packet` and this header.
     ensures read { IfOk result (λ found. (bytes : List ℕ)
         × Consumes (R.left input.old) (R.left input.new) bytes
         × MatchOption found
         (IsAtEnd (R.left input.new) × IsCaptureEnd (state_of reader.old) bytes)
         (λ header. ReadsPacket (state_of reader.old) bytes
         (captured_packet packet.new.items header) (state_of reader.new))) }
-    // `error`: why no packet was read. `part`: the bytes that were read. `R.failed`: a read failed
-    // with this error.
+    // `error`: why no packet was read. `part`: the bytes that were read until then.
+    // `IsCaptureStop`: the reason is in these bytes, or the input ends after them, or a read failed
+    // (`R.failed`).
     ensures stopped { IfErr result (λ e. (error : CaptureError)
         × (e ≡ ListError.Packet number error) × (part : List ℕ)
         × Consumes (R.left input.old) (R.left input.new) part

@@ -30,9 +30,9 @@ const HIEROGLYPH_HALF_BLANK: char = '\u{13442}';
 /// bytes are valid UTF-8, visible characters that are not ASCII are appended unchanged too.
 pub(crate) fn push_shown(text: &mut Vec<u8>, utf8: bool, bytes: &[u8]) -> Result<(), AllocError>
     ensures shown { OnOk result (text.new.items ≡ text.old.items ++ shown_name utf8 bytes.now) }
-    // The bytes can be read back from what is shown, by `unescaped_bytes`. So two different names
-    // are never shown alike. `later` is any text that follows what is shown. If it begins with a
-    // space, nothing of it is read. `0`: no byte is skipped.
+    // `later`: any text that follows. `unescaped_bytes` reads the bytes back from what is shown, so
+    // two different names are never shown alike. It reads nothing of a `later` that begins with a
+    // space. `0`: no byte is skipped.
     ensures unescapes { (later : List ℕ)
         → (unescaped_bytes 0 (shown_name utf8 bytes.now ++ later)
         ≡ bytes.now ++ unescaped_bytes 0 later) }
@@ -85,7 +85,8 @@ fn is_shown(c: char) -> bool
         && !is_blank(c)
 }
 
-/// Returns whether characters of a general category are visible.
+/// Returns whether characters of a general category are visible: letters, numbers, punctuation and
+/// symbols are.
 fn is_visible_category(category: GeneralCategory) -> bool
     ensures { result ≡ is_visible_category category }
 {

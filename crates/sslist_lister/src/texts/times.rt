@@ -18,15 +18,17 @@ const NANOSECONDS_PER_MICROSECOND: u64 = 1000;
 /// Number of digits of the fraction of a second.
 const FRACTION_DIGITS: u8 = 9;
 
-/// Appends the time in UTC, as ISO 8601 with nine digits of the fraction of a second. A fraction of
-/// a second or more, which a capture may contain, is added to the seconds.
+/// Appends the time at which the packet with this header was captured, in UTC, as ISO 8601 with
+/// nine digits of the fraction of a second. A fraction of a second or more, which a capture may
+/// contain, is added to the seconds.
 pub(crate) fn push_time(text: &mut Vec<u8>, header: &PacketHeader) -> Result<(), AllocError>
     ensures { OnOk result (text.new.items ≡ text.old.items ++ time_text header.now) }
 {
     text.extend_from_slice(utc_text(nanoseconds(header)).as_str().as_bytes())
 }
 
-/// Returns the time in nanoseconds since the start of 1970, UTC.
+/// Returns the time at which the packet with this header was captured, in nanoseconds since the
+/// start of 1970, UTC.
 fn nanoseconds(header: &PacketHeader) -> u64
     ensures { result ≡ nanoseconds header.now }
 {
@@ -39,7 +41,7 @@ fn nanoseconds(header: &PacketHeader) -> u64
 
 /// Returns the text of the time that is this number of nanoseconds after the start of 1970, UTC.
 fn utc_text(nanoseconds: u64) -> ArrayString<33>
-    // `utc_text` is written here from days and seconds. `IsUtcText`: the text is also the one that
+    // `utc_text`: the text, computed from days and seconds. `IsUtcText`: it is also the text that
     // jiff defines for this instant.
     ensures text { result.bytes ≡ utc_text nanoseconds }
     ensures iso { IsUtcText nanoseconds result.bytes }
