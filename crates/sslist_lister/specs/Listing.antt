@@ -175,21 +175,23 @@ inet_socket protocol b header = record {
   header = header;
 }
 
--- `payload_lines o list protocol kind b`: the lines of the payload `b`. `kind` is the kind of the
--- reply, or the reason why it is not one. Attributes follow a `struct unix_diag_msg` or a `struct
--- inet_diag_msg`. A payload that is not a reply has no lines, except for one about a netlink,
--- packet, vsock or XDP socket (`family_lines`).
+-- `payload_lines options list protocol kind b`: the lines of the payload `b`, in the list of the
+-- number `list`. `kind` is the kind of the reply, or the reason why it is not one. `b` begins with
+-- the header, a `struct unix_diag_msg` or a `struct inet_diag_msg`; `drop` skips it, to the
+-- attributes. `protocol` is the protocol of the request, if it is known. A payload that is not a
+-- reply has no lines, except for one about a netlink, packet, vsock or XDP socket (`family_lines`).
 abbrev pub payload_lines : Options → ℕ → Option ℕ → Result MessageKind DecodeError → List ℕ
     → List ℕ
-payload_lines o list protocol (Ok unix_response) b =
-    reply_lines (unix_output o list) Unix (parse_record unix_response_header tt b)
+payload_lines options list protocol (Ok unix_response) b =
+    reply_lines (unix_output options list) Unix (parse_record unix_response_header tt b)
     (pieces_in (drop UNIX_RESPONSE_HEADER_LEN b))
-payload_lines o list protocol (Ok inet_response) b =
-    reply_lines (λ header. inet_output o list (inet_socket protocol b header))
+payload_lines options list protocol (Ok inet_response) b =
+    reply_lines (λ header. inet_output options list (inet_socket protocol b header))
     (Inet (info_of_protocol protocol))
     (parse_record inet_response_header tt b) (pieces_in (drop INET_RESPONSE_HEADER_LEN b))
-payload_lines o list protocol (Err (UnknownFamily n)) b = family_lines o list (family_numbered n) b
-payload_lines o list protocol _ b = []
+payload_lines options list protocol (Err (UnknownFamily n)) b =
+    family_lines options list (family_numbered n) b
+payload_lines options list protocol _ b = []
 
 -- `payload_error kind b`: the decode error of the payload `b`: that of the reply, or the reason why
 -- it is not a reply. An invalid value of an attribute is not considered. A reply about a socket of

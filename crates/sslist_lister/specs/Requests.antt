@@ -53,7 +53,9 @@ requested_other None = requests.Unknown
 
 -- `requested_of_family family request`: what a request about sockets of this family asks for. A
 -- request for IPv4 or IPv6 sockets has at least a `struct inet_diag_req_v2`, one for UNIX sockets a
--- `struct unix_diag_req`, whose `udiag_states` are at 4, little-endian. A shorter one is Unknown.
+-- `struct unix_diag_req`, whose `udiag_states` are at 4, little-endian. A shorter one is Unknown,
+-- since `family_numbered` is None for these families. Requests for the other four families may have
+-- any length.
 abbrev pub requested_of_family : ℕ → MessageParts → Requested
 requested_of_family family request =
     if ((family == c.AF_INET) || (family == c.AF_INET6))

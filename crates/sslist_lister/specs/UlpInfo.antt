@@ -101,8 +101,8 @@ tls_facts bytes = both (facts_of_each (ulp_row bytes) tls_rows)
 -- ---- subflows of MPTCP connections
 
 -- `token_facts remote remote_id local local_id`: the tokens of a connection, and the ids of the
--- addresses. The table shows them if all four are present. JSON does not have them here, but by
--- `subflow_rows`.
+-- addresses. The table has ` token:REMOTE(id:ID)/LOCAL(id:ID)` if all four are present; `Closed`
+-- adds the closing parenthesis. JSON has them by `subflow_rows` instead, hence `None`.
 abbrev pub token_facts : Option ℕ → Option ℕ → Option ℕ → Option ℕ → Facts
 token_facts (Some remote) (Some remote_id) (Some local) (Some local_id) = numbers (
     (Hex, codes " token:", None, Some remote) ∷ (Closed, codes "(id:", None, Some remote_id) ∷

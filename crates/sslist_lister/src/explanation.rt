@@ -151,8 +151,8 @@ fn push_kernel_text_byte(text: &mut Vec<u8>, byte: u8) -> Result<(), AllocError>
     }
 }
 
-/// Appends the offset of the invalid attribute in the request, in bytes. Appends nothing for
-/// `None`.
+/// Appends ` (offset N)`, the offset of the invalid attribute in the request, in bytes. Appends
+/// nothing for `None`.
 fn push_offset(text: &mut Vec<u8>, offset: Option<u64>) -> Result<(), AllocError>
     ensures { OnOk result (text.new.items ≡ text.old.items ++ offset_text offset) }
 {

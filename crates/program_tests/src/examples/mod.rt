@@ -198,7 +198,7 @@ fn values_are_made_and_copied(rt: HostRuntime) {
 const COUNTS: [usize; 7] = [512, 1_000, 1_024, 2_048, 4_096, 8_192, 10_000];
 
 /// Asserts that `count` equal messages are answered and listed, and that `count` equal attributes
-/// are parsed and stored.
+/// are parsed and stored: an `IFLA_IFNAME` with `eth0`, and a `UNIX_DIAG_NAME` with `/run`.
 fn assert_many_fit(rt: &impl Abort, alloc: Global, count: usize) {
     assert_answered(rt, alloc, count);
     let dump = MESSAGE.repeat(alloc, count).expect(rt, "memory");

@@ -188,8 +188,8 @@ fn number_text(rt: &impl Abort, alloc: Global, number: Option<u64>) -> String {
     text.expect(rt, "memory")
 }
 
-/// Returns the map id and the value of each storage of BPF programs in the value of an attribute as
-/// text.
+/// Returns as text the map id and the value of each storage of BPF programs in `value`, the value
+/// of an attribute `INET_DIAG_SK_BPF_STORAGES`.
 fn storages(rt: &impl Abort, alloc: Global, value: &[u8]) -> String {
     let mut text = String::new(alloc);
     for item in NlasIterator::new(value) {

@@ -250,7 +250,7 @@ fn numbers_and_texts(rt: HostRuntime) {
 }
 
 // Asserts what a buffer of 0xff bytes contains after a call that writes to its start: `value` after
-// `emit_value`, and `bytes` after `emit_nla`. Both are longer than what the call writes.
+// `emit_value`, and `bytes` after `emit_nla`. Both are at least as long as what the call writes.
 fn assert_left_in_buffers<T: Nla>(
     rt: &impl Abort,
     alloc: Global,

@@ -128,9 +128,10 @@ fn owned_form<T: Parsers>(
     }
 }
 
-/// Calls all parsers and serializers with the bytes, and returns what they return. The report says
-/// whether the value is the one of `original`, or of `bytes` if there is no `original`. It has the
-/// `Debug` output if `with_text` is true.
+/// Calls all parsers and serializers with `bytes`, and returns what they return. `original` are the
+/// bytes whose value is compared with that of `bytes`, such as these bytes before a test changed
+/// one of them, or equivalent ones; by default `bytes` themselves. The report has the `Debug`
+/// output if `with_text` is true.
 pub(crate) fn examine(
     alloc: Global,
     subject: Subject,

@@ -77,6 +77,7 @@ fn report_subject<E: Sink>(errors: &mut E, is_open: &mut bool, failure: &ListErr
 
 /// Writes the number of a packet as the prefix of an error, `packet N: `, by [`report`].
 fn report_packet<E: Sink>(errors: &mut E, is_open: &mut bool, number: u64)
+    // `Reports`: the last line is the text that was reported.
     ensures { Reports (error_output (E.held errors.old) (E.failed errors.old) is_open.old)
         (error_output (E.held errors.new) (E.failed errors.new) is_open.new)
         (codes "packet " ++ decimal number ++ codes ": ") }
