@@ -288,7 +288,7 @@ fn numbers_are_shown_and_kept(rt: HostRuntime) {
     let NlaView::PendingConnections(numbers) = NlaView::parse(&nla).expect(&rt, "refused") else {
         panic!(&rt; "no numbers");
     };
-    let text = "NumbersIterator { rest: NumbersView { bytes: [5, 0, 0, 0, 6, 0, 0, 0] } }";
+    let text = "NumbersIterator { remaining: NumbersView { bytes: [5, 0, 0, 0, 6, 0, 0, 0] } }";
     assert_debug(&rt, alloc, &numbers.iter(), text);
     let items = [numbers.get(0), numbers.get(1), numbers.get(2)];
     assert_debug(
