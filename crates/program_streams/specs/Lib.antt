@@ -3,3 +3,4 @@ pub mod Lines
 pub mod LineRun
 pub mod ErrorText
 pub mod private
+pub mod laws
