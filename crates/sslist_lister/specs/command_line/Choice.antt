@@ -1,8 +1,9 @@
 -- The request of a command line. Arguments are lists of bytes.
-use Rattle.std.specs.Prelude.{◌≡◌, ◌≢◌, ℕ, ◌-◌, ◌||◌, ◌==◌, if◌then◌else◌, not, Bool, true, false}
+use Rattle.std.specs.Prelude.{◌≡◌, ◌≢◌, ℕ, ◌+◌, ◌-◌, ◌||◌, ◌==◌, if◌then◌else◌, not, Bool, true, false}
 use Rattle.std.specs.Prelude.{List, [], ◌∷◌, Option, Some, None, bytes_eq, codes, drop, find, fold}
 use Rattle.std.specs.Prelude.{is_some, length, nat_eq, nat_lt, option_map, slice_index, take}
-use Rattle.std.specs.Prelude.{bit_or}
+use Rattle.std.specs.Prelude.{bit_or, unwrap_or}
+use Rattle.std.specs.Borrow.{Bor}
 use Rattle.std.specs.List.{ends_with, list_any, starts_with}
 use Rattle.std.specs.Option.{option_map_or}
 use Rattle.sslist_lister.specs.declared.command_line.addresses.AddressCondition.{AddressCondition}
@@ -10,6 +11,8 @@ use Rattle.sslist_lister.specs.declared.command_line.arguments.Argument.{Argumen
 use Rattle.sslist_lister.specs.declared.command_line.arguments.Argument.TheVariants as parsed_as
 use Rattle.sslist_lister.specs.declared.command_line.arguments.End.{End}
 use Rattle.sslist_lister.specs.declared.command_line.arguments.End.TheVariants.{Local, Remote}
+use Rattle.sslist_lister.specs.declared.command_line.arguments.Valued.{Valued}
+use Rattle.sslist_lister.specs.declared.command_line.arguments.Valued.TheVariants as valued
 use Rattle.sslist_lister.specs.declared.command_line.arguments.Place.{Place}
 use Rattle.sslist_lister.specs.declared.command_line.arguments.Place.TheVariants as places
 use Rattle.sslist_lister.specs.declared.command_line.choice.Choice.{Choice}
@@ -20,9 +23,9 @@ use Rattle.sslist_lister.specs.declared.command_line.filter.PortCondition.{PortC
 use Rattle.sslist_lister.specs.declared.command_line.filter.SocketFilter.{SocketFilter}
 use Rattle.sslist_lister.specs.declared.command_line.options.AnyFamily.{AnyFamily}
 use Rattle.sslist_lister.specs.declared.command_line.options.AnyFamily.TheVariants.{Inet, Inet6}
-use Rattle.sslist_lister.specs.declared.command_line.options.AnyFamily.TheVariants.{Unix, Other}
-use Rattle.sslist_lister.specs.declared.command_line.options.Family.TheVariants.{Netlink, Packet}
-use Rattle.sslist_lister.specs.declared.command_line.options.Family.TheVariants.{Vsock, Xdp}
+use Rattle.sslist_lister.specs.declared.command_line.options.AnyFamily.TheVariants.{Netlink, Packet}
+use Rattle.sslist_lister.specs.declared.command_line.options.AnyFamily.TheVariants.{Unix, Vsock}
+use Rattle.sslist_lister.specs.declared.command_line.options.AnyFamily.TheVariants.{Xdp}
 use Rattle.sslist_lister.specs.declared.command_line.options.Options.{Options}
 use Rattle.sslist_lister.specs.command_line.Addresses.{address_condition}
 use Rattle.sslist_lister.specs.command_line.Filter.{port_condition, states_named}
@@ -105,15 +108,36 @@ with_sockets letters options = record options {
 abbrev pub with_letters : List ℕ → Options → Options
 with_letters letters options = with_sockets letters (with_details letters options)
 
--- ---- long names of letters
+-- ---- options by their names
 
--- `long_name name letter`: the long name `name` (`.0`) of the letter in the text `letter` (`.1`)
-abbrev pub long_name : List ℕ → List ℕ → List ℕ × ℕ
-long_name name letter = (name, letter_of letter)
+-- `value_of rows name`: the value (`.1`) of the first row with this name (`.0`); None if there is
+-- none
+abbrev pub value_of : {Value : Type 0} → List (List ℕ × Value) → List ℕ → Option Value
+value_of [] name = None
+value_of (row ∷ later) name = if bytes_eq name row.0 then Some row.1 else value_of later name
 
--- the long names of letters, as in ss(8): each name (`.0`) and its letter (`.1`)
-abbrev pub long_names : List (List ℕ × ℕ)
-long_names =
+-- the model of a row in the program, whose name is borrowed
+abbrev pub named_row : {Value : Type 0} → Bor (List ℕ) × Value → List ℕ × Value
+named_row row = (row.0.now, row.1)
+
+-- `long_name name letter`: the long name `name` (`.0`), which is parsed as the letter in the text
+-- `letter` (`.1`)
+abbrev pub long_name : List ℕ → List ℕ → List ℕ × Argument
+long_name name letter = (name, parsed_as.Letter (letter_of letter))
+
+-- The options without a value, except for letters, and what they are parsed as. The long names of
+-- letters are those of ss(8).
+abbrev pub flags : List (List ℕ × Argument)
+flags =
+    (codes "-h", parsed_as.Help) ∷
+    (codes "--help", parsed_as.Help) ∷
+    (codes "-V", parsed_as.Version) ∷
+    (codes "--version", parsed_as.Version) ∷
+    (codes "--utf8", parsed_as.Utf8) ∷
+    (codes "--requests", parsed_as.Requests) ∷
+    (codes "--json", parsed_as.Json) ∷
+    (codes "--vsock", parsed_as.Sockets Vsock) ∷
+    (codes "--xdp", parsed_as.Sockets Xdp) ∷
     long_name (codes "--numeric") (codes "n") ∷
     long_name (codes "--all") (codes "a") ∷
     long_name (codes "--listening") (codes "l") ∷
@@ -131,33 +155,51 @@ long_names =
     long_name (codes "--no-header") (codes "H") ∷
     long_name (codes "--oneline") (codes "O") ∷ []
 
--- the letter with this long name; None if there is none
-unfoldable pub letter_named : List ℕ → Option ℕ
-letter_named name = option_map (λ row. row.1) (find (λ row. bytes_eq name row.0) long_names)
+-- what an option without a value is parsed as, except for letters; None for any other argument
+unfoldable pub flag_argument : List ℕ → Option Argument
+flag_argument argument = value_of flags argument
+
+-- the options with a value, and what they are about
+abbrev pub valued_options : List (List ℕ × Valued)
+valued_options =
+    (codes "--family", valued.Family) ∷
+    (codes "--state", valued.State) ∷
+    (codes "--sport", valued.Port Local) ∷
+    (codes "--dport", valued.Port Remote) ∷
+    (codes "--src", valued.Address Local) ∷
+    (codes "--dst", valued.Address Remote) ∷ []
+
+-- what the option with this name is about, which needs a value; None if there is no such option
+unfoldable pub valued_option : List ℕ → Option Valued
+valued_option name = value_of valued_options name
 
 -- ---- families
 
--- The family of this name, as the option -f of ss(8) has it. `packet` is another name of `link`.
-abbrev pub family_named : List ℕ → Option AnyFamily
-family_named name =
-    if bytes_eq name (codes "inet") then Some Inet
-    else if bytes_eq name (codes "inet6") then Some Inet6
-    else if bytes_eq name (codes "unix") then Some Unix
-    else if bytes_eq name (codes "netlink") then Some (Other Netlink)
-    else if bytes_eq name (codes "link") || bytes_eq name (codes "packet") then Some (Other Packet)
-    else if bytes_eq name (codes "vsock") then Some (Other Vsock)
-    else if bytes_eq name (codes "xdp") then Some (Other Xdp)
-    else None
+-- the families by their names, as the option -f of ss(8) has them
+abbrev pub families : List (List ℕ × AnyFamily)
+families =
+    (codes "inet", Inet) ∷
+    (codes "inet6", Inet6) ∷
+    (codes "unix", Unix) ∷
+    (codes "netlink", Netlink) ∷
+    (codes "link", Packet) ∷
+    (codes "packet", Packet) ∷
+    (codes "vsock", Vsock) ∷
+    (codes "xdp", Xdp) ∷ []
+
+-- the family of this name; None if there is none
+unfoldable pub family_named : List ℕ → Option AnyFamily
+family_named name = value_of families name
 
 -- `with_family family options`: `options`, and the option that selects sockets of the family
 abbrev pub with_family : AnyFamily → Options → Options
 with_family Inet options = record options { inet = true }
 with_family Inet6 options = record options { inet6 = true }
 with_family Unix options = record options { unix = true }
-with_family (Other Netlink) options = record options { netlink = true }
-with_family (Other Packet) options = record options { packet = true }
-with_family (Other Vsock) options = record options { vsock = true }
-with_family (Other Xdp) options = record options { xdp = true }
+with_family Netlink options = record options { netlink = true }
+with_family Packet options = record options { packet = true }
+with_family Vsock options = record options { vsock = true }
+with_family Xdp options = record options { xdp = true }
 
 -- ---- arguments
 
@@ -201,93 +243,46 @@ letter_rejection letter =
     if contains_letter letter (codes "fhV") then rejections.MisplacedLetter letter
     else rejections.UnknownLetter letter
 
--- the argument is an option that needs a value, without one
-abbrev pub misses_value : List ℕ → Bool
-misses_value argument =
-    bytes_eq argument (codes "--family") || bytes_eq argument (codes "--state")
-    || bytes_eq argument (codes "--sport") || bytes_eq argument (codes "--dport")
-    || bytes_eq argument (codes "--src") || bytes_eq argument (codes "--dst")
-
--- the argument is the long name of a letter, with an equals sign (61) and a value; `false` if there
--- is no equals sign
-abbrev pub is_long_name_with_value : List ℕ → Bool
-is_long_name_with_value argument =
-    option_map_or (λ index. is_some (letter_named (take index argument))) (index_of 61 argument)
-    false
-
--- the argument is an option that takes no value, with an equals sign and a value
-abbrev pub has_unexpected_value : List ℕ → Bool
-has_unexpected_value argument =
-    starts_with nat_eq argument (codes "--help=")
-    || starts_with nat_eq argument (codes "--version=")
-    || starts_with nat_eq argument (codes "--utf8=")
-    || starts_with nat_eq argument (codes "--requests=")
-    || starts_with nat_eq argument (codes "--json=")
-    || starts_with nat_eq argument (codes "--vsock=")
-    || starts_with nat_eq argument (codes "--xdp=")
-    || is_long_name_with_value argument
-
--- the reason why an argument is rejected that begins with two hyphens and is not an option
-abbrev pub long_rejection : List ℕ → Rejection
-long_rejection argument =
-    if misses_value argument then rejections.MissingValue
-    else if has_unexpected_value argument then rejections.UnexpectedValue
-    else rejections.UnknownOption
-
--- what the long name of a letter is parsed as; any other argument is rejected
-abbrev pub long_argument : List ℕ → Argument
-long_argument argument =
-    option_map_or parsed_as.Letter (letter_named argument)
-    (parsed_as.Rejected (long_rejection argument))
-
--- What an argument of letters after a hyphen is parsed as. It is rejected if one of its letters is
--- (`first_rejected_letter`). Else it is `Letters`, with whether it ends in f. An argument that
--- begins with two hyphens is the long name of a letter, or rejected. The empty argument is rejected
--- too; it is never parsed here, because it is the name of a file.
+-- What letters after a hyphen are parsed as: they are rejected if one of them is
+-- (`first_rejected_letter`). Else they are `Letters`, with whether they end in f. The empty argument
+-- is rejected too; it is never parsed here, because it is the name of a file.
 abbrev pub letters_argument : List ℕ → Argument
 letters_argument argument =
-    if (length argument == 0) || starts_with nat_eq argument (codes "--")
-    then long_argument argument
+    if length argument == 0 then parsed_as.Rejected rejections.UnknownOption
     else option_map_or (λ letter. parsed_as.Rejected (letter_rejection letter))
     (first_rejected_letter (drop 1 argument)) (parsed_as.Letters (ends_in_f argument))
 
--- `value_after option argument`: what follows the option, such as `--sport=`, in the argument,
--- which begins with it
-abbrev pub value_after : List ℕ → List ℕ → List ℕ
-value_after option argument = drop (length option) argument
+-- `valued_argument option value`: what the value of an option is parsed as
+abbrev pub valued_argument : Valued → List ℕ → Argument
+valued_argument valued.Family value = family_argument rejections.UnknownFamilyValue value
+valued_argument valued.State value = state_argument value
+valued_argument (valued.Port end) value = port_argument end value
+valued_argument (valued.Address end) value = address_argument end value
 
--- what an option that contains its value is parsed as, such as `--sport=80`; any other argument is
--- parsed as letters, or as the long name of a letter
-abbrev pub value_or_letters_argument : List ℕ → Argument
-value_or_letters_argument argument =
-    if starts_with nat_eq argument (codes "--family=")
-    then family_argument rejections.UnknownFamilyValue (value_after (codes "--family=") argument)
-    else if starts_with nat_eq argument (codes "--state=")
-    then state_argument (value_after (codes "--state=") argument)
-    else if starts_with nat_eq argument (codes "--sport=")
-    then port_argument Local (value_after (codes "--sport=") argument)
-    else if starts_with nat_eq argument (codes "--dport=")
-    then port_argument Remote (value_after (codes "--dport=") argument)
-    else if starts_with nat_eq argument (codes "--src=")
-    then address_argument Local (value_after (codes "--src=") argument)
-    else if starts_with nat_eq argument (codes "--dst=")
-    then address_argument Remote (value_after (codes "--dst=") argument)
-    else letters_argument argument
+-- `named_value name value`: what the name of an option and its value are parsed as: rejected if
+-- there is no such option, or if it takes no value
+abbrev pub named_value : List ℕ → List ℕ → Argument
+named_value name value =
+    option_map_or (λ option. valued_argument option value) (valued_option name)
+    (parsed_as.Rejected (if is_some (flag_argument name) then rejections.UnexpectedValue
+    else rejections.UnknownOption))
+
+-- what an argument is parsed as that begins with two hyphens and is not an option without a value:
+-- the name of an option, an equals sign (61) and its value; any other one is rejected
+abbrev pub long_argument : List ℕ → Argument
+long_argument argument =
+    option_map_or (λ index. named_value (take index argument) (drop (index + 1) argument))
+    (index_of 61 argument)
+    (parsed_as.Rejected (if is_some (valued_option argument) then rejections.MissingValue
+    else rejections.UnknownOption))
 
 -- what an option is parsed as
 abbrev pub option_argument : List ℕ → Argument
 option_argument argument =
     if bytes_eq argument (codes "--") then parsed_as.EndOfOptions
-    else if bytes_eq argument (codes "--help") || bytes_eq argument (codes "-h")
-    then parsed_as.Help
-    else if bytes_eq argument (codes "--version") || bytes_eq argument (codes "-V")
-    then parsed_as.Version
-    else if bytes_eq argument (codes "--utf8") then parsed_as.Utf8
-    else if bytes_eq argument (codes "--requests") then parsed_as.Requests
-    else if bytes_eq argument (codes "--json") then parsed_as.Json
-    else if bytes_eq argument (codes "--vsock") then parsed_as.Sockets (Other Vsock)
-    else if bytes_eq argument (codes "--xdp") then parsed_as.Sockets (Other Xdp)
-    else value_or_letters_argument argument
+    else unwrap_or (flag_argument argument)
+    (if starts_with nat_eq argument (codes "--") then long_argument argument
+    else letters_argument argument)
 
 -- `argument_at place argument`: what an argument is parsed as at its place: as an option or a file,
 -- as the name of a family, or as a file.

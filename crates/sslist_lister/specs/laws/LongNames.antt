@@ -1,8 +1,10 @@
 -- A long name means what its letter means alone.
-use Rattle.std.proofs.Common.{◌≡◌, ℕ, List, [], ◌∷◌, None, rules}
+use Rattle.std.proofs.Common.{◌≡◌, ⊤, ℕ, List, [], ◌∷◌, None, rules}
 use Rattle.std.specs.List.{AllByRecursion}
 use Rattle.sslist_lister.specs.command_line.Choice.{first_deciding_argument, last_place}
-use Rattle.sslist_lister.specs.command_line.Choice.{letter_named, long_names, options_after}
+use Rattle.sslist_lister.specs.command_line.Choice.{flag_argument, flags, options_after}
+use Rattle.sslist_lister.specs.declared.command_line.arguments.Argument.{Argument}
+use Rattle.sslist_lister.specs.declared.command_line.arguments.Argument.TheVariants.{Letter}
 use Rattle.sslist_lister.specs.declared.command_line.arguments.Place.TheVariants.{Any}
 use Rattle.sslist_lister.specs.declared.command_line.options.Options.{Options}
 
@@ -20,8 +22,13 @@ HaveSameEffect argument other =
     × ((options : Options)
     → options_after options Any (argument ∷ []) ≡ options_after options Any (other ∷ []))
 
--- The name of each row has the effect of a hyphen and the letter of the row.
-pub long_name_means_letter :
-    AllByRecursion (λ row. HaveSameEffect row.0 (letter_argument row.1)) long_names
-unfolding letter_named
+-- `MeansItsLetter name parsed`: if the option with this name is parsed as a letter, it has the
+-- effect of a hyphen and this letter
+abbrev pub MeansItsLetter : List ℕ → Argument → Type 0
+MeansItsLetter name (Letter letter) = HaveSameEffect name (letter_argument letter)
+MeansItsLetter name parsed = ⊤
+
+-- Each long name of a letter has the effect of a hyphen and the letter.
+pub long_name_means_letter : AllByRecursion (λ row. MeansItsLetter row.0 row.1) flags
+unfolding flag_argument
 long_name_means_letter = search rules

@@ -1,49 +1,81 @@
 //! Arguments of the command line of a program that lists captures.
 
-ghost use Rattle.std.specs.Prelude.{◌≡◌, bytes_eq, find, option_map};
+ghost use Rattle.std.specs.Prelude.{◌≡◌, map};
+ghost use Rattle.sslist_lister.specs.command_line.Choice.{named_row, value_of};
 ghost use Rattle.sslist_lister.specs.command_line.Choice.{address_argument, argument_at, ends_in_f};
 ghost use Rattle.sslist_lister.specs.command_line.Choice.{family_argument, family_named};
 ghost use Rattle.sslist_lister.specs.command_line.Choice.{first_rejected_letter};
-ghost use Rattle.sslist_lister.specs.command_line.Choice.{first_unknown_letter};
-ghost use Rattle.sslist_lister.specs.command_line.Choice.{has_unexpected_value, is_file};
-ghost use Rattle.sslist_lister.specs.command_line.Choice.{is_long_name_with_value, letter_named};
-ghost use Rattle.sslist_lister.specs.command_line.Choice.{letter_rejection, letters_argument};
-ghost use Rattle.sslist_lister.specs.command_line.Choice.{listening_after, long_argument};
-ghost use Rattle.sslist_lister.specs.command_line.Choice.{long_rejection, misses_value, names_file};
+ghost use Rattle.sslist_lister.specs.command_line.Choice.{first_unknown_letter, flag_argument};
+ghost use Rattle.sslist_lister.specs.command_line.Choice.{is_file, letter_rejection};
+ghost use Rattle.sslist_lister.specs.command_line.Choice.{letters_argument, listening_after};
+ghost use Rattle.sslist_lister.specs.command_line.Choice.{long_argument, named_value, names_file};
 ghost use Rattle.sslist_lister.specs.command_line.Choice.{next_place, option_argument};
 ghost use Rattle.sslist_lister.specs.command_line.Choice.{port_argument, state_argument};
-ghost use Rattle.sslist_lister.specs.command_line.Choice.{value_or_letters_argument, with_argument};
-ghost use Rattle.sslist_lister.specs.command_line.Choice.{with_details, with_end_address};
-ghost use Rattle.sslist_lister.specs.command_line.Choice.{with_end_port, with_family, with_letters};
-ghost use Rattle.sslist_lister.specs.command_line.Choice.{with_sockets, without_last_f};
+ghost use Rattle.sslist_lister.specs.command_line.Choice.{valued_argument, valued_option};
+ghost use Rattle.sslist_lister.specs.command_line.Choice.{with_argument, with_details};
+ghost use Rattle.sslist_lister.specs.command_line.Choice.{with_end_address, with_end_port};
+ghost use Rattle.sslist_lister.specs.command_line.Choice.{with_family, with_letters, with_sockets};
+ghost use Rattle.sslist_lister.specs.command_line.Choice.{without_last_f};
 
 use crate::command_line::addresses::{AddressCondition, address_condition};
 use crate::command_line::choice::Rejection;
 use crate::command_line::filter::{PortCondition, SocketFilter, port_condition, states_named};
-use crate::command_line::options::{AnyFamily, Family, Options};
+use crate::command_line::options::{AnyFamily, Options};
 use crate::command_line::text::index_of;
 
 /// Letters that are options. The letter `f`, which needs the name of a family, is not in this list.
 const LETTERS: &[u8] = b"tuxM046oemiOHlna";
 
-/// The long names of letters, as in ss(8): each name and its letter.
-const LONG_NAMES: [(&str, u8); 16] = [
-    ("--numeric", b'n'),
-    ("--all", b'a'),
-    ("--listening", b'l'),
-    ("--options", b'o'),
-    ("--extended", b'e'),
-    ("--memory", b'm'),
-    ("--info", b'i'),
-    ("--ipv4", b'4'),
-    ("--ipv6", b'6'),
-    ("--packet", b'0'),
-    ("--tcp", b't'),
-    ("--udp", b'u'),
-    ("--unix", b'x'),
-    ("--mptcp", b'M'),
-    ("--no-header", b'H'),
-    ("--oneline", b'O'),
+/// The options without a value, except for letters, and what they are parsed as. The long names of
+/// letters are those of ss(8).
+const FLAGS: [(&str, Argument); 25] = [
+    ("-h", Argument::Help),
+    ("--help", Argument::Help),
+    ("-V", Argument::Version),
+    ("--version", Argument::Version),
+    ("--utf8", Argument::Utf8),
+    ("--requests", Argument::Requests),
+    ("--json", Argument::Json),
+    ("--vsock", Argument::Sockets(AnyFamily::Vsock)),
+    ("--xdp", Argument::Sockets(AnyFamily::Xdp)),
+    ("--numeric", Argument::Letter(b'n')),
+    ("--all", Argument::Letter(b'a')),
+    ("--listening", Argument::Letter(b'l')),
+    ("--options", Argument::Letter(b'o')),
+    ("--extended", Argument::Letter(b'e')),
+    ("--memory", Argument::Letter(b'm')),
+    ("--info", Argument::Letter(b'i')),
+    ("--ipv4", Argument::Letter(b'4')),
+    ("--ipv6", Argument::Letter(b'6')),
+    ("--packet", Argument::Letter(b'0')),
+    ("--tcp", Argument::Letter(b't')),
+    ("--udp", Argument::Letter(b'u')),
+    ("--unix", Argument::Letter(b'x')),
+    ("--mptcp", Argument::Letter(b'M')),
+    ("--no-header", Argument::Letter(b'H')),
+    ("--oneline", Argument::Letter(b'O')),
+];
+
+/// The options with a value, such as `--sport=80`.
+const VALUED: [(&str, Valued); 6] = [
+    ("--family", Valued::Family),
+    ("--state", Valued::State),
+    ("--sport", Valued::Port(End::Local)),
+    ("--dport", Valued::Port(End::Remote)),
+    ("--src", Valued::Address(End::Local)),
+    ("--dst", Valued::Address(End::Remote)),
+];
+
+/// The families by their names, as the option `-f` of ss(8) has them.
+const FAMILIES: [(&str, AnyFamily); 8] = [
+    ("inet", AnyFamily::Inet),
+    ("inet6", AnyFamily::Inet6),
+    ("unix", AnyFamily::Unix),
+    ("netlink", AnyFamily::Netlink),
+    ("link", AnyFamily::Packet),
+    ("packet", AnyFamily::Packet),
+    ("vsock", AnyFamily::Vsock),
+    ("xdp", AnyFamily::Xdp),
 ];
 
 /// What an argument can be, by the arguments before it.
@@ -64,6 +96,19 @@ pub(crate) enum End {
     Local,
     /// The remote end.
     Remote,
+}
+
+/// What an option with a value is about.
+#[derive(Clone, Copy)]
+enum Valued {
+    /// A family, by its name.
+    Family,
+    /// A state or a group of states, by its name.
+    State,
+    /// The port of an end.
+    Port(End),
+    /// The address of an end.
+    Address(End),
 }
 
 /// An argument of the command line.
@@ -127,56 +172,79 @@ fn is_file(argument: &[u8]) -> bool
 fn option_argument(argument: &[u8]) -> Argument
     ensures { result ≡ option_argument argument.now }
 {
-    if equal(argument, "--") {
-        Argument::EndOfOptions
-    } else if equal(argument, "--help") || equal(argument, "-h") {
-        Argument::Help
-    } else if equal(argument, "--version") || equal(argument, "-V") {
-        Argument::Version
-    } else if equal(argument, "--utf8") {
-        Argument::Utf8
-    } else if equal(argument, "--requests") {
-        Argument::Requests
-    } else if equal(argument, "--json") {
-        Argument::Json
-    } else if equal(argument, "--vsock") {
-        Argument::Sockets(AnyFamily::Other(Family::Vsock))
-    } else if equal(argument, "--xdp") {
-        Argument::Sockets(AnyFamily::Other(Family::Xdp))
-    } else {
-        value_or_letters_argument(argument)
+    if argument == "--".as_bytes() {
+        return Argument::EndOfOptions;
+    }
+    match flag_argument(argument) {
+        Some(parsed) => parsed,
+        None if argument.starts_with(b"--") => long_argument(argument),
+        None => letters_argument(argument),
     }
 }
 
-/// Returns whether an argument is equal to a text.
-fn equal(argument: &[u8], text: &str) -> bool
-    ensures { result ≡ bytes_eq argument.now text.now }
+/// Parses an option without a value, except for letters. Returns `None` for any other argument.
+#[tactic(auto, unfolding(crate::specs::command_line::Choice::flag_argument))]
+fn flag_argument(argument: &[u8]) -> Option<Argument>
+    ensures { result ≡ flag_argument argument.now }
 {
-    argument == text.as_bytes()
+    value_of(&FLAGS, argument)
 }
 
-/// Parses an option that contains its value, such as `--sport=80`. Any other argument is parsed as
-/// letters, such as `-tl`, or as the long name of a letter, such as `--tcp`.
-fn value_or_letters_argument(argument: &[u8]) -> Argument
-    ensures { result ≡ value_or_letters_argument argument.now }
+/// Returns the value in the first row with this name, or `None` if there is none.
+fn value_of<T: Copy>(rows: &[(&str, T)], name: &[u8]) -> Option<T>
+    // `named_row`: a row, with its name as a list of bytes.
+    ensures { result ≡ value_of (map named_row rows.now) name.now }
 {
-    if argument.starts_with(b"--family=") {
-        family_argument(
-            Rejection::UnknownFamilyValue,
-            &argument["--family=".len()..],
-        )
-    } else if argument.starts_with(b"--state=") {
-        state_argument(&argument["--state=".len()..])
-    } else if argument.starts_with(b"--sport=") {
-        port_argument(End::Local, &argument["--sport=".len()..])
-    } else if argument.starts_with(b"--dport=") {
-        port_argument(End::Remote, &argument["--dport=".len()..])
-    } else if argument.starts_with(b"--src=") {
-        address_argument(End::Local, &argument["--src=".len()..])
-    } else if argument.starts_with(b"--dst=") {
-        address_argument(End::Remote, &argument["--dst=".len()..])
-    } else {
-        letters_argument(argument)
+    for &(other, value) in rows {
+        if name == other.as_bytes() {
+            return Some(value);
+        }
+    }
+    None
+}
+
+/// Parses an argument that begins with two hyphens and is not an option without a value: an option
+/// with an equals sign and a value. Any other one is rejected.
+fn long_argument(argument: &[u8]) -> Argument
+    ensures { result ≡ long_argument argument.now }
+{
+    match index_of(b'=', argument) {
+        Some(index) => named_value(&argument[..index], &argument[index + 1..]),
+        None if valued_option(argument).is_some() => Argument::Rejected(Rejection::MissingValue),
+        None => Argument::Rejected(Rejection::UnknownOption),
+    }
+}
+
+/// Returns what the option with this name is about, which needs a value, or `None` if there is no
+/// such option.
+#[tactic(auto, unfolding(crate::specs::command_line::Choice::valued_option))]
+fn valued_option(name: &[u8]) -> Option<Valued>
+    ensures { result ≡ valued_option name.now }
+{
+    value_of(&VALUED, name)
+}
+
+/// Parses the name of an option and its value. It is rejected if there is no such option, or if the
+/// option takes no value.
+fn named_value(name: &[u8], value: &[u8]) -> Argument
+    ensures { result ≡ named_value name.now value.now }
+{
+    match valued_option(name) {
+        Some(option) => valued_argument(option, value),
+        None if flag_argument(name).is_some() => Argument::Rejected(Rejection::UnexpectedValue),
+        None => Argument::Rejected(Rejection::UnknownOption),
+    }
+}
+
+/// Parses the value of an option.
+fn valued_argument(option: Valued, value: &[u8]) -> Argument
+    ensures { result ≡ valued_argument option value.now }
+{
+    match option {
+        Valued::Family => family_argument(Rejection::UnknownFamilyValue, value),
+        Valued::State => state_argument(value),
+        Valued::Port(end) => port_argument(end, value),
+        Valued::Address(end) => address_argument(end, value),
     }
 }
 
@@ -213,103 +281,20 @@ fn address_argument(end: End, text: &[u8]) -> Argument
     }
 }
 
-/// Parses letters after a hyphen, such as `-tl`, or the long name of a letter, such as `--tcp`. Any
-/// other argument is rejected.
+/// Parses letters after a hyphen, such as `-tl`.
 fn letters_argument(argument: &[u8]) -> Argument
     ensures { result ≡ letters_argument argument.now }
 {
     // An empty argument is the name of a file (`is_file`), and does not get here. Without this test
     // the index below could be out of bounds.
-    if argument.is_empty() || argument.starts_with(b"--") {
-        return long_argument(argument);
+    if argument.is_empty() {
+        return Argument::Rejected(Rejection::UnknownOption);
     }
     match first_rejected_letter(&argument[1..]) {
         Some(letter) => Argument::Rejected(letter_rejection(letter)),
         None => Argument::Letters {
             needs_family: ends_in_f(argument),
         },
-    }
-}
-
-/// Parses the long name of a letter, such as `--tcp`. Any other argument is rejected.
-fn long_argument(argument: &[u8]) -> Argument
-    ensures { result ≡ long_argument argument.now }
-{
-    match letter_named(argument) {
-        Some(letter) => Argument::Letter(letter),
-        None => Argument::Rejected(long_rejection(argument)),
-    }
-}
-
-/// Returns the letter with this long name, or `None` if there is none.
-#[tactic(auto, unfolding(crate::specs::command_line::Choice::letter_named))]
-fn letter_named(name: &[u8]) -> Option<u8>
-    ensures { result ≡ letter_named name.now }
-{
-    letter_in(&LONG_NAMES, name)
-}
-
-/// Returns the letter of the first row with this name, or `None` if there is none.
-fn letter_in(rows: &[(&str, u8)], name: &[u8]) -> Option<u8>
-    // `row.1`: the letter of a row. `find`: the first row for which the test is true. `row.0`: the
-    // name of a row.
-    ensures { result ≡ option_map (λ row. row.1)
-        (find (λ row. bytes_eq name.now row.0.now) rows.now) }
-{
-    for &(other, letter) in rows {
-        if equal(name, other) {
-            return Some(letter);
-        }
-    }
-    None
-}
-
-/// Returns the reason why a long option is rejected.
-fn long_rejection(argument: &[u8]) -> Rejection
-    ensures { result ≡ long_rejection argument.now }
-{
-    if misses_value(argument) {
-        Rejection::MissingValue
-    } else if has_unexpected_value(argument) {
-        Rejection::UnexpectedValue
-    } else {
-        Rejection::UnknownOption
-    }
-}
-
-/// Returns whether an argument is an option that needs a value, without one.
-fn misses_value(argument: &[u8]) -> bool
-    ensures { result ≡ misses_value argument.now }
-{
-    equal(argument, "--family")
-        || equal(argument, "--state")
-        || equal(argument, "--sport")
-        || equal(argument, "--dport")
-        || equal(argument, "--src")
-        || equal(argument, "--dst")
-}
-
-/// Returns whether an argument is an option that takes no value, with one.
-fn has_unexpected_value(argument: &[u8]) -> bool
-    ensures { result ≡ has_unexpected_value argument.now }
-{
-    argument.starts_with(b"--help=")
-        || argument.starts_with(b"--version=")
-        || argument.starts_with(b"--utf8=")
-        || argument.starts_with(b"--requests=")
-        || argument.starts_with(b"--json=")
-        || argument.starts_with(b"--vsock=")
-        || argument.starts_with(b"--xdp=")
-        || is_long_name_with_value(argument)
-}
-
-/// Returns whether an argument is the long name of a letter, with an equals sign and a value.
-fn is_long_name_with_value(argument: &[u8]) -> bool
-    ensures { result ≡ is_long_name_with_value argument.now }
-{
-    match index_of(b'=', argument) {
-        Some(index) => letter_named(&argument[..index]).is_some(),
-        None => false,
     }
 }
 
@@ -336,28 +321,12 @@ fn family_argument(rejection: Rejection, name: &[u8]) -> Argument
     }
 }
 
-/// Returns the family of this name, as the option `-f` of ss(8) has it, or `None` if there is none.
-/// `packet` is another name of `link`.
+/// Returns the family of this name, or `None` if there is none.
+#[tactic(auto, unfolding(crate::specs::command_line::Choice::family_named))]
 fn family_named(name: &[u8]) -> Option<AnyFamily>
     ensures { result ≡ family_named name.now }
 {
-    if equal(name, "inet") {
-        Some(AnyFamily::Inet)
-    } else if equal(name, "inet6") {
-        Some(AnyFamily::Inet6)
-    } else if equal(name, "unix") {
-        Some(AnyFamily::Unix)
-    } else if equal(name, "netlink") {
-        Some(AnyFamily::Other(Family::Netlink))
-    } else if equal(name, "link") || equal(name, "packet") {
-        Some(AnyFamily::Other(Family::Packet))
-    } else if equal(name, "vsock") {
-        Some(AnyFamily::Other(Family::Vsock))
-    } else if equal(name, "xdp") {
-        Some(AnyFamily::Other(Family::Xdp))
-    } else {
-        None
-    }
+    value_of(&FAMILIES, name)
 }
 
 /// Returns the first letter because of which letters are rejected: it is not in [`LETTERS`], and is
@@ -449,10 +418,10 @@ impl Options {
             AnyFamily::Inet => self.inet = true,
             AnyFamily::Inet6 => self.inet6 = true,
             AnyFamily::Unix => self.unix = true,
-            AnyFamily::Other(Family::Netlink) => self.netlink = true,
-            AnyFamily::Other(Family::Packet) => self.packet = true,
-            AnyFamily::Other(Family::Vsock) => self.vsock = true,
-            AnyFamily::Other(Family::Xdp) => self.xdp = true,
+            AnyFamily::Netlink => self.netlink = true,
+            AnyFamily::Packet => self.packet = true,
+            AnyFamily::Vsock => self.vsock = true,
+            AnyFamily::Xdp => self.xdp = true,
         }
     }
 

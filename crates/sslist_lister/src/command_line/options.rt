@@ -103,14 +103,13 @@ pub enum Family {
 /// A family of sockets that an option selects.
 #[derive(Clone, Copy)]
 pub(crate) enum AnyFamily {
-    /// IPv4 sockets.
     Inet,
-    /// IPv6 sockets.
     Inet6,
-    /// UNIX sockets.
     Unix,
-    /// Sockets of another family.
-    Other(Family),
+    Netlink,
+    Packet,
+    Vsock,
+    Xdp,
 }
 
 impl Options {
