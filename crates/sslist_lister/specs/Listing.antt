@@ -26,22 +26,10 @@ use Rattle.sock_diag_records.specs.InetResponse.{inet_response_header}
 use Rattle.sock_diag_records.specs.UnixResponseHeader.{unix_response_header}
 use Rattle.sock_diag_records.specs.ResponseKind.{MessageKind, inet_response, response_kind}
 use Rattle.sock_diag_records.specs.ResponseKind.{unix_response}
-use Rattle.sock_diag_records.specs.declared.inet.response.TheConstants.{INET_RESPONSE_HEADER_LEN}
-use Rattle.sock_diag_records.specs.declared.unix.response.TheConstants.{UNIX_RESPONSE_HEADER_LEN}
 use Rattle.sock_diag_families.specs.NetlinkResponseHeader.{netlink_header}
 use Rattle.sock_diag_families.specs.PacketResponseHeader.{packet_header}
 use Rattle.sock_diag_families.specs.VsockResponseHeader.{vsock_header}
 use Rattle.sock_diag_families.specs.XdpResponseHeader.{xdp_header}
-use Rattle.sock_diag_families.specs.declared.netlink.response.NetlinkResponseHeader.{
-  NetlinkResponseHeader,
-}
-use Rattle.sock_diag_families.specs.declared.packet.response.PacketResponseHeader.{
-  PacketResponseHeader,
-}
-use Rattle.sock_diag_families.specs.declared.vsock.response.VsockResponseHeader.{
-  VsockResponseHeader,
-}
-use Rattle.sock_diag_families.specs.declared.xdp.response.XdpResponseHeader.{XdpResponseHeader}
 use Rattle.sslist_lister.specs.Collected.{Summary, summary_of}
 use Rattle.sslist_lister.specs.Pieces.{AttributeOrError, framing_error_of, pieces_in}
 use Rattle.sslist_lister.specs.Table.{info_of_protocol}
@@ -54,11 +42,9 @@ use Rattle.sslist_lister.specs.Messages.{MessageParts, message_in, request_in}
 use Rattle.sslist_lister.specs.Requests.{PastRequests, protocol_of, with_optional_request}
 use Rattle.sslist_lister.specs.declared.line.TheConstants.{HEADING}
 use Rattle.sslist_lister.specs.declared.list.TheConstants.{EINVAL, ENOENT}
-use Rattle.sslist_lister.specs.declared.others.OtherSocket.{OtherSocket}
 use Rattle.sslist_lister.specs.Details.{timer_in}
 use Rattle.sslist_lister.specs.Others.{family_numbered, netlink_socket}
 use Rattle.sslist_lister.specs.Others.{packet_socket, vsock_socket, xdp_socket}
-use Rattle.sslist_lister.specs.texts.JsonData.{JsonMember}
 use Rattle.sslist_lister.specs.JsonListing.{inet_output, other_output, unix_output}
 use Rattle.sslist_lister.specs.JsonOthers.{netlink_header_members, packet_header_members}
 use Rattle.sslist_lister.specs.JsonOthers.{vsock_header_members, xdp_header_members}
@@ -71,99 +57,60 @@ use Rattle.sslist_lister.specs.declared.list.Diagnostic.TheVariants.{NoNumber}
 
 -- ---- replies
 
--- `reply_lines lines sockets header attributes`: the lines of a reply about these sockets: `lines`
--- of its header and of the summary of its attributes. There are none if the header is invalid:
--- `header` is the parsed one, or its decode error.
-abbrev pub reply_lines : {H : Type 0} → (H → Summary → List ℕ) → Sockets
-    → Result H DecodeError → List AttributeOrError → List ℕ
-reply_lines lines sockets (Ok header) attributes = lines header (summary_of sockets attributes)
-reply_lines lines sockets (Err e) attributes = []
+-- `lines_by_header lines summary header`: the lines of a reply: `lines` of its header and of the
+-- summary of its attributes. There are none if the header is invalid (Err).
+abbrev pub lines_by_header : {Header : Type 0} → (Header → Summary → List ℕ) → Summary
+    → Result Header DecodeError → List ℕ
+lines_by_header lines summary (Ok header) = lines header summary
+lines_by_header lines summary (Err e) = []
 
--- `reply_error header attributes`: the decode error of a reply: of its header, or else of the bytes
--- after its last attribute; None if there is none
-abbrev pub reply_error : {H : Type 0} → Result H DecodeError → List AttributeOrError
+-- `reply_lines layout sockets lines b`: the lines of a reply with this layout of its header, about
+-- these sockets: `lines` of the header and of the summary of the attributes, which follow it. There
+-- are none if the header is invalid.
+abbrev pub reply_lines : {Tag Header : Type 0} → Layout (Unit {0}) Tag Header → Sockets
+    → (Header → Summary → List ℕ) → List ℕ → List ℕ
+reply_lines layout sockets lines b =
+    lines_by_header lines (summary_of sockets (pieces_in (drop layout.least b)))
+    (parse_record layout tt b)
+
+-- `error_by_header framing header`: the decode error of a reply: of its header, or else the framing
+-- error, if there is one
+abbrev pub error_by_header : {Header : Type 0} → Option DecodeError → Result Header DecodeError
     → Option DecodeError
-reply_error (Ok header) attributes = framing_error_of attributes
-reply_error (Err e) attributes = Some e
+error_by_header framing (Ok header) = framing
+error_by_header framing (Err e) = Some e
 
--- How the replies about sockets of a netlink, packet, vsock or XDP family are listed. `Header` is
--- the type of their header, and `Tag` is the type of the tag of its layout.
-pub record ReplyFormat (Tag Header : Type 0) : Type 1 where
-  pub family : Family
-  -- the layout of the header, which has `layout.least` bytes
-  pub layout : Layout (Unit {0}) Tag Header
-  -- the values that a line of the table shows
-  pub socket : Header → Summary → OtherSocket
-  -- the members of the header in a line of JSON
-  pub members : Header → List JsonMember
-
--- `other_reply_lines o list format b`: the lines of a reply in this format, about a socket in the
--- list of this number
-abbrev pub other_reply_lines : {Tag Header : Type 0} → Options → ℕ → ReplyFormat Tag Header
-    → List ℕ → List ℕ
-other_reply_lines o list format b =
-    reply_lines
-    (λ header s. other_output o list (format.socket header s) (format.members header) s)
-    (Other format.family)
-    (parse_record format.layout tt b) (pieces_in (drop format.layout.least b))
-
--- `other_reply_error layout b`: the decode error of a reply with this layout of its header, or None
-abbrev pub other_reply_error : {T H : Type 0} → Layout (Unit {0}) T H → List ℕ → Option DecodeError
-other_reply_error layout b =
-    reply_error (parse_record layout tt b) (pieces_in (drop layout.least b))
-
--- the format of replies about netlink sockets; the layout of the header has no tag (Unit)
-abbrev pub netlink_format : ReplyFormat (Unit {0}) NetlinkResponseHeader
-netlink_format = record {
-  family = Netlink;
-  layout = netlink_header;
-  socket = netlink_socket;
-  members = netlink_header_members;
-}
-
--- the format of replies about packet sockets; the layout of the header has no tag (Unit)
-abbrev pub packet_format : ReplyFormat (Unit {0}) PacketResponseHeader
-packet_format = record {
-  family = Packet;
-  layout = packet_header;
-  socket = packet_socket;
-  members = packet_header_members;
-}
-
--- the format of replies about vsock sockets; the layout of the header has no tag (Unit)
-abbrev pub vsock_format : ReplyFormat (Unit {0}) VsockResponseHeader
-vsock_format = record {
-  family = Vsock;
-  layout = vsock_header;
-  socket = vsock_socket;
-  members = vsock_header_members;
-}
-
--- the format of replies about XDP sockets; the layout of the header has no tag (Unit)
-abbrev pub xdp_format : ReplyFormat (Unit {0}) XdpResponseHeader
-xdp_format = record {
-  family = Xdp;
-  layout = xdp_header;
-  socket = xdp_socket;
-  members = xdp_header_members;
-}
+-- `reply_error layout b`: the decode error of a reply with this layout of its header: of the
+-- header, or else of the bytes after the last attribute; None if there is none
+abbrev pub reply_error : {Tag Header : Type 0} → Layout (Unit {0}) Tag Header → List ℕ
+    → Option DecodeError
+reply_error layout b =
+    error_by_header (framing_error_of (pieces_in (drop layout.least b))) (parse_record layout tt b)
 
 -- `family_lines o list family b`: the lines of a reply about a socket of this family; none for an
 -- unknown family (None)
 abbrev pub family_lines : Options → ℕ → Option Family → List ℕ → List ℕ
-family_lines o list (Some Netlink) b = other_reply_lines o list netlink_format b
-family_lines o list (Some Packet) b = other_reply_lines o list packet_format b
-family_lines o list (Some Vsock) b = other_reply_lines o list vsock_format b
-family_lines o list (Some Xdp) b = other_reply_lines o list xdp_format b
+family_lines o list (Some Netlink) b =
+    reply_lines netlink_header (Other Netlink)
+    (λ h s. other_output o list (netlink_socket h s) (netlink_header_members h) s) b
+family_lines o list (Some Packet) b =
+    reply_lines packet_header (Other Packet)
+    (λ h s. other_output o list (packet_socket h s) (packet_header_members h) s) b
+family_lines o list (Some Vsock) b =
+    reply_lines vsock_header (Other Vsock)
+    (λ h s. other_output o list (vsock_socket h s) (vsock_header_members h) s) b
+family_lines o list (Some Xdp) b =
+    reply_lines xdp_header (Other Xdp)
+    (λ h s. other_output o list (xdp_socket h s) (xdp_header_members h) s) b
 family_lines o list None b = []
 
 -- `family_error family b`: the decode error of a reply about a socket of this family, or None; also
 -- None for an unknown family, whose replies are not checked
 abbrev pub family_error : Option Family → List ℕ → Option DecodeError
-family_error (Some Netlink) b = other_reply_error netlink_header b
-family_error (Some Packet) b = other_reply_error packet_header b
-family_error (Some Vsock) b = other_reply_error vsock_header b
-family_error (Some Xdp) b = other_reply_error xdp_header b
+family_error (Some Netlink) b = reply_error netlink_header b
+family_error (Some Packet) b = reply_error packet_header b
+family_error (Some Vsock) b = reply_error vsock_header b
+family_error (Some Xdp) b = reply_error xdp_header b
 family_error None b = None
 
 -- `inet_socket protocol b header`: the IPv4 or IPv6 socket of the reply with the payload `b`, which
@@ -175,35 +122,29 @@ inet_socket protocol b header = record {
   header = header;
 }
 
--- `payload_lines options list protocol kind b`: the lines of the payload `b`, in the list of the
--- number `list`. `kind` is the kind of the reply, or the reason why it is not one. `b` begins with
--- the header, a `struct unix_diag_msg` or a `struct inet_diag_msg`; `drop` skips it, to the
--- attributes. `protocol` is the protocol of the request, if it is known. A payload that is not a
--- reply has no lines, except for one about a netlink, packet, vsock or XDP socket (`family_lines`).
+-- `payload_lines o list protocol kind b`: the lines of the payload `b`, in the list of the number
+-- `list`. `kind` is the kind of the reply, or the reason why it is not one. `b` begins with the
+-- header, a `struct unix_diag_msg` or a `struct inet_diag_msg`. `protocol` is the protocol of the
+-- request, if it is known. A payload that is not a reply has no lines, except for one about a
+-- netlink, packet, vsock or XDP socket (`family_lines`).
 abbrev pub payload_lines : Options → ℕ → Option ℕ → Result MessageKind DecodeError → List ℕ
     → List ℕ
-payload_lines options list protocol (Ok unix_response) b =
-    reply_lines (unix_output options list) Unix (parse_record unix_response_header tt b)
-    (pieces_in (drop UNIX_RESPONSE_HEADER_LEN b))
-payload_lines options list protocol (Ok inet_response) b =
-    reply_lines (λ header. inet_output options list (inet_socket protocol b header))
-    (Inet (info_of_protocol protocol))
-    (parse_record inet_response_header tt b) (pieces_in (drop INET_RESPONSE_HEADER_LEN b))
-payload_lines options list protocol (Err (UnknownFamily n)) b =
-    family_lines options list (family_numbered n) b
-payload_lines options list protocol _ b = []
+payload_lines o list protocol (Ok unix_response) b =
+    reply_lines unix_response_header Unix (unix_output o list) b
+payload_lines o list protocol (Ok inet_response) b =
+    reply_lines inet_response_header (Inet (info_of_protocol protocol))
+    (λ header s. inet_output o list (inet_socket protocol b header) s) b
+payload_lines o list protocol (Err (UnknownFamily n)) b =
+    family_lines o list (family_numbered n) b
+payload_lines o list protocol _ b = []
 
 -- `payload_error kind b`: the decode error of the payload `b`: that of the reply, or the reason why
 -- it is not a reply. An invalid value of an attribute is not considered. A reply about a socket of
 -- an unknown family has no error. `kind` is never a request (`response_kind`), the case of the last
 -- equation.
 abbrev pub payload_error : Result MessageKind DecodeError → List ℕ → Option DecodeError
-payload_error (Ok unix_response) b =
-    reply_error (parse_record unix_response_header tt b)
-    (pieces_in (drop UNIX_RESPONSE_HEADER_LEN b))
-payload_error (Ok inet_response) b =
-    reply_error (parse_record inet_response_header tt b)
-    (pieces_in (drop INET_RESPONSE_HEADER_LEN b))
+payload_error (Ok unix_response) b = reply_error unix_response_header b
+payload_error (Ok inet_response) b = reply_error inet_response_header b
 payload_error (Err (UnknownFamily n)) b = family_error (family_numbered n) b
 payload_error (Err e) b = Some e
 payload_error _ b = None

@@ -98,24 +98,19 @@ pub(crate) fn push_reply(
     }
 }
 
-/// Appends the lines of a UNIX socket. Returns the decode error of the reply, if it has one.
+/// Appends what is written for a UNIX socket, if the options select it. Returns the error of the
+/// header, or else of the bytes after the last attribute, if there is one.
 fn push_unix(
     text: &mut Vec<u8>,
     options: Options,
     list: u64,
     payload: &[u8],
 ) -> Result<Option<DecodeError>, AllocError>
-    // `reply_lines lines sockets header attributes`: `lines` of the header and its attributes; none
-    // if the header is invalid. `unix_output ..`: what is written for a UNIX socket. `parse_record
-    // ..`: the header, or its decode error.
+    // `reply_lines layout sockets lines payload`: the lines of a reply with this layout of its
+    // header: `lines` of the header and its attributes; none if the header is invalid.
     ensures lines { OnOk result (text.new.items ≡ text.old.items
-        ++ reply_lines (unix_output options list) Unix
-        (parse_record unix_response_header tt payload.now)
-        (pieces_in (drop UNIX_RESPONSE_HEADER_LEN payload.now))) }
-    // `reply_error header attributes`: the error of the header, or else the framing error, or None.
-    ensures error { IfOk result (λ error. error
-        ≡ reply_error (parse_record unix_response_header tt payload.now)
-        (pieces_in (drop UNIX_RESPONSE_HEADER_LEN payload.now))) }
+        ++ reply_lines unix_response_header Unix (unix_output options list) payload.now) }
+    ensures error { IfOk result (λ error. error ≡ reply_error unix_response_header payload.now) }
 {
     match UnixResponseHeader::from_prefix(payload) {
         Ok(header) => {
@@ -272,8 +267,8 @@ pub(crate) struct InetSocket {
     pub(crate) header: InetResponseHeader,
 }
 
-/// Appends the lines of an IPv4 or IPv6 socket. Returns the decode error of the reply, if it has
-/// one.
+/// Appends what is written for an IPv4 or IPv6 socket, if the options select it. Returns the error
+/// of the header, or else of the bytes after the last attribute, if there is one.
 fn push_inet(
     text: &mut Vec<u8>,
     options: Options,
@@ -281,19 +276,15 @@ fn push_inet(
     protocol: Option<u32>,
     payload: &[u8],
 ) -> Result<Option<DecodeError>, AllocError>
-    // `reply_lines lines sockets header attributes`: `lines` of the header and its attributes; none
-    // if the header is invalid. `inet_output ..`: what is written for a socket. `inet_socket ..`:
-    // the socket with this header. `info_of_protocol`: the meaning of `INET_DIAG_INFO`.
-    // `parse_record ..`: the header, or its decode error.
+    // `reply_lines layout sockets lines payload`: the lines of a reply with this layout of its
+    // header: `lines` of the header and its attributes; none if the header is invalid.
+    // `info_of_protocol`: the meaning of `INET_DIAG_INFO`.
     ensures lines { OnOk result (text.new.items ≡ text.old.items
-        ++ reply_lines
-        (λ header. inet_output options list (inet_socket protocol payload.now header))
-        (Inet (info_of_protocol protocol)) (parse_record inet_response_header tt payload.now)
-        (pieces_in (drop INET_RESPONSE_HEADER_LEN payload.now))) }
-    // `reply_error header attributes`: the error of the header, or else the framing error, or None.
-    ensures error { IfOk result (λ error. error
-        ≡ reply_error (parse_record inet_response_header tt payload.now)
-        (pieces_in (drop INET_RESPONSE_HEADER_LEN payload.now))) }
+        ++ reply_lines inet_response_header (Inet (info_of_protocol protocol))
+        (λ header summary.
+        inet_output options list (inet_socket protocol payload.now header) summary)
+        payload.now) }
+    ensures error { IfOk result (λ error. error ≡ reply_error inet_response_header payload.now) }
 {
     match InetResponseHeader::from_prefix(payload) {
         Ok(header) => {

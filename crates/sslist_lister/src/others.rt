@@ -12,8 +12,8 @@ ghost use Rattle.sslist_lister.specs.texts.Cells.{column};
 ghost use Rattle.netlink_core.specs.Walk.{buffered_attribute};
 ghost use Rattle.sslist_lister.specs.Collected.{Summary, collected, summary_of};
 ghost use Rattle.sslist_lister.specs.JsonListing.{other_output};
-ghost use Rattle.sslist_lister.specs.Listing.{family_error, family_lines, other_reply_error};
-ghost use Rattle.sslist_lister.specs.Listing.{other_reply_lines};
+ghost use Rattle.sslist_lister.specs.Listing.{family_error, family_lines, reply_error};
+ghost use Rattle.sslist_lister.specs.Listing.{reply_lines};
 ghost use Rattle.sslist_lister.specs.Others.{family_numbered, optional_address_text};
 ghost use Rattle.sslist_lister.specs.Others.{address_text, interface_number, netlink_socket};
 ghost use Rattle.sslist_lister.specs.Others.{other_columns, other_first_columns};
@@ -134,27 +134,22 @@ pub(crate) fn push_other(
     }
 }
 
-/// Appends the lines of a reply with a header of the type `H`. Returns the decode error of the
-/// reply, if it has one.
+/// Appends what is written for a reply with a header of the type `H`, if the options select its
+/// socket. Returns the error of the header, or else of the bytes after the last attribute, if there
+/// is one.
 fn push_listed<H: Listed>(
     text: &mut Vec<u8>,
     options: Options,
     list: u64,
     payload: &[u8],
 ) -> Result<Option<DecodeError>, AllocError>
-    // `other_reply_lines options list format payload`: the lines of a reply in this format
-    // (`ReplyFormat`). Here the format is that of `H`: `layout` is the layout of the header, and
-    // `socket` and `members` are what the table and JSON show of it.
+    // `reply_lines layout sockets lines payload`: the lines of a reply with this layout of its
+    // header: `lines` of the header and its attributes; none if the header is invalid.
     ensures lines { OnOk result (text.new.items ≡ text.old.items
-        ++ other_reply_lines options list (record {
-          family = H.listed_family;
-          layout = H.layout;
-          socket = H.listed;
-          members = H.json_members;
-        }) payload.now) }
-    // `other_reply_error layout payload`: the decode error of a reply with this layout of its
-    // header, or None.
-    ensures error { IfOk result (λ error. error ≡ other_reply_error H.layout payload.now) }
+        ++ reply_lines H.layout (Other H.listed_family)
+        (λ header summary. other_output options list (H.listed header summary)
+        (H.json_members header) summary) payload.now) }
+    ensures error { IfOk result (λ error. error ≡ reply_error H.layout payload.now) }
 {
     match read_record::<H>(payload, ()) {
         Ok(header) => push_socket(text, options, list, &header, attributes_of::<H>(payload)),

@@ -21,12 +21,14 @@ timer_of-timer-requires c =
     omega (arith, long, inet_response_header_has_fixed_length.0)
 
 pub returns-in-Ok-clause-lines : goal.returns-in-Ok-clause-lines
+unfolding inet_response_header
 returns-in-Ok-clause-lines c =
     rw (← c.in-Ok.ensures.value)
     (rw (take_rest c.args.payload.now 72, c.timer_of-timer.ensures) at
     c.push_inet_socket.ensures.lines)
 
 pub returns-in-Ok-clause-error : goal.returns-in-Ok-clause-error
+unfolding inet_response_header
 returns-in-Ok-clause-error c =
     rw (← c.in-Ok.ensures.value)
     (rw (take_rest c.args.payload.now 72) at c.push_inet_socket.ensures.error)
