@@ -21,13 +21,11 @@ use Rattle.program_streams.specs.declared.streams.ReadError.{ReadError}
 use Rattle.program_streams.specs.declared.streams.ReadError.TheVariants.{Other}
 use Rattle.program_streams.specs.declared.streams.WriteError.{WriteError}
 use Rattle.sslist_lister.specs.declared.command_line.options.Options.{Options}
-use Rattle.sslist_lister.specs.texts.Reports.{closing_line}
 use Rattle.sslist_lister.specs.Diagnostics.{DiagnosesPacket}
 use Rattle.sslist_lister.specs.Listing.{requests_after_packet}
 use Rattle.sslist_lister.specs.Requests.{PastRequests, no_requests}
 use Rattle.sslist_lister.specs.Run.{FailsAtWrite, Fails, Finishes, IsListed, IsTableOfCapture}
 use Rattle.sslist_lister.specs.Run.{RunState, ListedPacket}
-use Rattle.sslist_lister.specs.private.Run.{closing_text}
 use Rattle.sslist_lister.specs.Run.{lines_of_packet}
 use Rattle.sslist_lister.proofs.Progress.{Progress, progress_continues_incomplete}
 use Rattle.sslist_lister.proofs.Progress.{progress_continues_complete, lines_push}
@@ -359,18 +357,15 @@ module _ (o : Options) (left left' held held' : Option (List ℕ)) (heading fron
     reported = implies h.diagnostics h.reported;
   }
 
--- The outcome of a run, if the line that names a failure was reported after the diagnostics.
+-- The outcome of a run, if what is known of the reported diagnostics implies another statement.
 pub run_outcome : (o : Options) (left left' held held' : Option (List ℕ)) (heading front : List ℕ)
     (P Q : List ℕ → Type 0) (unread : ReadError → Type 0) (r : Result Bool ListError)
-    → ((diagnostics : List ℕ) → P diagnostics → Q (diagnostics ++ closing_text front r))
+    → ((diagnostics : List ℕ) → P diagnostics → Q diagnostics)
     → MatchResult r (Finishes o left left' held held' heading front P)
     (Fails o left left' held held' heading front P unread)
     → MatchResult r (Finishes o left left' held held' heading front Q)
-    (λ e. Fails o left left' held held' heading front
-    (λ diagnostics. Q (diagnostics ++ closing_line front e)) unread e)
+    (Fails o left left' held held' heading front Q unread)
 run_outcome o left left' held held' heading front P Q unread (Ok whole) implies finishes =
-    finishes_implies o left left' held held' heading front P Q
-    (λ d h. subst Q (append-nil d) (implies d h)) whole finishes
+    finishes_implies o left left' held held' heading front P Q implies whole finishes
 run_outcome o left left' held held' heading front P Q unread (Err e) implies fails =
-    fails_implies o left left' held held' heading front P
-    (λ diagnostics. Q (diagnostics ++ closing_line front e)) implies unread e fails
+    fails_implies o left left' held held' heading front P Q implies unread e fails

@@ -7,11 +7,22 @@ use Rattle.std.proofs.lemmas.List.Sums.{fold_push}
 use Rattle.sslist_lister.specs.command_line.Choice.{argument_at, names_file, next_place}
 use Rattle.sslist_lister.specs.command_line.Files.{AddsListing, Listing, ListsAll, capture_named}
 use Rattle.sslist_lister.specs.command_line.Files.{files_from, files_or_input, last_failure}
-use Rattle.sslist_lister.specs.command_line.Files.{later_failure, listing, listing_name}
-use Rattle.sslist_lister.specs.command_line.Files.{listing_status}
+use Rattle.sslist_lister.specs.command_line.Files.{later_failure}
 use Rattle.sslist_lister.specs.declared.command_line.arguments.Argument.{Argument}
 use Rattle.sslist_lister.specs.declared.command_line.arguments.Place.{Place}
 use Rattle.sslist_lister.specs.declared.command_line.arguments.Place.TheVariants.{Any}
+
+-- a capture of this name that was listed with this status
+abbrev pub listing : Option (List ℕ) → ℕ → Listing
+listing name status = record { name = name; status = status }
+
+-- the name of a listed capture
+abbrev pub listing_name : Listing → Option (List ℕ)
+listing_name listed = listed.name
+
+-- the exit status of a listed capture
+abbrev pub listing_status : Listing → ℕ
+listing_status listed = listed.status
 
 -- the list has an element
 abbrev pub is_filled : {A : Type 0} → List A → Bool

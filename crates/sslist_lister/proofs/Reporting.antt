@@ -4,11 +4,19 @@ use Rattle.std.proofs.Common.{append_assoc, append-nil, ◌∷◌}
 use Rattle.std.specs.Prelude.{Option, ⊤}
 use Rattle.std.specs.Io.KnownBytes.{Appends}
 use Rattle.std.proofs.KnownBytes.{Appends-nil, Appends-trans}
-use Rattle.sslist_lister.specs.texts.Reports.{ReportsText, ReportsMore, WritesPrefix, closing_line}
+use Rattle.sslist_lister.specs.texts.Reports.{ReportsText, closing_line}
 use Rattle.sslist_lister.specs.texts.Reports.{list_error_text}
 use Rattle.sslist_lister.specs.declared.texts.list_error.ListError.{ListError}
 use Rattle.sslist_lister.specs.declared.texts.list_error.ListError.TheVariants as errors
 use Rattle.program_streams.specs.declared.streams.WriteError.TheVariants.{Closed, Os, Other}
+
+-- `ReportsMore held failed is_open held' failed' is_open' text`: `Reports`, by the members of both
+-- states
+abbrev pub ReportsMore : Option (List ℕ) → Type 0 → Bool → Option (List ℕ) → Type 0 → Bool
+    → List ℕ → Type 0
+ReportsMore held failed is_open held' failed' is_open' text =
+    (start : Option (List ℕ)) → (before : List ℕ) → ReportsText start held failed before is_open
+    → ReportsText start held' failed' (before ++ text) is_open'
 
 -- Two texts that are reported are their concatenation.
 pub reports_then : (a b c : Option (List ℕ)) (f g h : Type 0) (o p q : Bool) (x y : List ℕ)
@@ -64,13 +72,6 @@ reports_none a f text = λ start before (sent, more, split, appended, failed). (
 pub reports_from_start : (a b : Option (List ℕ)) (f g : Type 0) (p : Bool) (text : List ℕ)
     → ReportsMore a f true b g p text → ReportsText a b g text p
 reports_from_start a b f g p text more = more a [] (Appends-nil a)
-
--- What was reported is a prefix of the text.
-pub reports_prefix : (a b : Option (List ℕ)) (g : Type 0) (p : Bool) (text : List ℕ)
-    → ReportsText a b g text p → WritesPrefix a b text
-reports_prefix a b g true text appended = (text, [], sym (append-nil text), appended)
-reports_prefix a b g false text (sent, more, split, appended, failed) =
-    (sent, more, split, appended)
 
 -- The line of a failure other than a closed pipe is the prefix and its text.
 pub closing_other : (front : List ℕ) (e : ListError) → (e ≡ errors.Write Closed → ⊥)

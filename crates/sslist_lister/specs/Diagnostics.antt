@@ -2,7 +2,7 @@
 -- and messages are numbered from 1 on. `whole` is false if the packet was truncated.
 use Rattle.std.specs.Prelude.{◌≡◌, ℕ, ◌+◌, ◌==◌, if◌then◌else◌, nat_lt, List, [], ◌∷◌, ◌++◌, ◌⊎◌}
 use Rattle.std.specs.Prelude.{bit_and, codes, decimal, drop, length, Option, None, Some}
-use Rattle.std.specs.Prelude.{◌||◌, Bool, false, nat_le, not, true}
+use Rattle.std.specs.Prelude.{◌||◌, Bool, MatchOption, false, nat_le, not, true}
 use Rattle.netlink_captures.specs.Capture.{CapturedPacket}
 use Rattle.sslist_lister.specs.texts.Reports.{truncation_line, short_line}
 use Rattle.netlink_core.specs.Datagram.{SplitsIntoMessages}
@@ -188,20 +188,11 @@ pub record DiagnosesMessages (front : List ℕ) (packet : ℕ) (whole : Bool)
   pub lines : after ≡ before ++ (lines_about front packet 1 messages
       ++ framing_error_line (line_start front packet (length messages + 1)) whole end)
 
--- `DiagnosesFirst request front packet whole datagram before after`: the text `after` is the text
--- `before` and the lines about a datagram that begins with this request, or with none (None). A
--- datagram that begins with a request has no lines.
-abbrev pub DiagnosesFirst : Option MessageParts → List ℕ → ℕ → Bool → List ℕ → List ℕ → List ℕ
-    → Type 0
-DiagnosesFirst None front packet whole datagram before after =
-    DiagnosesMessages front packet whole datagram before after
-DiagnosesFirst (Some request) front packet whole datagram before after = after ≡ before
-
 -- `DiagnosesDatagram front packet whole datagram before after`: the text `after` is the text
 -- `before` and the lines about the datagram. It has none if it begins with a request.
 abbrev pub DiagnosesDatagram : List ℕ → ℕ → Bool → List ℕ → List ℕ → List ℕ → Type 0
-DiagnosesDatagram front packet whole datagram before after =
-    DiagnosesFirst (request_in datagram) front packet whole datagram before after
+DiagnosesDatagram front packet whole datagram before after = MatchOption (request_in datagram)
+    (DiagnosesMessages front packet whole datagram before after) (λ request. after ≡ before)
 
 -- `short_line_if_whole front packet whole`: the line about the packet with this number, which has
 -- fewer than 16 bytes; nothing if it was truncated

@@ -5,9 +5,10 @@
 use Rattle.std.specs.Prelude.{◌≡◌, ◌↔◌, Bool, true, false, IsTrue, ℕ, ℤ, pos, negsuc, ◌+◌}
 use Rattle.std.specs.Prelude.{◌==◌, ◌&&◌, if◌then◌else◌, nat_le, nat_lt, List, [], ◌++◌, ◌≤◌, ◌⊎◌}
 use Rattle.std.specs.Prelude.{bit_and, drop, length, flat_map, is_none, Option, None, Some}
-use Rattle.std.specs.Prelude.{option_map, Result, Ok, Err}
+use Rattle.std.specs.Prelude.{option_map, MatchOption, Result, Ok, Err}
 use Rattle.byteorder.specs.Endian.{big_number}
 use Rattle.std.specs.List.{list_all}
+use Rattle.std.specs.Option.{option_map_or}
 use Rattle.netlink_captures.specs.Capture.{CapturedPacket}
 use Rattle.netlink_captures.specs.Cooked.{IsOfSockDiag}
 use Rattle.netlink_captures.specs.declared.captures.PacketHeader.{PacketHeader}
@@ -39,7 +40,7 @@ use Rattle.sslist_lister.specs.Headings.{list_heading}
 use Rattle.sslist_lister.specs.Lists.{is_repetition}
 use Rattle.sslist_lister.specs.RequestLine.{request_line_if_selected}
 use Rattle.sslist_lister.specs.Messages.{MessageParts, message_in, request_in}
-use Rattle.sslist_lister.specs.Requests.{PastRequests, protocol_of, with_optional_request}
+use Rattle.sslist_lister.specs.Requests.{PastRequests, protocol_of, with_request}
 use Rattle.sslist_lister.specs.declared.line.TheConstants.{HEADING}
 use Rattle.sslist_lister.specs.declared.list.TheConstants.{EINVAL, ENOENT}
 use Rattle.sslist_lister.specs.Details.{timer_in}
@@ -156,19 +157,14 @@ payload_error _ b = None
 abbrev pub is_control : ℕ → Bool
 is_control t = nat_le NLMSG_NOOP t && nat_le t NLMSG_OVERRUN
 
--- `lines_by_type o list protocol t payload`: the lines of a message with the type `t` and this
--- payload. A control message has none.
-abbrev pub lines_by_type : Options → ℕ → Option ℕ → ℕ → List ℕ → List ℕ
-lines_by_type o list protocol t payload =
-    if is_control t then [] else payload_lines o list protocol (response_kind payload t) payload
-
 -- `message_lines o past m`: the lines of the message `m`, which may answer one of the requests
--- `past`
+-- `past`. A control message has none.
 abbrev pub message_lines : Options → PastRequests → MessageParts → List ℕ
 message_lines o past m =
-    lines_by_type o past.list
+    if is_control m.header.message_type then []
+    else payload_lines o past.list
     (protocol_of past.queries m.header.sequence_number m.header.port_number)
-    m.header.message_type m.payload
+    (response_kind m.payload m.header.message_type) m.payload
 
 -- the diagnostic of an error number of errno(3): a note for ENOENT and EINVAL, or else an error
 abbrev pub errno_diagnostic : ℕ → Diagnostic
@@ -241,28 +237,20 @@ request_lines o past header request =
     list_heading o header HEADING.now (is_repetition past.first request)
     ++ request_line_if_selected o header request
 
--- `ListsFirst request o past header datagram before after is_clean`: the text `after` is the text
--- `before` and the lines of a datagram that begins with this request, or with none (None). A
--- datagram that begins with a request has the lines of the request, and is clean. Any other one has
--- the lines of its messages. `past` are the requests before the datagram.
-abbrev pub ListsFirst : Option MessageParts → Options → PastRequests → PacketHeader → List ℕ
-    → List ℕ → List ℕ → Bool → Type 0
-ListsFirst None o past header datagram before after is_clean =
-    ListsMessages o past datagram before after is_clean
-ListsFirst (Some request) o past header datagram before after is_clean =
-    (after ≡ before ++ request_lines o past header request) × (is_clean ≡ true)
-
 -- `ListsDatagram o past header datagram before after is_clean`: the text `after` is the text
--- `before` and the lines of the datagram: those of its request if it begins with one, or else those
--- of its messages (`ListsFirst`)
+-- `before` and the lines of a datagram. If it begins with a request, these are the lines of the
+-- request, and the datagram is clean. Else they are those of its messages. `past` are the requests
+-- before the datagram.
 abbrev pub ListsDatagram : Options → PastRequests → PacketHeader → List ℕ → List ℕ → List ℕ → Bool
     → Type 0
-ListsDatagram o past header datagram before after is_clean =
-    ListsFirst (request_in datagram) o past header datagram before after is_clean
+ListsDatagram o past header datagram before after is_clean = MatchOption (request_in datagram)
+    (ListsMessages o past datagram before after is_clean)
+    (λ request. (after ≡ before ++ request_lines o past header request) × (is_clean ≡ true))
 
 -- the requests after a datagram: if it begins with a request, that is added
 abbrev pub requests_after_datagram : PastRequests → List ℕ → PastRequests
-requests_after_datagram past datagram = with_optional_request (request_in datagram) past
+requests_after_datagram past datagram =
+    option_map_or (λ request. with_request request past) (request_in datagram) past
 
 -- `requests_after_packet past packet`: the requests after a packet. If its cooked header, the first
 -- 16 bytes, is one of sock_diag(7), the request that its datagram begins with is added, if there is

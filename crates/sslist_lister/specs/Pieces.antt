@@ -58,11 +58,6 @@ attributes_or_error (suc skipped) (byte ∷ bytes) = attributes_or_error skipped
 abbrev pub pieces_in : List ℕ → List AttributeOrError
 pieces_in bytes = attributes_or_error 0 bytes
 
--- `attribute_or_error_of item`: the model of an item that an attribute iterator yields: the type
--- field and the value of the attribute (`map_ok` maps the value of an `Ok`), or the same error
-abbrev pub attribute_or_error_of : Result NlaBuffer DecodeError → AttributeOrError
-attribute_or_error_of item = map_ok buffered_attribute item
-
 -- the pieces that an attribute iterator has not yielded yet
 abbrev pub pieces_left : NlasIterator → List AttributeOrError
 pieces_left walk = pieces_in (unread_bytes walk)
@@ -72,7 +67,7 @@ pieces_left walk = pieces_in (unread_bytes walk)
 abbrev pub YieldsFirstPiece : NlasIterator → Option (Result NlaBuffer DecodeError) → NlasIterator
     → Type 0
 YieldsFirstPiece old item new =
-    YieldsFirstBy attribute_or_error_of pieces_left old item new
+    YieldsFirstBy (map_ok buffered_attribute) pieces_left old item new
 
 -- `framing_error_of pieces`: the error after the last attribute, or None if there is none
 abbrev pub framing_error_of : List AttributeOrError → Option DecodeError

@@ -3,13 +3,13 @@
 use Rattle.std.specs.Prelude.{ℕ, ◌==◌, ◌||◌, ◌&&◌, not, nat_le, if◌then◌else◌, Bool, List, []}
 use Rattle.std.specs.Prelude.{◌∷◌, ◌+◌, ◌-◌, ◌^◌, take, drop, length, min, slice_index, Option}
 use Rattle.std.specs.Prelude.{None, Some}
+use Rattle.std.specs.Option.{option_map_or}
 use Rattle.byteorder.specs.Endian.{little_number}
 use Rattle.netlink_core.specs.Attribute.{Attribute}
 use Rattle.sock_diag_records.specs.declared.constants.TheConstants as c
 use Rattle.sock_diag_records.specs.declared.inet.request.TheConstants.{INET_DIAG_REQ_PROTOCOL}
 use Rattle.sock_diag_records.specs.declared.inet.request.TheConstants.{INET_REQUEST_LEN}
 use Rattle.sock_diag_records.specs.declared.unix.request.TheConstants.{UNIX_REQUEST_LEN}
-use Rattle.sslist_lister.specs.declared.command_line.options.Family.{Family}
 use Rattle.sslist_lister.specs.Lists.{ComparedContent, first_request, first_with}
 use Rattle.sslist_lister.specs.Lists.{is_repetition}
 use Rattle.sslist_lister.specs.Messages.{MessageParts}
@@ -45,12 +45,6 @@ abbrev pub is_about_sockets : ℕ → Bool
 is_about_sockets message_type =
     (message_type == c.SOCK_DIAG_BY_FAMILY) || (message_type == c.SOCK_DESTROY)
 
--- what a request for sockets of a netlink, packet, vsock or XDP family asks for; None is another
--- family
-abbrev pub requested_other : Option Family → Requested
-requested_other (Some family) = requests.Other family
-requested_other None = requests.Unknown
-
 -- `requested_of_family family request`: what a request about sockets of this family asks for. A
 -- request for IPv4 or IPv6 sockets has at least a `struct inet_diag_req_v2`, one for UNIX sockets a
 -- `struct unix_diag_req`, whose `udiag_states` are at 4, little-endian. A shorter one is Unknown,
@@ -63,7 +57,7 @@ requested_of_family family request =
     then requests.Inet (query_of request)
     else if (family == c.AF_UNIX) && nat_le UNIX_REQUEST_LEN (length request.payload)
     then requests.Unix (little_number 4 (drop 4 request.payload))
-    else requested_other (family_numbered family)
+    else option_map_or requests.Other (family_numbered family) requests.Unknown
 
 -- what a request asks for. The first byte of its payload is the family. A request without a
 -- payload, or of another type, is Unknown.
@@ -120,12 +114,6 @@ with_request request past = record {
   first = first_with request past.first;
   list = list_with request past;
 }
-
--- `with_optional_request request past`: the requests after a datagram that begins with this
--- request, or with none (None)
-abbrev pub with_optional_request : Option MessageParts → PastRequests → PastRequests
-with_optional_request None past = past
-with_optional_request (Some request) past = with_request request past
 
 -- `protocol_of asked sequence port`: the protocol of the newest request that a reply with this
 -- sequence number (`nlmsg_seq`) and this port number (`nlmsg_pid`) may answer: its sequence number

@@ -16,7 +16,7 @@ use Rattle.sslist_lister.specs.declared.command_line.options.Options.{Options}
 use Rattle.sslist_lister.specs.Diagnostics.{AreDiagnosed}
 use Rattle.sslist_lister.specs.Listing.{ListsCapturedPacket, requests_after_packet}
 use Rattle.sslist_lister.specs.Requests.{PastRequests, no_requests}
-use Rattle.sslist_lister.specs.texts.Reports.{closing_line}
+use Rattle.sslist_lister.specs.texts.Reports.{closing_text}
 
 -- the lines of a packet, and whether it was listed completely
 pub record ListedPacket : Type 0 where
@@ -113,9 +113,11 @@ module _ (o : Options) (left left' held held' : Option (List ℕ)) (heading fron
     pub appended : Appends held held' (heading ++ lines)
     pub reported : Reported diagnostics
 
-  -- The state after a failed write: a prefix of the heading and the lines of the capture so far was
-  -- written (`sent`; `rest` was not), and its diagnostics were reported. `more` are the bytes of a
-  -- pcapng file after its last packet, if the last flush failed.
+  -- The state after a failed write or flush: packets were read and diagnosed, and a prefix of the
+  -- heading and of their lines was written: `sent`, without `rest`. The last of them is the packet
+  -- whose lines could not be written, if it was not the heading or the flush that failed. `more` are
+  -- the bytes that were read after them, which contain no packet: none, or before the flush those
+  -- at the end of a pcapng file.
   abbrev pub FailsAtWrite : Type 0
   FailsAtWrite =
       (bytes lines diagnostics : List ℕ) × (is_whole : Bool)
@@ -189,27 +191,19 @@ pub record ListingRun : Type 1 where
   -- this text was reported on standard error
   pub Reported : List ℕ → Type 0
 
--- `RunFinishes run is_whole`: the run succeeded (`Finishes`), and `is_whole` is true if and only if
--- each packet was listed completely
-abbrev pub RunFinishes : ListingRun → Bool → Type 0
-RunFinishes run = Finishes run.options run.left_before run.left_after run.held_before run.held_after
-    run.heading run.front run.Reported
-
--- `RunFails run error`: the run failed with this error (`Fails`)
-abbrev pub RunFails : ListingRun → ListError → Type 0
-RunFails run = Fails run.options run.left_before run.left_after run.held_before run.held_after
-    run.heading run.front run.Reported run.ReadFailed
-
--- `ListingEnds run outcome`: the run ended with this outcome: it listed the capture to its end
--- (Ok), or failed (Err)
+-- `ListingEnds run outcome`: the run ended with this outcome: it listed the capture to its end (Ok),
+-- and then `outcome` is whether each packet was listed completely; or it failed (Err)
 abbrev pub ListingEnds : ListingRun → Result Bool ListError → Type 0
-ListingEnds run outcome = MatchResult outcome (RunFinishes run) (RunFails run)
+ListingEnds run outcome = MatchResult outcome
+    (Finishes run.options run.left_before run.left_after run.held_before run.held_after
+    run.heading run.front run.Reported)
+    (Fails run.options run.left_before run.left_after run.held_before run.held_after
+    run.heading run.front run.Reported run.ReadFailed)
 
--- `ListingEndsReported run outcome`: the run ended with this outcome, as in `ListingEnds`. If it
--- failed, the line that names the failure was reported after the diagnostics.
+-- `ListingEndsReported run outcome`: the run ended with this outcome, as in `ListingEnds`, and the
+-- line that names its failure, if it failed, was reported after the diagnostics
 abbrev pub ListingEndsReported : ListingRun → Result Bool ListError → Type 0
 ListingEndsReported run outcome =
-    MatchResult outcome (RunFinishes run)
-    (λ error. RunFails (record run {
-      Reported = λ diagnostics. run.Reported (diagnostics ++ closing_line run.front error);
-    }) error)
+    ListingEnds (record run {
+      Reported = λ diagnostics. run.Reported (diagnostics ++ closing_text run.front outcome);
+    }) outcome

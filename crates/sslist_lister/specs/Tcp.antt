@@ -44,25 +44,27 @@ field_row_of row = (row.0, row.1, row.2, row.3.now, option_map (λ member. membe
 abbrev pub offset_of : TcpField → ℕ
 offset_of f = (tcp_span_of f).0
 
--- the number that a whole field of this width in bytes contains (1, 2, 4 or 8)
-abbrev pub part_of_width : ℕ → FieldPart
-part_of_width width =
-    if width == 1 then Byte else if width == 2 then Two else if width == 4 then Four else Eight
-
--- `row_of span format text member`: the row of a field with the offset `span.0` and the width
--- `span.1`
+-- `row_of span format text member`: the row of a whole field with the offset `span.0` and the width
+-- `span.1`, which is 1, 2, 4 or 8 bytes
 abbrev pub row_of : ℕ × ℕ → Shown → List ℕ → Option (List ℕ) → FieldRow
-row_of span format text member = (span.0, part_of_width span.1, format, text, member)
+row_of (offset, width) format text member =
+    let part = if width == 1 then Byte else if width == 2 then Two
+        else if width == 4 then Four else Eight in
+    (offset, part, format, text, member)
 
 -- `shown f text member`: the row of the field `f`, which the table shows after `text` if it is
 -- neither 0 nor unlimited (Nonzero), and JSON has under `member`
 abbrev pub shown : TcpField → List ℕ → List ℕ → FieldRow
 shown f text member = row_of (tcp_span_of f) Nonzero text (Some member)
 
+-- `part_row f part format text member`: the row of some bits (`part`) of the field `f`
+abbrev pub part_row : TcpField → FieldPart → Shown → List ℕ → Option (List ℕ) → FieldRow
+part_row f part format text member = (offset_of f, part, format, text, member)
+
 -- `hidden_part f part member`: the row of some bits (`part`) of the field `f`, which only JSON has,
 -- under `member`
 abbrev pub hidden_part : TcpField → FieldPart → List ℕ → FieldRow
-hidden_part f part member = (offset_of f, part, Never, [], Some member)
+hidden_part f part member = part_row f part Never [] (Some member)
 
 -- `hidden f member`: the row of the field `f`, which only JSON has, under `member`
 abbrev pub hidden : TcpField → List ℕ → FieldRow
@@ -71,7 +73,7 @@ hidden f member = row_of (tcp_span_of f) Never [] (Some member)
 -- `option_row bit text`: the row of a bit of `tcpi_options`. The table shows `text` if it is set.
 -- JSON does not have it (None).
 abbrev pub option_row : ℕ → List ℕ → FieldRow
-option_row bit text = (offset_of field.Options, Byte, Bits bit, text, None)
+option_row bit text = part_row field.Options Byte (Bits bit) text None
 
 -- The rows of the first eight bytes, in their order. Two rows are of no form above: `wscale`, a
 -- byte that counts only if `tcpi_options` has TCPI_OPT_WSCALE (`Negotiated`) and is shown as its
@@ -92,13 +94,9 @@ tcp_state_rows =
     option_row TCPI_OPT_SYN_DATA (codes " fastopen") ∷
     hidden_part field.Wscale LowFour (codes "snd_wscale") ∷
     hidden_part field.Wscale HighFour (codes "rcv_wscale") ∷
-    (offset_of field.Wscale, Negotiated, Halves, codes " wscale:(", None) ∷ (
-      offset_of field.DeliveryRateAppLimited,
-      FirstBit,
-      Bits 1,
-      codes " app_limited",
-      Some (codes "delivery_rate_app_limited"),
-    ) ∷
+    part_row field.Wscale Negotiated Halves (codes " wscale:(") None ∷
+    part_row field.DeliveryRateAppLimited FirstBit (Bits 1) (codes " app_limited")
+    (Some (codes "delivery_rate_app_limited")) ∷
     hidden_part field.DeliveryRateAppLimited NextTwo (codes "fastopen_client_fail") ∷ []
 
 -- the rows of the times and metrics, from `tcpi_rto` to `tcpi_total_retrans`
@@ -120,13 +118,8 @@ tcp_metric_rows =
     shown field.Pmtu (codes " pmtu:") (codes "pmtu") ∷
     shown field.RcvSsthresh (codes " rcv_ssthresh:") (codes "rcv_ssthresh") ∷
     shown field.Rtt (codes " rtt:") (codes "rtt") ∷
-    shown field.Rttvar (codes " rttvar:") (codes "rttvar") ∷ (
-      offset_of field.SndSsthresh,
-      Four,
-      Threshold,
-      codes " ssthresh:",
-      Some (codes "snd_ssthresh"),
-    ) ∷
+    shown field.Rttvar (codes " rttvar:") (codes "rttvar") ∷
+    part_row field.SndSsthresh Four Threshold (codes " ssthresh:") (Some (codes "snd_ssthresh")) ∷
     shown field.SndCwnd (codes " cwnd:") (codes "snd_cwnd") ∷
     shown field.Advmss (codes " advmss:") (codes "advmss") ∷
     shown field.Reordering (codes " reordering:") (codes "reordering") ∷
@@ -245,8 +238,8 @@ field_in width offset bytes = option_map (little_number width) (bytes_from width
 -- window scaling is negotiated, by the value of `tcpi_options`; false if the bytes do not contain
 -- this field (None)
 abbrev pub has_scales : Option ℕ → Bool
-has_scales None = false
-has_scales (Some options) = not (bit_and options TCPI_OPT_WSCALE == 0)
+has_scales options =
+    option_map_or (λ bits. not (bit_and bits TCPI_OPT_WSCALE == 0)) options false
 
 -- `number_in part offset bytes`: the number of a row, by its part and its offset. None if the bytes
 -- end before the end of the field, or if the number does not apply to the connection (Negotiated).

@@ -1,5 +1,4 @@
 -- Definitions that only the contracts of private functions need.
-pub mod Run
 pub mod Sentence
 pub mod JsonNames
 pub mod Report

@@ -7,7 +7,7 @@ ghost use Rattle.sslist_lister.specs.texts.Reports.{Reports, ReportsText, error_
 ghost use Rattle.program_streams.specs.declared.streams.WriteError.{WriteError};
 ghost use Rattle.sslist_lister.specs.declared.texts.list_error.ListError.{ListError};
 ghost use Rattle.sslist_lister.specs.Run.{ListingEndsReported};
-ghost use Rattle.sslist_lister.specs.private.Run.{closing_text};
+ghost use Rattle.sslist_lister.specs.texts.Reports.{closing_text};
 
 mod attributes;
 mod collected;

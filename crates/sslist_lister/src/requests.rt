@@ -9,7 +9,7 @@ ghost use Rattle.sslist_lister.specs.Messages.{message_parts};
 ghost use Rattle.sslist_lister.specs.Requests.{is_about_sockets, protocol_by, protocol_of};
 ghost use Rattle.sslist_lister.specs.Requests.{list_with, no_requests, past_requests};
 ghost use Rattle.sslist_lister.specs.Requests.{query_of};
-ghost use Rattle.sslist_lister.specs.Requests.{requested, requested_other, with_query};
+ghost use Rattle.sslist_lister.specs.Requests.{requested, with_query};
 ghost use Rattle.sslist_lister.specs.Requests.{with_request};
 
 use crate::command_line::Family;
@@ -167,7 +167,10 @@ pub(crate) fn requested_by(request: &Message<'_>) -> Requested
             Requested::Unix(LittleEndian::read_u32(&payload[4..]))
         }
         // Also UNIX, IPv4 and IPv6, if the payload is too short: then the result is `Unknown`.
-        family => requested_other(family_numbered(family)),
+        family => match family_numbered(family) {
+            Some(family) => Requested::Other(family),
+            None => Requested::Unknown,
+        },
     }
 }
 
@@ -176,17 +179,6 @@ fn is_about_sockets(message_type: u16) -> bool
     ensures { result ≡ is_about_sockets message_type }
 {
     matches!(message_type, SOCK_DIAG_BY_FAMILY | SOCK_DESTROY)
-}
-
-/// Returns what a request for sockets of this netlink, packet, vsock or XDP family asks for.
-/// Returns `Unknown` for any other family (`None`).
-fn requested_other(family: Option<Family>) -> Requested
-    ensures { result ≡ requested_other family }
-{
-    match family {
-        Some(family) => Requested::Other(family),
-        None => Requested::Unknown,
-    }
 }
 
 /// Returns the query in a request for IPv4 or IPv6 sockets. Its payload must have at least a

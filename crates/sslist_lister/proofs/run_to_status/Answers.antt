@@ -1,9 +1,10 @@
 use Rattle.std.proofs.Common.{true, ◌++◌}
 use Rattle.sslist_lister.proofs.Reporting.{reports_from_start, reports_then}
-use Rattle.sslist_lister.specs.texts.Reports.{ReportsText, ReportsMore}
+use Rattle.sslist_lister.specs.texts.Reports.{ReportsText}
+use Rattle.sslist_lister.proofs.Reporting.{ReportsMore}
 use Rattle.program_streams.specs.declared.streams.WriteError.{WriteError}
 use Rattle.sslist_lister.proofs.Failing.{run_outcome}
-use Rattle.sslist_lister.specs.private.Run.{closing_text}
+use Rattle.sslist_lister.specs.texts.Reports.{closing_text}
 use Rattle.sslist_lister.proofs.run_to_status.Goals as goal
 
 pub returns : goal.returns
@@ -23,7 +24,7 @@ returns g c =
       c.exit_code.ensures.success,
       c.exit_code.ensures.failure,
       run_outcome _ _ _ _ _ _ _ (ReportsMore start none true before some opened)
-          (λ d. ReportsText start end last d is_open) _ outcome
+          (λ d. ReportsText start end last (d ++ closing) is_open) _ outcome
           (λ d first. reports_from_start start end none last is_open (d ++ closing)
           (reports_then start before end none some last true opened is_open d closing first
           c.report_outcome.ensures))

@@ -46,10 +46,6 @@ contains_letter letter letters = list_any (λ other. other == letter) letters
 abbrev pub has_letter : List ℕ → List ℕ → Bool
 has_letter text letters = contains_letter (letter_of text) letters
 
--- a letter that is an option: -t, -u, -x, -M, -0, -4, -6, -o, -e, -m, -i, -O, -H, -l, -n or -a
-abbrev pub is_option_letter : ℕ → Bool
-is_option_letter letter = contains_letter letter (codes "tuxM046oemiOHlna")
-
 -- the last letter is f
 abbrev pub ends_in_f : List ℕ → Bool
 ends_in_f letters = ends_with nat_eq letters (codes "f")
@@ -58,9 +54,11 @@ ends_in_f letters = ends_with nat_eq letters (codes "f")
 abbrev pub without_last_f : List ℕ → List ℕ
 without_last_f letters = if ends_in_f letters then take (length letters - 1) letters else letters
 
--- the first of the letters that is not an option (`is_option_letter`); None if there is none
+-- the first of the letters that is not an option; None if there is none. Options are -t, -u, -x,
+-- -M, -0, -4, -6, -o, -e, -m, -i, -O, -H, -l, -n and -a.
 abbrev pub first_unknown_letter : List ℕ → Option ℕ
-first_unknown_letter letters = find (λ letter. not (is_option_letter letter)) letters
+first_unknown_letter letters =
+    find (λ letter. not (contains_letter letter (codes "tuxM046oemiOHlna"))) letters
 
 -- The first letter because of which the letters are rejected: one that is not an option. The last
 -- letter may also be f, which needs the name of a family as the next argument. None if there is no
@@ -215,26 +213,6 @@ abbrev pub family_argument : Rejection → List ℕ → Argument
 family_argument rejection name =
     option_map_or parsed_as.Sockets (family_named name) (parsed_as.Rejected rejection)
 
--- what the name of a state or of a group of states is parsed as; any other text is rejected
-abbrev pub state_argument : List ℕ → Argument
-state_argument name =
-    option_map_or parsed_as.States (states_named name)
-    (parsed_as.Rejected rejections.UnknownStateValue)
-
--- `port_argument end text`: what a condition on the port of this end is parsed as; any other text
--- is rejected
-abbrev pub port_argument : End → List ℕ → Argument
-port_argument end text =
-    option_map_or (parsed_as.Port end) (port_condition text)
-    (parsed_as.Rejected rejections.InvalidPortValue)
-
--- `address_argument end text`: what a condition on the address of this end is parsed as; any other
--- text is rejected
-abbrev pub address_argument : End → List ℕ → Argument
-address_argument end text =
-    option_map_or (parsed_as.Address end) (address_condition text)
-    (parsed_as.Rejected rejections.InvalidAddressValue)
-
 -- `letter_rejection letter`: the reason why letters are rejected, of which `first_rejected_letter`
 -- finds this one. f, h and V are options too, but f only as the last letter, and h and V only
 -- alone.
@@ -252,12 +230,18 @@ letters_argument argument =
     else option_map_or (λ letter. parsed_as.Rejected (letter_rejection letter))
     (first_rejected_letter (drop 1 argument)) (parsed_as.Letters (ends_in_f argument))
 
--- `valued_argument option value`: what the value of an option is parsed as
+-- `valued_argument option value`: what the value of an option is parsed as: the name of a family, of
+-- a state or of a group of states, or a condition on the port or the address of an end; any other
+-- text is rejected
 abbrev pub valued_argument : Valued → List ℕ → Argument
 valued_argument valued.Family value = family_argument rejections.UnknownFamilyValue value
-valued_argument valued.State value = state_argument value
-valued_argument (valued.Port end) value = port_argument end value
-valued_argument (valued.Address end) value = address_argument end value
+valued_argument valued.State value = option_map_or parsed_as.States (states_named value)
+    (parsed_as.Rejected rejections.UnknownStateValue)
+valued_argument (valued.Port end) value = option_map_or (parsed_as.Port end) (port_condition value)
+    (parsed_as.Rejected rejections.InvalidPortValue)
+valued_argument (valued.Address end) value =
+    option_map_or (parsed_as.Address end) (address_condition value)
+    (parsed_as.Rejected rejections.InvalidAddressValue)
 
 -- `named_value name value`: what the name of an option and its value are parsed as: rejected if
 -- there is no such option, or if it takes no value

@@ -12,18 +12,6 @@ pub record Listing : Type 0 where
   -- the exit status of the listing
   pub status : ℕ
 
--- `listing name status`: a capture of this name that was listed with this status
-abbrev pub listing : Option (List ℕ) → ℕ → Listing
-listing name status = record { name = name; status = status }
-
--- the name of a listed capture
-abbrev pub listing_name : Listing → Option (List ℕ)
-listing_name listed = listed.name
-
--- the exit status of a listed capture
-abbrev pub listing_status : Listing → ℕ
-listing_status listed = listed.status
-
 -- `files_from place arguments`: the names of files among these arguments, the first of which is at
 -- this place
 abbrev pub files_from : Place → List (List ℕ) → List (List ℕ)
@@ -64,5 +52,5 @@ AddsListing listed listed' one =
 -- and `status` is the last one of theirs that is not 0, or else 0.
 abbrev pub ListsAll : (List Listing → Type 0) → List (List ℕ) → ℕ → Type 0
 ListsAll listed arguments status = (listings : List Listing) × listed listings
-    × (map listing_name listings ≡ captures_in arguments)
-    × (status ≡ last_failure (map listing_status listings))
+    × (map (λ listing. listing.name) listings ≡ captures_in arguments)
+    × (status ≡ last_failure (map (λ listing. listing.status) listings))

@@ -1,10 +1,10 @@
 -- Conditions on the sockets that are listed: on their states, ports and addresses.
 use Rattle.std.specs.Prelude.{ℕ, ◌+◌, ◌-◌, ◌^◌, ◌==◌, ◌&&◌, ◌||◌, not, nat_le, nat_lt, Bool, true}
 use Rattle.std.specs.Prelude.{if◌then◌else◌, List, [], ◌∷◌, bit_and, bytes_eq, codes, drop, is_some}
-use Rattle.std.specs.Prelude.{length, map, nat_eq, take, Option, None, Some}
+use Rattle.std.specs.Prelude.{length, map, nat_eq, option_map, take, Option, None, Some}
 use Rattle.std.specs.Char.{to_ascii_lowercase}
 use Rattle.std.specs.List.{ends_with, starts_with}
-use Rattle.std.specs.Option.{option_map_or}
+use Rattle.std.specs.Option.{option_map_or, option_or}
 use Rattle.std.specs.declared.net.ip_addr.IpAddr.{IpAddr}
 use Rattle.sock_diag_records.specs.declared.constants.TheConstants.{TCP_CLOSE, TCP_CLOSE_WAIT}
 use Rattle.sock_diag_records.specs.declared.constants.TheConstants.{TCP_CLOSING, TCP_ESTABLISHED}
@@ -77,16 +77,10 @@ group_named name =
     then Some (all_states_except (TCP_SYN_RECV ∷ TCP_TIME_WAIT ∷ []))
     else None
 
--- `state_or_group state name`: the bit of the state; or, if there is no state (None), the set of
--- the group with this name
-abbrev pub state_or_group : Option ℕ → List ℕ → Option ℕ
-state_or_group (Some state) name = Some (state_bit state)
-state_or_group None name = group_named name
-
--- the set of the states with this name, a bit for each: one state, or a group; None if there is
+-- the set of the states with this name, a bit for each: one state, or else a group; None if there is
 -- none
 abbrev pub states_named : List ℕ → Option ℕ
-states_named name = state_or_group (state_named name) name
+states_named name = option_or (option_map state_bit (state_named name)) (group_named name)
 
 -- ---- ports
 
@@ -95,8 +89,7 @@ states_named name = state_or_group (state_named name) name
 abbrev pub port_range : Option ℕ → Option ℕ → Option PortCondition
 port_range (Some lowest) (Some highest) =
     if nat_le lowest highest then Some (record { lowest = lowest; highest = highest }) else None
-port_range None highest = None
-port_range (Some lowest) None = None
+port_range _ _ = None
 
 -- a range of ports by both of its ends: `N-M` is from N to M, and `N` from N to N; None for any
 -- other text; a hyphen is 45

@@ -1,5 +1,6 @@
 -- A long name means what its letter means alone.
-use Rattle.std.proofs.Common.{◌≡◌, ⊤, ℕ, List, [], ◌∷◌, None, rules}
+use Rattle.std.proofs.Common.{◌≡◌, ℕ, List, [], ◌∷◌, None, rules}
+use Rattle.std.specs.Prelude.{⊤}
 use Rattle.std.specs.List.{AllByRecursion}
 use Rattle.sslist_lister.specs.command_line.Choice.{first_deciding_argument, last_place}
 use Rattle.sslist_lister.specs.command_line.Choice.{flag_argument, flags, options_after}

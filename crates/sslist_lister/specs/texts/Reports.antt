@@ -1,7 +1,7 @@
 -- Output on standard error: diagnostics of packets, and the line that names a failure. Texts are
 -- lists of bytes. `front` is the prefix of each line, and 10 is a line feed.
 use Rattle.std.specs.Prelude.{◌≡◌, ℕ, nat_lt, if◌then◌else◌, Bool, true, false, List, [], ◌∷◌, ◌++◌}
-use Rattle.std.specs.Prelude.{codes, decimal, Option}
+use Rattle.std.specs.Prelude.{codes, decimal, Option, Result, Ok, Err}
 use Rattle.std.specs.Io.KnownBytes.{Appends}
 use Rattle.netlink_captures.specs.ErrorText.{capture_error_text}
 use Rattle.program_streams.specs.Streams.{os_error_end, write_error_text}
@@ -56,6 +56,12 @@ abbrev pub closing_line : List ℕ → ListError → List ℕ
 closing_line front (errors.Write Closed) = []
 closing_line front error = front ++ list_error_text error ++ 10 ∷ []
 
+-- `closing_text front outcome`: the line that names the failure of a run; nothing if the run did not
+-- fail
+abbrev pub closing_text : List ℕ → Result Bool ListError → List ℕ
+closing_text front (Ok is_whole) = []
+closing_text front (Err error) = closing_line front error
+
 -- ---- output on a writer: `held` and `held'` are the bytes written before and after, if known
 
 -- `ReportsText held held' failed text is_open`: if `is_open` is true, the text was written, and no
@@ -65,22 +71,6 @@ abbrev pub ReportsText : Option (List ℕ) → Option (List ℕ) → Type 0 → 
 ReportsText held held' failed text true = Appends held held' text
 ReportsText held held' failed text false =
     (sent more : List ℕ) × (text ≡ sent ++ more) × Appends held held' sent × failed
-
--- `WritesPrefix held held' text`: a prefix of the text was written, perhaps all of it
-abbrev pub WritesPrefix : Option (List ℕ) → Option (List ℕ) → List ℕ → Type 0
-WritesPrefix held held' text =
-    (sent more : List ℕ) × (text ≡ sent ++ more) × Appends held held' sent
-
--- `ReportsMore held failed is_open held' failed' is_open' text`: reporting one more text leads from
--- the first state to the second. A state is the bytes written (`held`), that a write failed
--- (`failed`), and a flag that is true as long as none did (`is_open`). For all bytes `start` and
--- texts `before`: if `before` was reported from `start` to the first state, then `before ++ text`
--- is from `start` to the second.
-abbrev pub ReportsMore : Option (List ℕ) → Type 0 → Bool → Option (List ℕ) → Type 0 → Bool
-    → List ℕ → Type 0
-ReportsMore held failed is_open held' failed' is_open' text =
-    (start : Option (List ℕ)) → (before : List ℕ) → ReportsText start held failed before is_open
-    → ReportsText start held' failed' (before ++ text) is_open'
 
 -- a state of standard error and of the flag that is true as long as no write failed
 pub record ErrorOutput : Type 1 where
@@ -101,9 +91,13 @@ error_output held failed is_open = record {
   is_open = is_open;
 }
 
--- `Reports before after text`: reporting this text led from the one state to the other
--- (`ReportsMore`). While `is_open` holds, the text is written; or a prefix of it, and then a write
--- fails, and `is_open` is cleared. After that nothing is written.
+-- `Reports before after text`: reporting this text led from the one state to the other: for all
+-- bytes `start` and texts `reported`, if `reported` was reported from `start` to the first state,
+-- then `reported ++ text` is from `start` to the second. So while `is_open` holds, the text is
+-- written; or a prefix of it, and then a write fails, and `is_open` is cleared. After that nothing
+-- is written.
 abbrev pub Reports : ErrorOutput → ErrorOutput → List ℕ → Type 0
 Reports before after text =
-    ReportsMore before.held before.failed before.is_open after.held after.failed after.is_open text
+    (start : Option (List ℕ)) → (reported : List ℕ)
+    → ReportsText start before.held before.failed reported before.is_open
+    → ReportsText start after.held after.failed (reported ++ text) after.is_open

@@ -2,7 +2,7 @@
 
 ghost use Rattle.std.specs.Prelude.{◌≡◌, map};
 ghost use Rattle.sslist_lister.specs.command_line.Choice.{named_row, value_of};
-ghost use Rattle.sslist_lister.specs.command_line.Choice.{address_argument, argument_at, ends_in_f};
+ghost use Rattle.sslist_lister.specs.command_line.Choice.{argument_at, ends_in_f};
 ghost use Rattle.sslist_lister.specs.command_line.Choice.{family_argument, family_named};
 ghost use Rattle.sslist_lister.specs.command_line.Choice.{first_rejected_letter};
 ghost use Rattle.sslist_lister.specs.command_line.Choice.{first_unknown_letter, flag_argument};
@@ -10,7 +10,6 @@ ghost use Rattle.sslist_lister.specs.command_line.Choice.{is_file, letter_reject
 ghost use Rattle.sslist_lister.specs.command_line.Choice.{letters_argument, listening_after};
 ghost use Rattle.sslist_lister.specs.command_line.Choice.{long_argument, named_value, names_file};
 ghost use Rattle.sslist_lister.specs.command_line.Choice.{next_place, option_argument};
-ghost use Rattle.sslist_lister.specs.command_line.Choice.{port_argument, state_argument};
 ghost use Rattle.sslist_lister.specs.command_line.Choice.{valued_argument, valued_option};
 ghost use Rattle.sslist_lister.specs.command_line.Choice.{with_argument, with_details};
 ghost use Rattle.sslist_lister.specs.command_line.Choice.{with_end_address, with_end_port};
@@ -236,48 +235,25 @@ fn named_value(name: &[u8], value: &[u8]) -> Argument
     }
 }
 
-/// Parses the value of an option.
+/// Parses the value of an option: the name of a family, of a state or of a group of states, or a
+/// condition on the port or the address of an end. Any other text is rejected.
 fn valued_argument(option: Valued, value: &[u8]) -> Argument
     ensures { result ≡ valued_argument option value.now }
 {
     match option {
         Valued::Family => family_argument(Rejection::UnknownFamilyValue, value),
-        Valued::State => state_argument(value),
-        Valued::Port(end) => port_argument(end, value),
-        Valued::Address(end) => address_argument(end, value),
-    }
-}
-
-/// Parses the value of `--state=`, the name of a state or of a group of states. Any other text is
-/// rejected.
-fn state_argument(name: &[u8]) -> Argument
-    ensures { result ≡ state_argument name.now }
-{
-    match states_named(name) {
-        Some(states) => Argument::States(states),
-        None => Argument::Rejected(Rejection::UnknownStateValue),
-    }
-}
-
-/// Parses the value of `--sport=` or `--dport=`, a condition on the port of this end. Any other
-/// text is rejected.
-fn port_argument(end: End, text: &[u8]) -> Argument
-    ensures { result ≡ port_argument end text.now }
-{
-    match port_condition(text) {
-        Some(condition) => Argument::Port(end, condition),
-        None => Argument::Rejected(Rejection::InvalidPortValue),
-    }
-}
-
-/// Parses the value of `--src=` or `--dst=`, a condition on the address of this end. Any other text
-/// is rejected.
-fn address_argument(end: End, text: &[u8]) -> Argument
-    ensures { result ≡ address_argument end text.now }
-{
-    match address_condition(text) {
-        Some(condition) => Argument::Address(end, condition),
-        None => Argument::Rejected(Rejection::InvalidAddressValue),
+        Valued::State => match states_named(value) {
+            Some(states) => Argument::States(states),
+            None => Argument::Rejected(Rejection::UnknownStateValue),
+        },
+        Valued::Port(end) => match port_condition(value) {
+            Some(condition) => Argument::Port(end, condition),
+            None => Argument::Rejected(Rejection::InvalidPortValue),
+        },
+        Valued::Address(end) => match address_condition(value) {
+            Some(condition) => Argument::Address(end, condition),
+            None => Argument::Rejected(Rejection::InvalidAddressValue),
+        },
     }
 }
 

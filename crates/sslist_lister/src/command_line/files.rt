@@ -5,7 +5,6 @@ ghost use Rattle.std.specs.Prelude.{string_bytes};
 ghost use Rattle.std.specs.Process.{exit_status};
 ghost use Rattle.sslist_lister.specs.command_line.Files.{AddsListing, Listing, ListsAll};
 ghost use Rattle.sslist_lister.specs.command_line.Files.{capture_named, captures_in, later_failure};
-ghost use Rattle.sslist_lister.specs.command_line.Files.{listing};
 
 use crate::command_line::arguments::{Place, argument_at};
 use std::process::ExitCode;
@@ -20,10 +19,11 @@ pub trait ListCapture {
     /// (`None`). Returns the exit status.
     fn list_capture(&mut self, name: Option<&str>) -> ExitCode
         // `AddsListing listed listed' one`: the capture `one` was listed after those that were
-        // listed before. `listing name status`: the capture of this name, with this status.
-        // `file.now`: the bytes of the name.
-        ensures { AddsListing (listed self.old) (listed self.new)
-            (listing (option_map (λ file. file.now) name.entry) (exit_status result)) };
+        // listed before. `file.now`: the bytes of the name.
+        ensures { AddsListing (listed self.old) (listed self.new) (record {
+          name = option_map (λ file. file.now) name.entry;
+          status = exit_status result;
+        }) };
 }
 
 /// Lists the captures in the files that the arguments name, in order, or the one on standard input

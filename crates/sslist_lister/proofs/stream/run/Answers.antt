@@ -10,7 +10,7 @@ use Rattle.netlink_captures.specs.Capture.{CapturedPacket, captured_packet}
 use Rattle.netlink_captures.specs.Reader.{CaptureState, ReadsPacket, state_of}
 use Rattle.netlink_captures.specs.declared.captures.PacketHeader.{PacketHeader}
 use Rattle.sslist_lister.specs.declared.command_line.options.Options.{Options}
-use Rattle.sslist_lister.specs.texts.Reports.{ReportsMore}
+use Rattle.sslist_lister.proofs.Reporting.{ReportsMore}
 use Rattle.sslist_lister.specs.Diagnostics.{DiagnosesPacket}
 use Rattle.sslist_lister.specs.Listing.{ListsCapturedPacket, requests_after_packet}
 use Rattle.sslist_lister.specs.Run.{IsListed, lines_of_packet}
