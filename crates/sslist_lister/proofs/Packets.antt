@@ -31,7 +31,7 @@ by_comparison true false m n compared same =
     absurd (let above = le-leb m n (same.0 refl) in cc)
 by_comparison false false m n compared same = refl
 
--- A packet is complete (`is_complete`) if and only if it was not truncated.
+-- A packet is complete if and only if it was not truncated.
 pub complete_if_not_truncated : (whole : Bool) (m n : ℕ) → (IsTrue whole ↔ (m ≤ n))
     → whole ≡ nat_le m n
 complete_if_not_truncated whole m n same = by_comparison whole (nat_le m n) m n refl same

@@ -13,9 +13,16 @@ use Rattle.netlink_captures.specs.Reader.{CaptureState, ReadsPacket}
 use Rattle.sslist_lister.specs.declared.command_line.options.Options.{Options}
 use Rattle.sslist_lister.specs.Diagnostics.{AreDiagnosed, DiagnosesPacket}
 use Rattle.sslist_lister.specs.Listing.{requests_after_packet}
-use Rattle.sslist_lister.specs.Run.{AreListed, ArePackets, IsListed, IsListedCompletely}
-use Rattle.sslist_lister.specs.Run.{ListedPacket, lines_of_packet}
+use Rattle.sslist_lister.specs.Run.{AreListed, ArePackets, IsListed, ListedPacket}
 use Rattle.sslist_lister.specs.Requests.{PastRequests, no_requests}
+
+-- the lines of a listed packet
+abbrev pub lines_of_packet : ListedPacket → List ℕ
+lines_of_packet listing = listing.lines
+
+-- the packet was listed completely
+abbrev pub IsListedCompletely : ListedPacket → Type 0
+IsListedCompletely listing = IsTrue listing.whole
 
 pub not_both : (b : Bool) → b ≡ false → b ≡ true → ⊥
 not_both b is_false is_true = cc

@@ -211,16 +211,13 @@ DiagnosesContent front packet whole bytes before after =
     × (after ≡ before
     ++ (if nat_lt (length bytes) 16 then short_line_if_whole front packet whole else [])))
 
--- the packet has at least as many bytes as its original length: it was not truncated
-abbrev pub is_complete : CapturedPacket → Bool
-is_complete packet = nat_le packet.header.whole_length (length packet.bytes)
-
 -- `DiagnosesPacket front number packet before after`: the text `after` is the text `before` and the
 -- lines about the packet, whose number is `number`. If it was truncated, the first line says so.
 -- The lines about its bytes follow.
 abbrev pub DiagnosesPacket : List ℕ → ℕ → CapturedPacket → List ℕ → List ℕ → Type 0
 DiagnosesPacket front number packet before after =
-    DiagnosesContent front number (is_complete packet) packet.bytes
+    DiagnosesContent front number (nat_le packet.header.whole_length (length packet.bytes))
+    packet.bytes
     (before ++ truncation_line front number (length packet.bytes) packet.header.whole_length) after
 
 -- `AreDiagnosed front number packets lines`: `lines` are the lines about consecutive packets, of

@@ -25,14 +25,6 @@ pub record ListedPacket : Type 0 where
   -- the packet was listed completely
   pub whole : Bool
 
--- the lines of a listed packet
-abbrev pub lines_of_packet : ListedPacket → List ℕ
-lines_of_packet listing = listing.lines
-
--- the packet was listed completely
-abbrev pub IsListedCompletely : ListedPacket → Type 0
-IsListedCompletely listing = IsTrue listing.whole
-
 -- `IsListed o past packet listing`: `listing` has the lines of the packet, and whether it was
 -- listed completely. `past` are the requests before this packet. No text precedes the lines (`[]`).
 abbrev pub IsListed : Options → PastRequests → CapturedPacket → ListedPacket → Type 0
@@ -42,11 +34,10 @@ IsListed o past packet listing = ListsCapturedPacket o past packet [] listing.li
 -- order. `past` are the requests before the first of them.
 abbrev pub AreListed : Options → PastRequests → List CapturedPacket → List ListedPacket → Type 0
 AreListed o past [] [] = ⊤
-AreListed o past [] (listing ∷ later) = ⊥
-AreListed o past (packet ∷ packets) [] = ⊥
 AreListed o past (packet ∷ packets) (listing ∷ later) =
     IsListed o past packet listing
     × AreListed o (requests_after_packet past packet.bytes) packets later
+AreListed o past _ _ = ⊥
 
 -- `ArePackets s bytes packets s'`: the bytes lead from the state `s` of a reader to `s'`, over
 -- these packets, one after another (`ReadsPacket`)
@@ -79,10 +70,10 @@ pub record IsTableOfCapture (o : Options) (front bytes lines diagnostics : List 
   pub are_packets : ArePackets start records packets state
   -- no request precedes the first packet
   pub listed : AreListed o no_requests packets listings
-  pub written : lines ≡ flat_map lines_of_packet listings
+  pub written : lines ≡ flat_map (λ listing. listing.lines) listings
   -- the first packet has the number 1
   pub diagnosed : AreDiagnosed front 1 packets diagnostics
-  pub whole : IsTrue is_whole ↔ AllByRecursion IsListedCompletely listings
+  pub whole : IsTrue is_whole ↔ AllByRecursion (λ listing. IsTrue listing.whole) listings
 
 -- The parameters describe a run: its options `o`; the bytes that are left to read (`left` before
 -- the run, `left'` after it) and the bytes written (`held` and `held'`), each if known; the heading

@@ -6,3 +6,4 @@ pub mod EqualOptions
 pub mod LongNames
 pub mod EqualListError
 pub mod MemberTokens
+pub mod Constants

@@ -1,6 +1,7 @@
 -- Cells of a line of the table. Texts are lists of ASCII codes.
 use Rattle.std.specs.Prelude.{ℕ, ◌==◌, if◌then◌else◌, Bool, List, [], ◌∷◌, ◌++◌, codes, decimal}
-use Rattle.std.specs.Prelude.{length, Option, None, Some, slice_get, unwrap_or}
+use Rattle.std.specs.Prelude.{length, Option, slice_get, unwrap_or}
+use Rattle.std.specs.Option.{option_map_or}
 use Rattle.std.specs.declared.net.ip_addr.IpAddr.{IpAddr}
 use Rattle.std.specs.declared.net.ip_addr.IpAddr.TheVariants.{V4, V6}
 use Rattle.std.specs.Net.Text.{ip_text, scope_text}
@@ -16,8 +17,7 @@ column width content = content ++ column_padding width (length content)
 
 -- a number in decimal, or `-` for None
 abbrev pub number_cell : Option ℕ → List ℕ
-number_cell None = codes "-"
-number_cell (Some n) = decimal n
+number_cell number = option_map_or decimal number (codes "-")
 
 -- the names of the socket states 0 to 11 as ss(8) prints them, in the order of the kernel's numbers
 abbrev pub state_names : List (List ℕ)
@@ -32,8 +32,7 @@ state_name state = unwrap_or (slice_get state_names state) (codes "UNKNOWN")
 
 -- a number in decimal, such as the inode of a UNIX socket's peer, or `*` for None
 abbrev pub number_or_star : Option ℕ → List ℕ
-number_or_star None = codes "*"
-number_or_star (Some n) = decimal n
+number_or_star number = option_map_or decimal number (codes "*")
 
 -- an address, in brackets (91 and 93) if it is an IPv6 address
 abbrev pub bracketed_address : IpAddr → List ℕ

@@ -20,12 +20,3 @@ items_tokens items = flat_map json_tokens items
 -- the writer's first token (`before`) are unchanged.
 abbrev pub KeepsPrefix : {E : Type 0} → Result (Unit {0}) E → Written → Written → Type 0
 KeepsPrefix result old new = OnOk result (new.before ≡ old.before)
-
--- `AddsTokens result old new tokens`: unless an allocation failed, these tokens were appended.
-abbrev pub AddsTokens : {E : Type 0} → Result (Unit {0}) E → Written → Written → List Token → Type 0
-AddsTokens result old new tokens = OnOk result (new.tokens ≡ old.tokens ++ tokens)
-
--- `AddsMembers result old new members`: unless an allocation failed, these members were appended.
-abbrev pub AddsMembers : {E : Type 0} → Result (Unit {0}) E → Written → Written → List JsonMember
-    → Type 0
-AddsMembers result old new members = AddsTokens result old new (members_tokens members)

@@ -1,7 +1,7 @@
 //! Members of JSON objects. A function of this module appends to a writer. If it fails, an
 //! allocation failed, and the content of the writer is not specified. If it succeeds, the bytes
-//! before the first token of the writer are unchanged (`KeepsPrefix`), and the last argument of
-//! `AddsTokens` or `AddsMembers`, tokens or members, was appended.
+//! before the first token of the writer are unchanged (`KeepsPrefix`), and tokens were appended,
+//! such as those of members (`members_tokens`).
 
 ghost use Rattle.std.specs.Prelude.{◌≡◌, ◌∷◌, [], ◌++◌, OnOk, map, false, codes, decimal, flat_map};
 ghost use Rattle.std.specs.Fmt.{digits};
@@ -12,7 +12,7 @@ ghost use Rattle.sslist_lister.specs.texts.JsonData.{flag_member, hex_member};
 ghost use Rattle.sslist_lister.specs.texts.JsonData.{number_members};
 ghost use Rattle.sslist_lister.specs.texts.JsonData.{numbers_member, object_member};
 ghost use Rattle.sslist_lister.specs.texts.JsonData.{optional_member, text_member};
-ghost use Rattle.sslist_lister.specs.texts.JsonWriting.{AddsMembers, AddsTokens, KeepsPrefix};
+ghost use Rattle.sslist_lister.specs.texts.JsonWriting.{KeepsPrefix, members_tokens};
 
 use byteorder::{ByteOrder, LittleEndian};
 use json::Writer;
@@ -22,7 +22,8 @@ use std::net::IpAddr;
 /// Writes the name of a member whose value is an object, and begins the object.
 pub(crate) fn begin_member(writer: &mut Writer, name: &str) -> Result<(), AllocError>
     ensures prefix { KeepsPrefix result writer.old writer.new }
-    ensures tokens { AddsTokens result writer.old writer.new (key name.now ∷ begin_object ∷ []) }
+    ensures tokens { OnOk result (writer.new.tokens ≡ writer.old.tokens
+        ++ key name.now ∷ begin_object ∷ []) }
 {
     writer.key(name)?;
     writer.begin_object()
@@ -32,7 +33,8 @@ pub(crate) fn begin_member(writer: &mut Writer, name: &str) -> Result<(), AllocE
 #[tactic(auto, using(crate::proofs::JsonWriting::plain_member_rules))]
 pub(crate) fn write_text(writer: &mut Writer, name: &str, text: &str) -> Result<(), AllocError>
     ensures prefix { KeepsPrefix result writer.old writer.new }
-    ensures members { AddsMembers result writer.old writer.new (text_member name.now text.now) }
+    ensures members { OnOk result (writer.new.tokens ≡ writer.old.tokens
+        ++ members_tokens (text_member name.now text.now)) }
 {
     writer.key(name)?;
     writer.string(text)
@@ -42,8 +44,8 @@ pub(crate) fn write_text(writer: &mut Writer, name: &str, text: &str) -> Result<
 pub(crate) fn write_numbers(writer: &mut Writer, rows: &[(&str, u64)]) -> Result<(), AllocError>
     ensures prefix { KeepsPrefix result writer.old writer.new }
     // `number_members`: a member for each row, with the name `row.0` and the number `row.1`.
-    ensures members { AddsMembers result writer.old writer.new
-        (number_members (map (λ row. (row.0.now, row.1)) rows.now)) }
+    ensures members { OnOk result (writer.new.tokens ≡ writer.old.tokens
+        ++ members_tokens (number_members (map (λ row. (row.0.now, row.1)) rows.now))) }
 {
     write_rows(writer, rows)
 }
@@ -52,8 +54,8 @@ pub(crate) fn write_numbers(writer: &mut Writer, rows: &[(&str, u64)]) -> Result
 fn write_rows(writer: &mut Writer, rows: &[(&str, u64)]) -> Result<(), AllocError>
     ensures prefix { KeepsPrefix result writer.old writer.new }
     // For each row, the token of its name `row.0`, and that of its number `row.1` in decimal.
-    ensures tokens { AddsTokens result writer.old writer.new
-        (flat_map (λ row. key row.0.now ∷ number (decimal row.1) ∷ []) rows.now) }
+    ensures tokens { OnOk result (writer.new.tokens ≡ writer.old.tokens
+        ++ flat_map (λ row. key row.0.now ∷ number (decimal row.1) ∷ []) rows.now) }
 {
     for &(name, value) in rows {
         writer.key(name)?;
@@ -70,7 +72,8 @@ pub(crate) fn write_optional(
     value: Option<u64>,
 ) -> Result<(), AllocError>
     ensures prefix { KeepsPrefix result writer.old writer.new }
-    ensures members { AddsMembers result writer.old writer.new (optional_member name.now value) }
+    ensures members { OnOk result (writer.new.tokens ≡ writer.old.tokens
+        ++ members_tokens (optional_member name.now value)) }
 {
     let Some(value) = value else {
         return Ok(());
@@ -83,7 +86,8 @@ pub(crate) fn write_optional(
 #[tactic(auto, using(crate::proofs::JsonWriting::plain_member_rules))]
 pub(crate) fn write_flag(writer: &mut Writer, name: &str, flag: bool) -> Result<(), AllocError>
     ensures prefix { KeepsPrefix result writer.old writer.new }
-    ensures members { AddsMembers result writer.old writer.new (flag_member name.now flag) }
+    ensures members { OnOk result (writer.new.tokens ≡ writer.old.tokens
+        ++ members_tokens (flag_member name.now flag)) }
 {
     writer.key(name)?;
     writer.boolean(flag)
@@ -97,7 +101,8 @@ pub(crate) fn write_hex(
     value: u64,
 ) -> Result<(), AllocError>
     ensures prefix { KeepsPrefix result writer.old writer.new }
-    ensures members { AddsMembers result writer.old writer.new (hex_member name.now value) }
+    ensures members { OnOk result (writer.new.tokens ≡ writer.old.tokens
+        ++ members_tokens (hex_member name.now value)) }
 {
     let text = format!(in alloc; "{value:x}")?;
     write_text(writer, name, text.as_str())
@@ -111,7 +116,8 @@ pub(crate) fn write_cookie(
     cookie: &[u8; 8],
 ) -> Result<(), AllocError>
     ensures prefix { KeepsPrefix result writer.old writer.new }
-    ensures members { AddsMembers result writer.old writer.new (cookie_member cookie.now) }
+    ensures members { OnOk result (writer.new.tokens ≡ writer.old.tokens
+        ++ members_tokens (cookie_member cookie.now)) }
 {
     write_hex(alloc, writer, "cookie", LittleEndian::read_u64(cookie))
 }
@@ -124,7 +130,8 @@ pub(crate) fn write_address(
     address: IpAddr,
 ) -> Result<(), AllocError>
     ensures prefix { KeepsPrefix result writer.old writer.new }
-    ensures members { AddsMembers result writer.old writer.new (address_member name.now address) }
+    ensures members { OnOk result (writer.new.tokens ≡ writer.old.tokens
+        ++ members_tokens (address_member name.now address)) }
 {
     let text = format!(in alloc; "{address}")?;
     write_text(writer, name, text.as_str())
@@ -141,8 +148,8 @@ pub(crate) fn write_bytes(
     bytes: &[u8],
 ) -> Result<(), AllocError>
     ensures prefix { KeepsPrefix result writer.old writer.new }
-    ensures members { AddsMembers result writer.old writer.new
-        (bytes_member name.now hex_name.now bytes.now) }
+    ensures members { OnOk result (writer.new.tokens ≡ writer.old.tokens
+        ++ members_tokens (bytes_member name.now hex_name.now bytes.now)) }
 {
     match str::from_utf8(bytes) {
         Ok(text) => write_text(writer, name, text),
