@@ -3,7 +3,8 @@
 -- lists of ASCII codes: 44 is a comma, 47 a slash, 58 a colon, 61 an equals sign.
 use Rattle.std.specs.Prelude.{ℕ, zero, suc, ◌==◌, ◌&&◌, ◌/◌, ◌%◌, nat_le, if◌then◌else◌, Bool, List}
 use Rattle.std.specs.Prelude.{[], ◌∷◌, ◌++◌, codes, decimal, drop, flat_map, length, map, Option}
-use Rattle.std.specs.Prelude.{None, Some, Ok}
+use Rattle.std.specs.Prelude.{Some, Ok}
+use Rattle.std.specs.Option.{option_map_or}
 use Rattle.std.specs.Net.Text.{ip_text}
 use Rattle.std.specs.declared.net.ip_addr.IpAddr.{IpAddr}
 use Rattle.hex.specs.Hex.{encode_lower}
@@ -41,8 +42,7 @@ key_byte byte = if byte == 44 then byte_digits byte else escaped_byte byte
 
 -- the address of the peers of a key, or `*` if the family has none (None)
 abbrev pub peer_text : Option IpAddr → List ℕ
-peer_text None = codes "*"
-peer_text (Some ip) = ip_text ip
+peer_text ip = option_map_or ip_text ip (codes "*")
 
 -- the text of a key: the address of the peers, a slash, the length of the prefix, an equals sign,
 -- and the bytes of the key. Example: `192.0.2.0/24=secret`.
@@ -60,8 +60,7 @@ md5_keys_text separator (k ∷ later) = separator ∷ md5_key_text k ++ md5_keys
 
 -- the member with the address of the peers of a key; no member if the family has none (None)
 unfoldable pub peer_member : Option IpAddr → List JsonMember
-peer_member None = []
-peer_member (Some ip) = address_member (codes "addr") ip
+peer_member ip = option_map_or (address_member (codes "addr")) ip []
 
 -- the members of a key; `key` has the bytes that are used, in lowercase hexadecimal digits
 unfoldable pub md5_key_members : Md5Signature → List JsonMember

@@ -36,16 +36,12 @@ abbrev pub nested_value : ℕ → List ℕ → Option (List ℕ)
 nested_value kind bytes =
     option_map (λ a. a.value) (first_of_kind kind (pieces_in bytes))
 
--- `number_of_length width value`: a value of `width` bytes as a little-endian number, or None for
--- any other length
-abbrev pub number_of_length : ℕ → List ℕ → Option ℕ
-number_of_length width value =
-    if length value == width then Some (little_number width value) else None
-
--- `nested_number row bytes`: the number in the first attribute of the type `row.0` in the bytes;
--- None if there is none, or if its value does not have `row.1` bytes
+-- `nested_number (kind, width) bytes`: the little-endian number in the first attribute of this type
+-- in the bytes; None if there is none, or if its value does not have `width` bytes
 abbrev pub nested_number : ℕ × ℕ → List ℕ → Option ℕ
-nested_number row bytes = option_and_then (number_of_length row.1) (nested_value row.0 bytes)
+nested_number (kind, width) bytes = option_and_then
+    (λ value. if length value == width then Some (little_number width value) else None)
+    (nested_value kind bytes)
 
 -- `ulp_number bytes field`: the number of a field in the nested attributes `bytes`; None if they do
 -- not have it

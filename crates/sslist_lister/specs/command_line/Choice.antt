@@ -301,9 +301,8 @@ parsed_arguments place (argument ∷ later) =
 -- `last_place place arguments`: the place after all these arguments, the first of which is at
 -- `place`
 abbrev pub last_place : Place → List (List ℕ) → Place
-last_place place [] = place
-last_place place (argument ∷ later) =
-    last_place (next_place place (argument_at place argument)) later
+last_place place arguments =
+    fold (λ here argument. next_place here (argument_at here argument)) place arguments
 
 -- the argument alone decides what the program does
 abbrev pub decides : Argument → Bool
