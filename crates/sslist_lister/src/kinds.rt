@@ -1,4 +1,4 @@
-//! Names of kinds of sockets, and of reasons why a value is invalid. The table and the lines of
+//! Names in the column Netid, and of reasons why a value is invalid. The table and the lines of
 //! JSON have the same names.
 
 ghost use Rattle.std.specs.Prelude.{◌≡◌};
@@ -22,7 +22,7 @@ const IPPROTO_UDPLITE: u32 = 136;
 /// The number of raw sockets in a request, `IPPROTO_RAW` of linux/in.h.
 const IPPROTO_RAW: u32 = 255;
 
-/// Returns the kind of a UNIX socket, by its type `SOCK_..`, as ss(8) prints it.
+/// Returns the column Netid of a UNIX socket, by its type `SOCK_..`, as ss(8) prints it.
 pub(crate) fn name_of_unix_kind(kind: u8) -> &'static str
     ensures { result.now ≡ unix_kind kind }
 {
@@ -59,7 +59,7 @@ pub(crate) fn name_of_inet_family(family: u8) -> &'static str
     if family == AF_INET6 { "inet6" } else { "inet" }
 }
 
-/// Returns the kind of a netlink, packet, vsock or XDP socket, by its family and its type
+/// Returns the column Netid of a netlink, packet, vsock or XDP socket, by its family and its type
 /// `SOCK_..`, as ss(8) prints it.
 pub(crate) fn name_of_other_kind(family: Family, kind: u8) -> &'static str
     ensures { result.now ≡ other_kind family kind }
@@ -73,7 +73,7 @@ pub(crate) fn name_of_other_kind(family: Family, kind: u8) -> &'static str
     }
 }
 
-/// Returns the kind of a vsock socket, by its type `SOCK_..`, as ss(8) prints it.
+/// Returns the column Netid of a vsock socket, by its type `SOCK_..`, as ss(8) prints it.
 fn name_of_vsock_kind(kind: u8) -> &'static str
     ensures { result.now ≡ vsock_kind kind }
 {
