@@ -5,8 +5,8 @@ use Rattle.std.specs.Prelude.{Option}
 use Rattle.std.specs.Io.KnownBytes.{Consumes}
 use Rattle.std.proofs.KnownBytes.{Consumes-trans}
 use Rattle.program_streams.specs.declared.streams.ReadError.{ReadError}
-use Rattle.netlink_captures.specs.Capture.{IsPacketStop, captured_length}
-use Rattle.netlink_captures.specs.private.Capture.{IsReadStop}
+use Rattle.netlink_captures.specs.Capture.{IsInputStop, IsPacketStop, captured_length}
+use Rattle.netlink_captures.specs.Capture.{stopped_input}
 use Rattle.netlink_captures.specs.declared.captures.CaptureError.{CaptureError}
 use Rattle.netlink_captures.specs.declared.captures.CaptureError.TheVariants.{Memory}
 use Rattle.netlink_captures.specs.declared.captures.FileHeader.{FileHeader}
@@ -14,10 +14,9 @@ use Rattle.netlink_captures.specs.declared.captures.FileHeader.{FileHeader}
 stop_within_packet : (file : FileHeader) (left : Option (List ℕ)) (failed : ReadError → Type 0)
     (header part : List ℕ) (e : CaptureError)
     → length header ≡ 16 → length part < captured_length file header
-    → IsReadStop left failed e
-    → IsPacketStop file left failed (header ++ part) e
-stop_within_packet file left failed header part e long short stop =
-    grind arith
+    → IsInputStop (stopped_input left failed part) e
+    → IsPacketStop file (stopped_input left failed (header ++ part)) e
+stop_within_packet file left failed header part e long short stop = grind arith
 
 -- A stop after a packet header, while its packet is read, is a reason why no packet was read.
 pub packet_stops : (file : FileHeader) (a b c : Option (List ℕ)) (failed : ReadError → Type 0)
@@ -25,16 +24,15 @@ pub packet_stops : (file : FileHeader) (a b c : Option (List ℕ)) (failed : Rea
     → length header ≡ 16 → captured_length file header ≤ 262144 → Consumes a b header
     → ((part : List ℕ) × Consumes b c part
     × (((e ≡ Memory) × (part ≡ [])) ⊎ ((length part < captured_length file header)
-    × IsReadStop c failed e)))
-    → (part : List ℕ) × Consumes a c part × IsPacketStop file c failed part e
+    × IsInputStop (stopped_input c failed part) e)))
+    → (part : List ℕ) × Consumes a c part × IsPacketStop file (stopped_input c failed part) e
 packet_stops file a b c failed header e long most first (part, read, stop) = elim stop [
   | inl m ↦
       let whole : Consumes a c header = subst (Consumes a c) (ap (λ (p : List ℕ). header ++ p) m.1
       ∙ append-nil header) (Consumes-trans a b c header part first read) in (
         header,
         whole,
-        subst (λ (e : CaptureError). IsPacketStop file c failed header e) (sym m.0)
-            (long, most),
+        subst (IsPacketStop file (stopped_input c failed header)) (sym m.0) (long, most),
       )
   | inr s ↦ (
     header ++ part,

@@ -1,7 +1,7 @@
 -- Lemmas about blocks of pcapng files.
 use Rattle.std.proofs.Common.{◌≡◌, ℕ, zero, suc, ◌+◌, ◌-◌, ◌<◌, ◌≤◌, List, [], ◌∷◌, ◌++◌, length}
-use Rattle.std.proofs.Common.{inl, inr, true, false, length-append, drop, refl, sym, ap, subst, ◌∙◌}
-use Rattle.std.proofs.Common.{append-nil, arith, length-drop}
+use Rattle.std.proofs.Common.{◌⊎◌, inl, inr, true, false, length-append, drop, refl, sym, ap, subst}
+use Rattle.std.proofs.Common.{◌∙◌, append-nil, arith, length-drop}
 use Rattle.std.proofs.lemmas.Bool.Decides.{nat_tests}
 use Rattle.std.specs.Prelude.{◌≢◌, ◌==◌, ◌^◌, MatchOption, Option, None, Some, Result, Ok, Err}
 use Rattle.std.proofs.lemmas.List.{drop-append-le}
@@ -10,21 +10,20 @@ use Rattle.std.proofs.lemmas.List.Folds.{concat-append}
 use Rattle.byteorder.specs.Endian.{little_from, big_from}
 use Rattle.byteorder.specs.Numbers.{little_from-append, big_from-append}
 use Rattle.program_streams.specs.declared.streams.ReadError.{ReadError}
-use Rattle.netlink_captures.specs.Capture.{number_at_offset}
+use Rattle.netlink_captures.specs.Capture.{IsInputStop, number_at_offset, stopped_input}
 use Rattle.netlink_captures.specs.declared.captures.ByteOrder.{ByteOrder}
 use Rattle.netlink_captures.specs.declared.captures.ByteOrder.TheVariants.{LittleEndian, BigEndian}
 use Rattle.netlink_captures.specs.declared.block_error.BlockError.TheVariants.{Options}
 use Rattle.netlink_captures.specs.declared.captures.CaptureError.{CaptureError}
-use Rattle.netlink_captures.specs.declared.captures.CaptureError.TheVariants.{Truncated}
+use Rattle.netlink_captures.specs.declared.captures.CaptureError.TheVariants.{Memory}
 use Rattle.netlink_captures.specs.declared.captures.TimeUnit.TheVariants.{Microseconds}
 use Rattle.netlink_captures.specs.declared.pcapng.Content.{Content}
 use Rattle.netlink_captures.specs.declared.pcapng.Content.TheVariants.{Captured, Described}
 use Rattle.netlink_captures.specs.declared.pcapng.Content.TheVariants.{SectionHeader, Skipped}
 use Rattle.netlink_captures.specs.declared.pcapng.PacketSlot.{PacketSlot}
-use Rattle.netlink_captures.specs.private.Capture.{IsReadStop}
-use Rattle.netlink_captures.specs.private.Pcapng.{IsStopAfterHead, MovesOver}
-use Rattle.netlink_captures.specs.Pcapng.{AreSkipped, HasCheckedOrder, HasContent, IsBlockStop}
-use Rattle.netlink_captures.specs.Pcapng.{IsInputStop, IsNoPacket, IsWholeBlock, Position}
+use Rattle.netlink_captures.specs.private.Pcapng.{MovesOver}
+use Rattle.netlink_captures.specs.Pcapng.{AreSkipped, HasContent, IsBlockStop}
+use Rattle.netlink_captures.specs.Pcapng.{IsNoPacket, IsStopInBlock, IsWholeBlock, Position}
 use Rattle.netlink_captures.specs.Pcapng.{after_block, block_at, block_length, checked_order}
 use Rattle.netlink_captures.specs.Pcapng.{content_of, is_section_header, option_code, option_size}
 use Rattle.netlink_captures.specs.Pcapng.{order_of_block, order_or_error, unit_in, unit_in_option}
@@ -66,11 +65,6 @@ pub checked_order-append : (p : Position) (a b : List ℕ) → 12 ≤ length a
 checked_order-append p a b long =
     ap (order_or_error p (a ++ b)) (order_of_block-append p.order a b long)
     ∙ order_or_error-append p a b (order_of_block p.order a) long
-
--- Bytes after the first 12 do not change the byte order.
-pub has_checked_order-append : (p : Position) (a b : List ℕ) → 12 ≤ length a → HasCheckedOrder p a
-    → HasCheckedOrder p (a ++ b)
-has_checked_order-append p a b long frame = (frame.0, checked_order-append p a b long ∙ frame.1)
 
 -- ---- the options of an interface
 
@@ -176,54 +170,35 @@ framed p head rest order long ok whole = record {
       ∙ (omega (arith, length-append head rest));
 }
 
-input_stop : (left : Option (List ℕ)) (failed : ReadError → Type 0) (part : List ℕ)
-    (e : CaptureError)
-    → 0 < length part → IsReadStop left failed e → IsInputStop left failed part e
-input_stop left failed part e some stop =
-    grind arith
-
-truncated_stop : (left : Option (List ℕ)) (failed : ReadError → Type 0) (part : List ℕ)
-    (e : CaptureError)
-    → (e ≡ Truncated → 0 < length part) → IsReadStop left failed e → IsInputStop left failed part e
-truncated_stop left failed part e some stop =
-    grind arith
-
--- A stop before the first 12 bytes of a block is a reason why the block was not read.
-pub stop_in_head : (p : Position) (left : Option (List ℕ)) (failed : ReadError → Type 0)
-    (part : List ℕ) (e : CaptureError)
-    → length part < 12 → (e ≡ Truncated → 0 < length part) → IsReadStop left failed e
-    → IsBlockStop p left failed part e
-stop_in_head p left failed part e short some stop =
-    inl (inl short, truncated_stop left failed part e some stop)
-
--- A stop after the first 12 bytes of a block is a reason why the block was not read.
-pub stop_after_head : (p : Position) (left : Option (List ℕ)) (failed : ReadError → Type 0)
-    (head part : List ℕ) (e : CaptureError) → length head ≡ 12
-    → IsStopAfterHead p left failed head part e → IsBlockStop p left failed (head ++ part) e
-stop_after_head p left failed head part e long stop = elim stop [
-  | inl s ↦ inr (inr (inl (
-    omega (arith, length-append head part, s.1),
-    checked_order-append p head part (omega arith) ∙ s.0,
-  )))
-  | inr (inl s) ↦ inr (inl (
-    omega (arith, length-append head part),
-    has_checked_order-append p head part (omega arith) s.0,
-    s.1,
+-- A stop after the first 12 bytes of a block, `head`, is a reason why no whole block was read.
+module _ (p : Position) (left : Option (List ℕ)) (failed : ReadError → Type 0) (head : List ℕ)
+    (long : length head ≡ 12) where
+  -- The byte order or the length is invalid.
+  pub stop_at_head : (e : CaptureError) → checked_order p head ≡ Err e
+      → IsStopInBlock p (stopped_input left failed (head ++ [])) e
+  stop_at_head e invalid = inr (inr (
+    omega (arith, length-append head [], long),
+    checked_order-append p head [] (omega (arith, long)) ∙ invalid,
   ))
-  | inr (inr (order, ok, short, s)) ↦ inl (
-    inr (
-      order,
-      checked_order-append p head part (omega arith) ∙ ok,
-      omega (
-        arith,
-        short,
-        length-append head part,
-        number_at_offset-append order 4 4 head part (omega arith),
-      ),
-    ),
-    input_stop left failed (head ++ part) e (omega (arith, length-append head part)) s,
-  )
-]
+
+  -- The rest of the block could not be read.
+  pub stop_at_rest : (part : List ℕ) (order : ByteOrder) (e : CaptureError)
+      → checked_order p head ≡ Ok order
+      → (e ≡ Memory) ⊎ ((12 + length part < block_length order head)
+      × IsInputStop (stopped_input left failed part) e)
+      → IsStopInBlock p (stopped_input left failed (head ++ part)) e
+  stop_at_rest part order e ok stop =
+      let joined = length-append head part in
+      let ordered = checked_order-append p head part (omega (arith, long)) ∙ ok in
+      let same = number_at_offset-append order 4 4 head part (omega (arith, long)) in
+      elim stop [
+        | inl memory ↦ inr (inl (omega (arith, joined, long), (order, ordered), memory))
+        | inr s ↦ inl (
+          inr (order, ordered, omega (arith, s.0, joined, long, same)),
+          λ _. omega (arith, joined, long),
+          s.1,
+        )
+      ]
 
 length_fits_by_order : (p : Position) (block : List ℕ) (order : ByteOrder) (o : Option ByteOrder)
     → order_or_error p block o ≡ Ok order
@@ -250,13 +225,13 @@ pub stop_at_content : (p q : Position) (left : Option (List ℕ)) (failed : Read
     → length head ≡ 12 → checked_order p head ≡ Ok order
     → 12 + length rest ≡ block_length order head → block ≡ head ++ rest → shown ≡ block
     → q ≡ p → Err e ≡ content_of (block_at q order shown)
-    → IsBlockStop p left failed (head ++ rest) e
+    → IsBlockStop p (stopped_input left failed (head ++ rest)) e
 stop_at_content p q left failed head rest block shown order e long ok whole stored same kept is =
-    inr (inr (inr (
+    inr (
       order,
       framed p head rest order long ok whole,
       sym (same_content q p order shown (head ++ rest) (Err e) kept (same ∙ stored) is),
-    )))
+    )
 
 -- A valid block was read, from the position `p` to `p'`.
 pub moved_over : (p q p' : Position) (head rest block block' shown : List ℕ) (order : ByteOrder)

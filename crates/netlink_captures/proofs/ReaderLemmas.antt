@@ -3,9 +3,9 @@ use Rattle.std.proofs.Common.{◌≡◌, ◌⊎◌, inl, inr, ℕ, ◌<◌, ◌�
 use Rattle.std.proofs.Common.{false, length-append}
 use Rattle.std.specs.Prelude.{Option}
 use Rattle.netlink_captures.proofs.PcapngLemmas.{is_section_header-append, number_at_offset-append}
-use Rattle.netlink_captures.specs.Capture.{IsFileHeaderError, IsPacketStop}
-use Rattle.netlink_captures.specs.private.Capture.{IsReadStop}
-use Rattle.netlink_captures.specs.Pcapng.{IsBlockStop, IsInputStop, Position, is_section_header}
+use Rattle.netlink_captures.specs.Capture.{IsFileHeaderError, IsInputStop, IsPacketStop}
+use Rattle.netlink_captures.specs.Capture.{stopped_input}
+use Rattle.netlink_captures.specs.Pcapng.{IsBlockStop, Position, is_section_header}
 use Rattle.netlink_captures.specs.Reader.{CaptureState, HasMagic, IsCaptureEnd}
 use Rattle.netlink_captures.specs.Reader.{IsCaptureStartStop, IsCaptureStop, IsEarlyReadStop}
 use Rattle.netlink_captures.specs.Reader.{in_pcap, in_pcapng}
@@ -22,7 +22,8 @@ nothing_more (in_pcapng p) = (p, ([], refl, refl))
 
 -- A read may fail at once after any state.
 pub stopped_at_once : (s : CaptureState) (left : Option (List ℕ)) (failed : ReadError → Type 0)
-    (error : ReadError) → failed error → IsCaptureStop s left failed [] (errors.Read error)
+    (error : ReadError) → failed error
+    → IsCaptureStop s (stopped_input left failed []) (errors.Read error)
 stopped_at_once (in_pcap file) left failed error h = (inl (omega arith), h)
 stopped_at_once (in_pcapng p) left failed error h = record {
   blocks = [];
@@ -30,37 +31,35 @@ stopped_at_once (in_pcapng p) left failed error h = record {
   part = [];
   skipped = refl;
   parts = refl;
-  stopped = inl (inl (omega arith), h);
+  stopped = inl (inl (inl (omega arith), λ is. absurd (cc), h));
 }
 
 -- a cause of a failed read, and one that follows from it
 module _ (left : Option (List ℕ)) (A B : ReadError → Type 0)
     (implies : (error : ReadError) → A error → B error) where
   packet_stop_implies : (file : FileHeader) (part : List ℕ) (e : CaptureError)
-      → IsPacketStop file left A part e → IsPacketStop file left B part e
-  packet_stop_implies file part errors.Truncated h = h
+      → IsPacketStop file (stopped_input left A part) e
+      → IsPacketStop file (stopped_input left B part) e
   packet_stop_implies file part (errors.Read error) h = (h.0, implies error h.1)
-  packet_stop_implies file part errors.Memory h = h
-  packet_stop_implies file part (errors.PacketTooLong count) h = h
-  packet_stop_implies file part errors.AnotherCapture h = h
   packet_stop_implies file part _ h = h
 
   input_stop_implies : (part : List ℕ) (e : CaptureError)
-      → IsInputStop left A part e → IsInputStop left B part e
-  input_stop_implies part errors.Truncated h = h
+      → IsInputStop (stopped_input left A part) e → IsInputStop (stopped_input left B part) e
   input_stop_implies part (errors.Read error) h = implies error h
   input_stop_implies part _ h = h
 
   block_stop_implies : (p : Position) (part : List ℕ) (e : CaptureError)
-      → IsBlockStop p left A part e → IsBlockStop p left B part e
+      → IsBlockStop p (stopped_input left A part) e → IsBlockStop p (stopped_input left B part) e
   block_stop_implies p part e h = elim h [
-    | inl s ↦ inl (s.0, input_stop_implies part e s.1)
+    | inl (inl (within, some, s)) ↦ inl (inl (within, some, input_stop_implies part e s))
+    | inl (inr s) ↦ inl (inr s)
     | inr s ↦ inr s
   ]
 
   -- A reason to stop for the first cause is one for the second.
   pub stop_implies : (s : CaptureState) (part : List ℕ) (e : CaptureError)
-      → IsCaptureStop s left A part e → IsCaptureStop s left B part e
+      → IsCaptureStop s (stopped_input left A part) e
+      → IsCaptureStop s (stopped_input left B part) e
   stop_implies (in_pcap file) part e h = packet_stop_implies file part e h
   stop_implies (in_pcapng p) part e h = record {
     blocks = h.blocks;
@@ -82,8 +81,8 @@ magic-append a b long found =
 -- A stop within the header of a capture, after its magic number, is one of its reasons to stop.
 pub early_stop : (left : Option (List ℕ)) (failed : ReadError → Type 0) (head part : List ℕ)
     (e : CaptureError)
-    → 4 ≤ length head → HasMagic head → IsReadStop left failed e
-    → IsEarlyReadStop left failed (head ++ part) e
+    → 4 ≤ length head → HasMagic head → IsInputStop (stopped_input left failed part) e
+    → IsEarlyReadStop (stopped_input left failed (head ++ part)) e
 early_stop left failed head part errors.Truncated long found stop = (
   omega (arith, length-append head part, long),
   magic-append head part long found,
@@ -97,9 +96,9 @@ early_stop left failed head part _ long found stop = absurd stop
 pub pcap_stop : (left : Option (List ℕ)) (failed : ReadError → Type 0) (head part : List ℕ)
     (e : CaptureError)
     → length head ≡ 12 → HasMagic head → is_section_header head ≡ false
-    → ((length part < 12) × IsReadStop left failed e)
+    → ((length part < 12) × IsInputStop (stopped_input left failed part) e)
     ⊎ ((length part ≡ 12) × IsFileHeaderError (head ++ part) e)
-    → IsCaptureStartStop left failed (head ++ part) e
+    → IsCaptureStartStop (stopped_input left failed (head ++ part)) e
 pcap_stop left failed head part e long found other stop =
     let same = is_section_header-append head part (omega arith) in
     let joined = length-append head part in

@@ -151,6 +151,26 @@ pub record IsPacketRecord (file : FileHeader) (header : List ℕ)
 
 -- ---- states of the input when reading stops
 
+-- an input at which reading stopped
+pub record StoppedInput : Type 1 where
+  -- the remaining bytes, if known
+  pub left : Option (List ℕ)
+  -- a read failed with this error
+  pub failed : ReadError → Type 0
+  -- the bytes that were read of what could not be read whole
+  pub part : List ℕ
+
+-- `stopped_input left failed part`: the input with these members
+abbrev pub stopped_input : Option (List ℕ) → (ReadError → Type 0) → List ℕ → StoppedInput
+stopped_input left failed part = record { left = left; failed = failed; part = part }
+
+-- `IsInputStop input e`: `e` is the reason why no more bytes were read: the input is at its end
+-- (Truncated), or a read failed (Read). Other errors are not possible (`⊥`).
+abbrev pub IsInputStop : StoppedInput → CaptureError → Type 0
+IsInputStop input errors.Truncated = IsAtEnd input.left
+IsInputStop input (errors.Read error) = input.failed error
+IsInputStop input _ = ⊥
+
 -- `IsPartOfPacket file part`: `part` is a proper prefix of a packet with its packet header: fewer
 -- than 16 bytes; or a packet header of 16 bytes, and then fewer bytes than its captured length.
 abbrev pub IsPartOfPacket : FileHeader → List ℕ → Type 0
@@ -159,9 +179,8 @@ IsPartOfPacket file part =
     ⊎ ((header : List ℕ) × (captured : List ℕ) × (part ≡ header ++ captured)
     × (length header ≡ c.PACKET_HEADER_LEN) × (length captured < captured_length file header))
 
--- `IsPacketStop file left failed part e`: `e` is the reason why no packet of this file was read.
--- `left` are the remaining bytes, if known. `failed error` states that a read failed with this
--- error. `part` are the bytes that were read:
+-- `IsPacketStop file input e`: `e` is the reason why no packet of this file was read. `input.part`
+-- is what was read:
 -- - Truncated: a proper prefix of a packet, of at least one byte; the input is at its end
 -- - Read: a proper prefix of a packet; a read failed with this error
 -- - Memory: a packet header with a captured length of at most 262144; an allocation failed
@@ -169,16 +188,16 @@ IsPartOfPacket file part =
 -- - AnotherCapture: the first 16 bytes of another pcap file
 --
 -- Other errors are not possible (`⊥`).
-abbrev pub IsPacketStop : FileHeader → Option (List ℕ) → (ReadError → Type 0) → List ℕ
-    → CaptureError → Type 0
-IsPacketStop file left failed part errors.Truncated = (0 < length part) × IsPartOfPacket file part
-    × IsAtEnd left
-IsPacketStop file left failed part (errors.Read error) = IsPartOfPacket file part × failed error
-IsPacketStop file left failed part errors.Memory =
-    (length part ≡ c.PACKET_HEADER_LEN) × (captured_length file part ≤ c.MAX_PACKET_LEN)
-IsPacketStop file left failed part (errors.PacketTooLong count) =
-    (length part ≡ c.PACKET_HEADER_LEN) × (count ≡ captured_length file part)
+abbrev pub IsPacketStop : FileHeader → StoppedInput → CaptureError → Type 0
+IsPacketStop file input errors.Truncated =
+    (0 < length input.part) × IsPartOfPacket file input.part × IsAtEnd input.left
+IsPacketStop file input (errors.Read error) = IsPartOfPacket file input.part × input.failed error
+IsPacketStop file input errors.Memory =
+    (length input.part ≡ c.PACKET_HEADER_LEN)
+    × (captured_length file input.part ≤ c.MAX_PACKET_LEN)
+IsPacketStop file input (errors.PacketTooLong count) =
+    (length input.part ≡ c.PACKET_HEADER_LEN) × (count ≡ captured_length file input.part)
     × (c.MAX_PACKET_LEN < count)
-IsPacketStop file left failed part errors.AnotherCapture =
-    (length part ≡ c.PACKET_HEADER_LEN) × BeginsCapture file part
-IsPacketStop file left failed part _ = ⊥
+IsPacketStop file input errors.AnotherCapture =
+    (length input.part ≡ c.PACKET_HEADER_LEN) × BeginsCapture file input.part
+IsPacketStop file input _ = ⊥

@@ -4,4 +4,5 @@ pub mod Cooked
 pub mod Pcapng
 pub mod Reader
 pub mod ErrorText
+pub mod laws
 pub mod private

@@ -20,8 +20,6 @@ use Rattle.std.specs.Prelude.{◌==◌, ◌&&◌, nat_lt, nat_le, if◌then◌el
 use Rattle.std.specs.Prelude.{length, drop, slice_range, slice_get, slice_index, Option, None, Some}
 use Rattle.std.specs.Prelude.{Result, Ok, Err, min}
 use Rattle.std.specs.List.{concat}
-use Rattle.std.specs.Io.KnownBytes.{IsAtEnd}
-use Rattle.program_streams.specs.declared.streams.ReadError.{ReadError}
 use Rattle.netlink_captures.specs.declared.block_error.BlockError.{BlockError}
 use Rattle.netlink_captures.specs.declared.block_error.BlockError.TheVariants as errors
 use Rattle.netlink_captures.specs.declared.captures.ByteOrder.{ByteOrder}
@@ -39,6 +37,7 @@ use Rattle.netlink_captures.specs.declared.pcapng.Content.TheVariants.{Captured,
 use Rattle.netlink_captures.specs.declared.pcapng.PcapngReader.{PcapngReader}
 use Rattle.netlink_captures.specs.declared.pcapng.TheConstants as c
 use Rattle.netlink_captures.specs.Capture.{u16_at, u32_at, CapturedPacket, captured_packet}
+use Rattle.netlink_captures.specs.Capture.{IsInputStop, StoppedInput}
 
 -- What a reader knows after some blocks: the byte order of the section, the interfaces that the
 -- section has described so far, in order, and the offset of the next block in the file.
@@ -424,37 +423,33 @@ IsPartOfBlock position part =
     ⊎ ((order : ByteOrder) × (checked_order position part ≡ Ok order)
     × (length part < block_length order part))
 
--- `IsInputStop left failed part e`: `e` is the reason why no more bytes were read after the bytes
--- `part`. Either these are at least one byte, and the input is at its end (Truncated); or a read
--- failed (Read). `left` are the remaining bytes, if known. `failed error` states that a read failed
--- with this error. Other errors are not possible (`⊥`).
-abbrev pub IsInputStop : Option (List ℕ) → (ReadError → Type 0) → List ℕ → CaptureError → Type 0
-IsInputStop left failed part capture_errors.Truncated = (0 < length part) × IsAtEnd left
-IsInputStop left failed part (capture_errors.Read error) = failed error
-IsInputStop left failed part _ = ⊥
-
--- `IsBlockStop position left failed part e`: `e` is the reason why no block was read at this
--- position. `left` and `failed` are as in `IsInputStop`. `part` are the bytes of the block that
--- were read:
--- - a proper prefix of a block, after which the input is at its end, or a read failed
+-- `IsStopInBlock position input e`: `e` is the reason why no whole block was read at this position.
+-- `input.part` is what was read:
+-- - a proper prefix of a block, after which the input is at its end, or a read failed; it is not
+--   empty if the input is at its end
 -- - at least 12 bytes, with a valid byte order and length; then an allocation failed (Memory)
 -- - 12 bytes, whose byte order or length is invalid
--- - a whole block, whose content is invalid
-abbrev pub IsBlockStop : Position → Option (List ℕ) → (ReadError → Type 0) → List ℕ → CaptureError
-    → Type 0
-IsBlockStop position left failed part e =
-    (IsPartOfBlock position part × IsInputStop left failed part e)
-    ⊎ ((c.MIN_BLOCK_LEN ≤ length part) × HasCheckedOrder position part
+abbrev pub IsStopInBlock : Position → StoppedInput → CaptureError → Type 0
+IsStopInBlock position input e =
+    (IsPartOfBlock position input.part × (e ≡ capture_errors.Truncated → 0 < length input.part)
+    × IsInputStop input e)
+    ⊎ ((c.MIN_BLOCK_LEN ≤ length input.part) × HasCheckedOrder position input.part
     × (e ≡ capture_errors.Memory))
-    ⊎ ((length part ≡ c.MIN_BLOCK_LEN) × (checked_order position part ≡ Err e))
-    ⊎ ((order : ByteOrder) × IsWholeBlock (block_at position order part)
-    × (content_of (block_at position order part) ≡ Err e))
+    ⊎ ((length input.part ≡ c.MIN_BLOCK_LEN) × (checked_order position input.part ≡ Err e))
 
--- `IsNextPacketStop position left failed bytes e`: `e` is the reason why no packet was read after
--- this position. `bytes` were read: some valid blocks without a packet, and the bytes of the block
--- that could not be read. `left` and `failed` are as in `IsInputStop`.
-pub record IsNextPacketStop (position : Position) (left : Option (List ℕ))
-    (failed : ReadError → Type 0) (bytes : List ℕ) (e : CaptureError) : Type 0 where
+-- `IsBlockStop position input e`: `e` is the reason why no block was read at this position. Either
+-- it was not read whole, or it was, and its content is invalid.
+abbrev pub IsBlockStop : Position → StoppedInput → CaptureError → Type 0
+IsBlockStop position input e =
+    IsStopInBlock position input e
+    ⊎ ((order : ByteOrder) × IsWholeBlock (block_at position order input.part)
+    × (content_of (block_at position order input.part) ≡ Err e))
+
+-- `IsNextPacketStop position input e`: `e` is the reason why no packet was read after this
+-- position. `input.part` is what was read: some valid blocks without a packet, and the bytes of the
+-- block that could not be read.
+pub record IsNextPacketStop (position : Position) (input : StoppedInput) (e : CaptureError)
+    : Type 0 where
   -- the valid blocks
   pub blocks : List (List ℕ)
   -- the position after them
@@ -462,5 +457,5 @@ pub record IsNextPacketStop (position : Position) (left : Option (List ℕ))
   pub skipped : AreSkipped position blocks position'
   -- the bytes of the block that could not be read
   pub part : List ℕ
-  pub parts : bytes ≡ concat blocks ++ part
-  pub stopped : IsBlockStop position' left failed part e
+  pub parts : input.part ≡ concat blocks ++ part
+  pub stopped : IsBlockStop position' (record input { part = part }) e

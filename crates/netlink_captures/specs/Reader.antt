@@ -1,7 +1,6 @@
 -- Captures of netlink traffic, in the pcap or the pcapng format.
-use Rattle.std.specs.Prelude.{◌≡◌, ℕ, ◌<◌, ◌≤◌, ◌⊎◌, List, [], ◌++◌, length, Option, IsTrue}
+use Rattle.std.specs.Prelude.{◌≡◌, ℕ, ◌<◌, ◌≤◌, ◌⊎◌, List, [], ◌++◌, length, IsTrue}
 use Rattle.std.specs.Io.KnownBytes.{IsAtEnd}
-use Rattle.program_streams.specs.declared.streams.ReadError.{ReadError}
 use Rattle.netlink_captures.specs.declared.captures.ByteOrder.{ByteOrder}
 use Rattle.netlink_captures.specs.declared.captures.ByteOrder.TheVariants.{BigEndian, LittleEndian}
 use Rattle.netlink_captures.specs.declared.captures.CaptureError.{CaptureError}
@@ -13,7 +12,7 @@ use Rattle.netlink_captures.specs.declared.reader.CaptureReader.{CaptureReader}
 use Rattle.netlink_captures.specs.declared.reader.CaptureReader.TheVariants.{Pcap, Pcapng}
 use Rattle.netlink_captures.specs.Capture.{CapturedPacket, HasPcapMagic, IsFileHeader}
 use Rattle.netlink_captures.specs.Capture.{IsFileHeaderError, IsPacketRecord, IsPacketStop}
-use Rattle.netlink_captures.specs.Capture.{IsRejectedByPcapMagic}
+use Rattle.netlink_captures.specs.Capture.{IsRejectedByPcapMagic, StoppedInput}
 use Rattle.netlink_captures.specs.Pcapng.{HasContent, IsBlockStop, IsEndOfBlocks, IsNextPacket}
 use Rattle.netlink_captures.specs.Pcapng.{IsNextPacketStop, Position, after_block, block_at}
 use Rattle.netlink_captures.specs.Pcapng.{is_section_header, position_of, start_of_file}
@@ -51,9 +50,8 @@ HasMagic bytes =
 abbrev pub IsRejectedByMagic : List ℕ → CaptureError → Type 0
 IsRejectedByMagic bytes e = (¬ IsTrue (is_section_header bytes)) × IsRejectedByPcapMagic bytes e
 
--- `IsEarlyReadStop left failed part e`: `e` is the reason why reading stopped before the header of
--- a capture was complete, after the bytes `part`. `left` are the remaining bytes, if known.
--- `failed error` states that a read failed with this error.
+-- `IsEarlyReadStop input e`: `e` is the reason why reading stopped before the header of a capture
+-- was complete:
 -- - Empty: the input is at its end, without a byte
 -- - TooShort: the input is at its end, after one to three bytes
 -- - Truncated: the input is at its end, after at least four bytes, which begin with a known magic
@@ -62,30 +60,30 @@ IsRejectedByMagic bytes e = (¬ IsTrue (is_section_header bytes)) × IsRejectedB
 -- - Compressed, NoCapture: the first four bytes are not a known magic number
 --
 -- Other errors are not possible (`⊥`).
-abbrev pub IsEarlyReadStop : Option (List ℕ) → (ReadError → Type 0) → List ℕ → CaptureError → Type 0
-IsEarlyReadStop left failed part errors.Empty = (part ≡ []) × IsAtEnd left
-IsEarlyReadStop left failed part errors.TooShort =
-    (0 < length part) × (length part < 4) × IsAtEnd left
-IsEarlyReadStop left failed part errors.Truncated = (4 ≤ length part) × HasMagic part × IsAtEnd left
-IsEarlyReadStop left failed part (errors.Read error) = failed error
-IsEarlyReadStop left failed part (errors.Compressed compression) =
-    (length part ≡ 4) × IsRejectedByMagic part (errors.Compressed compression)
-IsEarlyReadStop left failed part (errors.NoCapture magic) =
-    (length part ≡ 4) × IsRejectedByMagic part (errors.NoCapture magic)
-IsEarlyReadStop left failed part _ = ⊥
+abbrev pub IsEarlyReadStop : StoppedInput → CaptureError → Type 0
+IsEarlyReadStop input errors.Empty = (input.part ≡ []) × IsAtEnd input.left
+IsEarlyReadStop input errors.TooShort =
+    (0 < length input.part) × (length input.part < 4) × IsAtEnd input.left
+IsEarlyReadStop input errors.Truncated =
+    (4 ≤ length input.part) × HasMagic input.part × IsAtEnd input.left
+IsEarlyReadStop input (errors.Read error) = input.failed error
+IsEarlyReadStop input (errors.Compressed compression) =
+    (length input.part ≡ 4) × IsRejectedByMagic input.part (errors.Compressed compression)
+IsEarlyReadStop input (errors.NoCapture magic) =
+    (length input.part ≡ 4) × IsRejectedByMagic input.part (errors.NoCapture magic)
+IsEarlyReadStop input _ = ⊥
 
--- `IsCaptureStartStop left failed part e`: `e` is the reason why a capture could not be opened,
--- after the bytes `part`. `left` and `failed` are as in `IsEarlyReadStop`. There are three cases:
+-- `IsCaptureStartStop input e`: `e` is the reason why a capture could not be opened. There are
+-- three cases:
 -- - the bytes are fewer than the 24 of a file header of pcap, and reading stopped there
 -- - the bytes are 24, and neither a file header of pcap nor the start of a pcapng file
 -- - the bytes begin a pcapng file, and its section header block could not be read
-abbrev pub IsCaptureStartStop : Option (List ℕ) → (ReadError → Type 0) → List ℕ → CaptureError
-    → Type 0
-IsCaptureStartStop left failed part e =
-    ((length part < FILE_HEADER_LEN) × IsEarlyReadStop left failed part e)
-    ⊎ ((length part ≡ FILE_HEADER_LEN) × (¬ IsTrue (is_section_header part))
-    × IsFileHeaderError part e)
-    ⊎ (IsTrue (is_section_header part) × IsBlockStop start_of_file left failed part e)
+abbrev pub IsCaptureStartStop : StoppedInput → CaptureError → Type 0
+IsCaptureStartStop input e =
+    ((length input.part < FILE_HEADER_LEN) × IsEarlyReadStop input e)
+    ⊎ ((length input.part ≡ FILE_HEADER_LEN) × (¬ IsTrue (is_section_header input.part))
+    × IsFileHeaderError input.part e)
+    ⊎ (IsTrue (is_section_header input.part) × IsBlockStop start_of_file input e)
 
 -- `ReadsPacket state bytes packet state'`: a reader in the state `state` that reads these bytes has
 -- read this packet, and then has the state `state'`. In a pcap file they are its packet header and
@@ -106,9 +104,7 @@ IsCaptureEnd (in_pcap file) bytes = bytes ≡ []
 IsCaptureEnd (in_pcapng position) bytes =
     (after : Position) × IsEndOfBlocks position bytes after
 
--- `IsCaptureStop state left failed part e`: `e` is the reason why no packet was read after the
--- state, and `part` are the bytes that were read. `left` and `failed` are as in `IsEarlyReadStop`.
-abbrev pub IsCaptureStop : CaptureState → Option (List ℕ) → (ReadError → Type 0) → List ℕ
-    → CaptureError → Type 0
-IsCaptureStop (in_pcap file) left failed part e = IsPacketStop file left failed part e
-IsCaptureStop (in_pcapng position) left failed part e = IsNextPacketStop position left failed part e
+-- `IsCaptureStop state input e`: `e` is the reason why no packet was read after the state
+abbrev pub IsCaptureStop : CaptureState → StoppedInput → CaptureError → Type 0
+IsCaptureStop (in_pcap file) input e = IsPacketStop file input e
+IsCaptureStop (in_pcapng position) input e = IsNextPacketStop position input e

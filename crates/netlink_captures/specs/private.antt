@@ -1,3 +1,2 @@
 -- Definitions that only the contracts of private functions need.
-pub mod Capture
 pub mod Pcapng

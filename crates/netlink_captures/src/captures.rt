@@ -3,20 +3,19 @@
 //!
 //! In the contracts, `R.left input` are the bytes that the input has left, if known.
 //! `R.failed input e` says that a read of it has failed with the error `e`.
-//! `Consumes old new bytes` says that these bytes were read. `part` are the bytes that were read
-//! before a failure.
+//! `Consumes old new bytes` says that these bytes were read. `stopped_input left failed part` is an
+//! input at which reading stopped after the bytes `part`.
 
 ghost use Rattle.std.specs.Prelude.{◌≡◌, ◌↔◌, ◌+◌, ◌<◌, ◌≤◌, ◌++◌, ◌⊎◌, ℕ, List, [], length, IfOk};
 ghost use Rattle.std.specs.Prelude.{IfErr, OnOk, IsTrue, MatchBool, MatchOption, MatchResult, Some};
 ghost use Rattle.std.specs.Io.KnownBytes.{Consumes, IsAtEnd, Keeps};
 ghost use Rattle.netlink_captures.specs.Capture.{BeginsCapture, IsFileHeader, IsFileHeaderError};
 ghost use Rattle.netlink_captures.specs.Capture.{HasNoPcapMagic, HasPcapMagic, IsNoCaptureError};
-ghost use Rattle.netlink_captures.specs.Capture.{IsPacketRecord, IsPacketStop, IsPcapMagic};
-ghost use Rattle.netlink_captures.specs.Capture.{captured_packet, packet_header_fields, u16_at};
-ghost use Rattle.netlink_captures.specs.Capture.{u32_at, unit_of};
+ghost use Rattle.netlink_captures.specs.Capture.{IsInputStop, IsPacketRecord, IsPacketStop};
+ghost use Rattle.netlink_captures.specs.Capture.{IsPcapMagic, captured_packet, stopped_input};
+ghost use Rattle.netlink_captures.specs.Capture.{packet_header_fields, u16_at, u32_at, unit_of};
 ghost use Rattle.netlink_captures.specs.ErrorText.{capture_error_text};
 ghost use Rattle.program_streams.specs.ErrorText.{error_text_bytes};
-ghost use Rattle.netlink_captures.specs.private.Capture.{IsReadStop};
 ghost use Rattle.netlink_captures.specs.declared.captures.CaptureError.TheVariants.{Memory, Read};
 
 use crate::block_error::BlockError;
@@ -349,11 +348,11 @@ impl FileHeader {
             (λ fields. (header : List ℕ)
             × IsPacketRecord self.now header (captured_packet packet.new.items fields)
             × Consumes (R.left input.old) (R.left input.new) (header ++ packet.new.items))) }
-        // `IsPacketStop file left failed part e`: `e` is the reason why no packet was read, after
-        // the bytes `part`.
+        // `IsPacketStop file input e`: `e` is the reason why no packet was read.
         ensures stopped { IfErr result (λ e. (part : List ℕ)
             × Consumes (R.left input.old) (R.left input.new) part
-            × IsPacketStop self.now (R.left input.new) (R.failed input.new) part e) }
+            × IsPacketStop self.now (stopped_input (R.left input.new) (R.failed input.new) part)
+            e) }
     {
         let mut header = [0u8; PACKET_HEADER_LEN];
         if !fill_or_end(input, &mut header)? {
@@ -408,11 +407,12 @@ pub(crate) fn read_bytes<R: Source>(
     ensures read { OnOk result ((length bytes.new.items ≡ count)
         × Consumes (R.left input.old) (R.left input.new) bytes.new.items) }
     // `part` is empty if an allocation failed. Else it has fewer than `count` bytes, and the input
-    // is at its end or a read failed (`IsReadStop left failed e`).
+    // is at its end or a read failed (`IsInputStop input e`).
     ensures stopped { IfErr result (λ e. (part : List ℕ)
         × Consumes (R.left input.old) (R.left input.new) part
         × (((e ≡ Memory) × (part ≡ []))
-        ⊎ ((length part < count) × IsReadStop (R.left input.new) (R.failed input.new) e))) }
+        ⊎ ((length part < count)
+        × IsInputStop (stopped_input (R.left input.new) (R.failed input.new) part) e))) }
 {
     bytes.clear();
     bytes.resize(count, 0)?;
@@ -423,10 +423,10 @@ pub(crate) fn read_bytes<R: Source>(
 /// a read failed, which is not retried.
 pub(crate) fn fill<R: Source>(input: &mut R, bytes: &mut [u8]) -> Result<(), CaptureError>
     ensures filled { OnOk result (Consumes (R.left input.old) (R.left input.new) bytes.new) }
-    // `IsReadStop left failed e`: the input is at its end, or a read failed.
+    // `IsInputStop input e`: the input is at its end, or a read failed.
     ensures stopped { IfErr result (λ e. (part : List ℕ) × (length part < length bytes.old)
         × Consumes (R.left input.old) (R.left input.new) part
-        × IsReadStop (R.left input.new) (R.failed input.new) e) }
+        × IsInputStop (stopped_input (R.left input.new) (R.failed input.new) part) e) }
 {
     let mut filled_len = 0;
     'reads: while filled_len < bytes.len() {
@@ -448,12 +448,12 @@ pub(crate) fn fill_or_end<R: Source>(input: &mut R, bytes: &mut [u8]) -> Result<
     ensures filled { IfOk result (λ is_filled. MatchBool is_filled
         (Consumes (R.left input.old) (R.left input.new) bytes.new)
         (IsAtEnd (R.left input.new) × Keeps (R.left input.old) (R.left input.new))) }
-    // If the error is `Truncated`, `part` has at least one byte. `IsReadStop left failed e`: the
-    // input is at its end, or a read failed.
+    // If the error is `Truncated`, `part` has at least one byte. `IsInputStop input e`: the input
+    // is at its end, or a read failed.
     ensures stopped { IfErr result (λ e. (part : List ℕ) × (length part < length bytes.old)
         × (e ≡ CaptureError.Truncated → 0 < length part)
         × Consumes (R.left input.old) (R.left input.new) part
-        × IsReadStop (R.left input.new) (R.failed input.new) e) }
+        × IsInputStop (stopped_input (R.left input.new) (R.failed input.new) part) e) }
 {
     // One byte first: the input may end before it, but not after it.
     let (first, rest) = bytes.split_at_mut(1);

@@ -6,8 +6,8 @@
 //!
 //! - `R.left input`: the bytes that the input has left, if known. `R.failed input e`: a read of it
 //!   has failed with the error `e`.
-//! - `Consumes old new bytes`: these bytes were read. `Keeps old new`: none were. `part`: the bytes
-//!   that were read before a failure.
+//! - `Consumes old new bytes`: these bytes were read. `Keeps old new`: none were.
+//!   `stopped_input left failed part`: an input at which reading stopped after the bytes `part`.
 //! - `position_of reader`: what the reader knows of the file: the byte order and the interfaces of
 //!   the section, and the offset of the next block.
 //! - `next_block reader order bytes`: the block of these bytes, in this byte order, at the reader's
@@ -19,9 +19,9 @@
 ghost use Rattle.std.specs.Prelude.{◌≡◌, ◌+◌, ◌^◌, ◌<◌, ◌≤◌, ◌++◌, ℕ, List, length, IfOk, IfErr};
 ghost use Rattle.std.specs.Prelude.{IfSome, OnOk, MatchOption};
 ghost use Rattle.std.specs.Io.KnownBytes.{Consumes, IsAtEnd, Keeps};
-ghost use Rattle.netlink_captures.specs.Capture.{captured_packet};
-ghost use Rattle.netlink_captures.specs.Pcapng.{IsBlockStop};
-ghost use Rattle.netlink_captures.specs.Pcapng.{IsEndOfBlocks, IsNextPacket, IsNextPacketStop};
+ghost use Rattle.netlink_captures.specs.Capture.{captured_packet, stopped_input};
+ghost use Rattle.netlink_captures.specs.Pcapng.{IsBlockStop, IsEndOfBlocks, IsNextPacket};
+ghost use Rattle.netlink_captures.specs.Pcapng.{IsNextPacketStop, IsStopInBlock};
 ghost use Rattle.netlink_captures.specs.Pcapng.{after_block, packet_in_slot, start_of_file};
 ghost use Rattle.netlink_captures.specs.Pcapng.{content_by_type, content_of, enhanced_packet_in};
 ghost use Rattle.netlink_captures.specs.Pcapng.{block_length, checked_order, interface_in};
@@ -32,8 +32,7 @@ ghost use Rattle.netlink_captures.specs.Pcapng.{position_of, section_header_in, 
 ghost use Rattle.netlink_captures.specs.Pcapng.{simple_packet_in, timed_packet, unit_by_options};
 ghost use Rattle.netlink_captures.specs.Pcapng.{unit_by_resolution, unit_in_option};
 ghost use Rattle.netlink_captures.specs.Pcapng.{units_in_second};
-ghost use Rattle.netlink_captures.specs.private.Pcapng.{FitsBlock, IsStopAfterHead, MovesOver};
-ghost use Rattle.netlink_captures.specs.private.Pcapng.{next_block};
+ghost use Rattle.netlink_captures.specs.private.Pcapng.{FitsBlock, MovesOver, next_block};
 ghost use Rattle.netlink_captures.specs.declared.pcapng.Content.{Content};
 
 use crate::block_error::BlockError;
@@ -565,12 +564,12 @@ impl PcapngReader {
             × Consumes (R.left input.old) (R.left input.new) rest.new.items) }
         // Whether it fails or not, the reader does not move.
         ensures kept { position_of self.new ≡ position_of self.old }
-        // `IsStopAfterHead position left failed head part e`: `e` is the reason why the block was
-        // not read after `head` and the bytes `part`.
+        // `IsStopInBlock position input e`: `e` is the reason why no whole block was read at this
+        // position, after these bytes, here `head` and `part`.
         ensures stopped { IfErr result (λ e. (part : List ℕ)
             × Consumes (R.left input.old) (R.left input.new) part
-            × IsStopAfterHead (position_of self.old) (R.left input.new) (R.failed input.new)
-            head.now part e) }
+            × IsStopInBlock (position_of self.old)
+            (stopped_input (R.left input.new) (R.failed input.new) (head.now ++ part)) e) }
     {
         let order = self.checked_order(head)?;
         let length = order.u32_at(head, 4) as usize;
@@ -616,12 +615,12 @@ impl PcapngReader {
             × MovesOver (position_of self.old) self.new.block.items content
             (position_of self.new)) }
         ensures fits { IfOk result (FitsBlock self.new.block.items) }
-        // `IsBlockStop position left failed bytes e`: `e` is the reason why no block was read at
-        // this position, after these bytes, here `head` and `part`.
+        // `IsBlockStop position input e`: `e` is the reason why no block was read at this position,
+        // after these bytes, here `head` and `part`.
         ensures stopped { IfErr result (λ e. (part : List ℕ)
             × Consumes (R.left input.old) (R.left input.new) part
-            × IsBlockStop (position_of self.old) (R.left input.new) (R.failed input.new)
-            (head.now ++ part) e) }
+            × IsBlockStop (position_of self.old)
+            (stopped_input (R.left input.new) (R.failed input.new) (head.now ++ part)) e) }
     {
         let order = self.read_rest(head, input, rest)?;
         let content = self.content(order, self.block.as_slice())?;
@@ -642,12 +641,12 @@ impl PcapngReader {
         ensures read { IfOk result (λ reader. (more : List ℕ) × (content : Content)
             × Consumes (R.left input.old) (R.left input.new) more
             × MovesOver start_of_file (head.now ++ more) content (position_of reader)) }
-        // `IsBlockStop position left failed bytes e`: `e` is the reason why no block was read at
-        // this position, after these bytes, here `head` and `part`.
+        // `IsBlockStop position input e`: `e` is the reason why no block was read at this position,
+        // after these bytes, here `head` and `part`.
         ensures stopped { IfErr result (λ e. (part : List ℕ)
             × Consumes (R.left input.old) (R.left input.new) part
-            × IsBlockStop start_of_file (R.left input.new) (R.failed input.new)
-            (head.now ++ part) e) }
+            × IsBlockStop start_of_file
+            (stopped_input (R.left input.new) (R.failed input.new) (head.now ++ part)) e) }
     {
         let mut reader = PcapngReader::new(alloc);
         let mut rest = Vec::new(alloc);
@@ -674,11 +673,11 @@ impl PcapngReader {
             × MovesOver (position_of self.old) self.new.block.items content
             (position_of self.new))) }
         ensures fits { IfOk result (λ found. IfSome found (FitsBlock self.new.block.items)) }
-        // `IsBlockStop position left failed part e`: `e` is the reason why no block was read at
-        // this position, after the bytes `part`.
+        // `IsBlockStop position input e`: `e` is the reason why no block was read at this position.
         ensures stopped { IfErr result (λ e. (part : List ℕ)
             × Consumes (R.left input.old) (R.left input.new) part
-            × IsBlockStop (position_of self.old) (R.left input.new) (R.failed input.new) part e) }
+            × IsBlockStop (position_of self.old)
+            (stopped_input (R.left input.new) (R.failed input.new) part) e) }
     {
         let mut head = [0u8; MIN_BLOCK_LEN];
         if !fill_or_end(input, &mut head)? {
@@ -725,12 +724,12 @@ impl PcapngReader {
             × IsEndOfBlocks (position_of self.old) bytes (position_of self.new))
             (λ header. IsNextPacket (position_of self.old) bytes
             (captured_packet packet.new.items header) (position_of self.new))) }
-        // `IsNextPacketStop position left failed part e`: `e` is the reason why no packet was read
-        // after this position. `part`: blocks without a packet, and bytes of the block that failed.
+        // `IsNextPacketStop position input e`: `e` is the reason why no packet was read after this
+        // position. `part`: blocks without a packet, and bytes of the block that failed.
         ensures stopped { IfErr result (λ e. (part : List ℕ)
             × Consumes (R.left input.old) (R.left input.new) part
-            × IsNextPacketStop (position_of self.old) (R.left input.new) (R.failed input.new)
-            part e) }
+            × IsNextPacketStop (position_of self.old)
+            (stopped_input (R.left input.new) (R.failed input.new) part) e) }
     {
         // Until a packet is found, `packet` is the buffer for the rest of each block.
         'steps: while let Some(content) = self.next(input, packet)? {

@@ -2,19 +2,17 @@
 //!
 //! In the contracts, `R.left input` are the bytes that the input has left, if known.
 //! `R.failed input e` says that a read of it has failed with the error `e`.
-//! `Consumes old new bytes` says that these bytes were read. `part` are the bytes that were read
-//! before a failure.
+//! `Consumes old new bytes` says that these bytes were read. `stopped_input left failed part` is an
+//! input at which reading stopped after the bytes `part`.
 
 ghost use Rattle.std.specs.Prelude.{◌≡◌, ◌++◌, ◌<◌, ◌≤◌, ◌⊎◌, ℕ, List, length, IfOk, IfErr, OnOk};
-ghost use Rattle.std.specs.Prelude.{IsTrue, MatchOption, MatchResult};
+ghost use Rattle.std.specs.Prelude.{MatchOption, MatchResult};
 ghost use Rattle.std.specs.Io.KnownBytes.{Consumes, IsAtEnd};
-ghost use Rattle.netlink_captures.specs.Capture.{IsFileHeader, IsFileHeaderError, captured_packet};
-ghost use Rattle.netlink_captures.specs.Pcapng.{IsBlockStop, is_section_header, position_of};
-ghost use Rattle.netlink_captures.specs.Pcapng.{start_of_file};
+ghost use Rattle.netlink_captures.specs.Capture.{IsFileHeader, IsFileHeaderError, IsInputStop};
+ghost use Rattle.netlink_captures.specs.Capture.{captured_packet, stopped_input};
 ghost use Rattle.netlink_captures.specs.Reader.{HasMagic, IsRejectedByMagic, IsEarlyReadStop};
 ghost use Rattle.netlink_captures.specs.Reader.{IsCaptureEnd, IsCaptureStart, IsCaptureStartStop};
-ghost use Rattle.netlink_captures.specs.Reader.{IsCaptureStop, ReadsPacket, in_pcapng, state_of};
-ghost use Rattle.netlink_captures.specs.private.Capture.{IsReadStop};
+ghost use Rattle.netlink_captures.specs.Reader.{IsCaptureStop, ReadsPacket, state_of};
 
 use crate::captures::{
     ByteOrder, CaptureError, FILE_HEADER_LEN, FileHeader, PacketHeader, fill, fill_or_end,
@@ -57,10 +55,10 @@ fn read_magic<R: Source>(input: &mut R, magic: &mut [u8]) -> Result<(), CaptureE
     // `HasMagic bytes`: they begin with a known magic number.
     ensures read { OnOk result (HasMagic magic.new
         × Consumes (R.left input.old) (R.left input.new) magic.new) }
-    // `IsEarlyReadStop left failed part e`: `e` is the reason why reading stopped after `part`.
+    // `IsEarlyReadStop input e`: `e` is the reason why reading stopped.
     ensures stopped { IfErr result (λ e. (part : List ℕ) × (length part ≤ 4)
         × Consumes (R.left input.old) (R.left input.new) part
-        × IsEarlyReadStop (R.left input.new) (R.failed input.new) part e) }
+        × IsEarlyReadStop (stopped_input (R.left input.new) (R.failed input.new) part) e) }
 {
     match fill_or_end(input, magic) {
         Ok(true) => check_magic(magic),
@@ -79,10 +77,10 @@ fn read_head<R: Source>(input: &mut R, head: &mut [u8]) -> Result<(), CaptureErr
     // `HasMagic bytes`: they begin with a known magic number.
     ensures read { OnOk result (HasMagic head.new
         × Consumes (R.left input.old) (R.left input.new) head.new) }
-    // `IsEarlyReadStop left failed part e`: `e` is the reason why reading stopped after `part`.
+    // `IsEarlyReadStop input e`: `e` is the reason why reading stopped.
     ensures stopped { IfErr result (λ e. (part : List ℕ) × (length part < MIN_BLOCK_LEN)
         × Consumes (R.left input.old) (R.left input.new) part
-        × IsEarlyReadStop (R.left input.new) (R.failed input.new) part e) }
+        × IsEarlyReadStop (stopped_input (R.left input.new) (R.failed input.new) part) e) }
 {
     let (magic, rest) = head.split_at_mut(4);
     read_magic(input, magic)?;
@@ -99,12 +97,12 @@ fn open_pcap<R: Source>(head: &[u8], input: &mut R) -> Result<FileHeader, Captur
     ensures read { IfOk result (λ file. (more : List ℕ) × (length more ≡ 12)
         × IsFileHeader (head.now ++ more) file
         × Consumes (R.left input.old) (R.left input.new) more) }
-    // `IsReadStop left failed e`: the input is at its end, or a read failed.
+    // `IsInputStop input e`: the input is at its end, or a read failed.
     // `IsFileHeaderError bytes e`: the 24 bytes are not a file header, for the reason `e`.
     ensures stopped { IfErr result (λ e. (part : List ℕ)
         × Consumes (R.left input.old) (R.left input.new) part
         × (((length part < 12)
-        × IsReadStop (R.left input.new) (R.failed input.new) e)
+        × IsInputStop (stopped_input (R.left input.new) (R.failed input.new) part) e)
         ⊎ ((length part ≡ 12) × IsFileHeaderError (head.now ++ part) e))) }
 {
     let mut bytes = [0u8; FILE_HEADER_LEN];
@@ -131,11 +129,10 @@ impl CaptureReader {
         ensures read { IfOk result (λ reader. (bytes : List ℕ)
             × IsCaptureStart bytes (state_of reader)
             × Consumes (R.left input.old) (R.left input.new) bytes) }
-        // `IsCaptureStartStop left failed part e`: `e` is the reason why no capture was opened,
-        // after the bytes `part`.
+        // `IsCaptureStartStop input e`: `e` is the reason why no capture was opened.
         ensures stopped { IfErr result (λ e. (part : List ℕ)
             × Consumes (R.left input.old) (R.left input.new) part
-            × IsCaptureStartStop (R.left input.new) (R.failed input.new) part e) }
+            × IsCaptureStartStop (stopped_input (R.left input.new) (R.failed input.new) part) e) }
     {
         let mut head = [0u8; MIN_BLOCK_LEN];
         read_head(input, &mut head)?;
@@ -182,11 +179,11 @@ impl CaptureReader {
             (IsAtEnd (R.left input.new) × IsCaptureEnd (state_of self.old) bytes)
             (λ header. ReadsPacket (state_of self.old) bytes
             (captured_packet packet.new.items header) (state_of self.new))) }
-        // `IsCaptureStop state left failed part e`: `e` is the reason why no packet was read after
-        // this state.
+        // `IsCaptureStop state input e`: `e` is the reason why no packet was read after this state.
         ensures stopped { IfErr result (λ e. (part : List ℕ)
             × Consumes (R.left input.old) (R.left input.new) part
-            × IsCaptureStop (state_of self.old) (R.left input.new) (R.failed input.new) part e) }
+            × IsCaptureStop (state_of self.old)
+            (stopped_input (R.left input.new) (R.failed input.new) part) e) }
     {
         match self {
             CaptureReader::Pcap(file) => file.read_packet(input, packet),

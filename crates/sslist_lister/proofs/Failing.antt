@@ -7,7 +7,7 @@ use Rattle.std.specs.Prelude.{MatchResult}
 use Rattle.std.specs.Io.KnownBytes.{Appends, Consumes, Keeps, append_known}
 use Rattle.std.proofs.KnownBytes.{Appends-kept, Appends-trans, Consumes-nil, Consumes-trans}
 use Rattle.std.proofs.KnownBytes.{Keeps-refl}
-use Rattle.netlink_captures.specs.Capture.{CapturedPacket}
+use Rattle.netlink_captures.specs.Capture.{CapturedPacket, stopped_input}
 use Rattle.netlink_captures.specs.Reader.{CaptureState, IsCaptureEnd, IsCaptureStart}
 use Rattle.netlink_captures.specs.Reader.{IsCaptureStartStop, IsCaptureStop, ReadsPacket}
 use Rattle.netlink_captures.proofs.ReaderLemmas.{nothing_more, stopped_at_once, stop_implies}
@@ -61,7 +61,7 @@ write_cause e cause P is failed error write =
 pub fails_at_header : (o : Options) (a d x : Option (List ℕ)) (heading front : List ℕ)
     (Reported : List ℕ → Type 0) (unread : ReadError → Type 0) (e : ListError) → Reported []
     → ((error : CaptureError) × (e ≡ Header error) × (part : List ℕ) × Consumes a d part
-    × IsCaptureStartStop d unread part error)
+    × IsCaptureStartStop (stopped_input d unread part) error)
     → Fails o a d x x heading front Reported unread e
 fails_at_header o a d x heading front Reported unread e none (error, is, part, read, stop) =
     subst (λ (e : ListError). Fails o a d x x heading front Reported unread e) (sym is)
@@ -172,7 +172,7 @@ module _ (o : Options) (front : List ℕ) (start : CaptureState) (header : List 
       -- The run failed because a packet could not be read.
       pub fails_at_packet : (d : Option (List ℕ)) (unread : ReadError → Type 0) (e : ListError)
           → ((error : CaptureError) × (e ≡ Packet number error) × (part : List ℕ)
-          × Consumes c d part × IsCaptureStop state d unread part error)
+          × Consumes c d part × IsCaptureStop state (stopped_input d unread part) error)
           → Fails o a d x z heading front Reported unread e
       fails_at_packet d unread e (error, same, part, read, stop) =
           subst (λ (e : ListError). Fails o a d x z heading front Reported unread e) (sym same) (

@@ -9,7 +9,7 @@ use Rattle.sslist_lister.specs.declared.texts.list_error.ListError.{ListError}
 use Rattle.sslist_lister.specs.declared.texts.list_error.ListError.TheVariants.{Header, Packet}
 use Rattle.sslist_lister.specs.declared.texts.list_error.ListError.TheVariants.{Write}
 use Rattle.sslist_lister.specs.declared.texts.list_error.ListError.TheVariants.{Memory}
-use Rattle.netlink_captures.specs.Capture.{CapturedPacket}
+use Rattle.netlink_captures.specs.Capture.{CapturedPacket, stopped_input}
 use Rattle.netlink_captures.specs.Reader.{CaptureState, IsCaptureEnd, IsCaptureStart}
 use Rattle.netlink_captures.specs.Reader.{IsCaptureStartStop, IsCaptureStop, ReadsPacket}
 use Rattle.sslist_lister.specs.declared.command_line.options.Options.{Options}
@@ -128,13 +128,13 @@ module _ (o : Options) (left left' held held' : Option (List ℕ)) (heading fron
   -- * Write: a write or the last flush failed.
   abbrev pub Fails : (ReadError → Type 0) → ListError → Type 0
   Fails unread (Header error) =
-      (part : List ℕ) × Consumes left left' part × IsCaptureStartStop left' unread part error
-      × Keeps held held' × Reported []
+      (part : List ℕ) × Consumes left left' part
+      × IsCaptureStartStop (stopped_input left' unread part) error × Keeps held held' × Reported []
   Fails unread (Packet number error) =
       (state : CaptureState) × (packets : ℕ) × (part : List ℕ) × RunState state packets part
       × (number ≡ packets + 1)
-      × IsCaptureStop state left'
-      (λ cause. unread cause ⊎ ((number ≡ 2 ^ 64 - 1) × (cause ≡ Other))) part error
+      × IsCaptureStop state (stopped_input left'
+      (λ cause. unread cause ⊎ ((number ≡ 2 ^ 64 - 1) × (cause ≡ Other))) part) error
   Fails unread Memory =
       (state after : CaptureState) × (packets : ℕ) × (bytes : List ℕ) × (packet : CapturedPacket)
       × ReadsPacket state bytes packet after × RunState state packets bytes

@@ -3,7 +3,7 @@
 ghost use Rattle.std.specs.Prelude.{◌≡◌, ◌↔◌, ◌++◌, List, ℕ, IfErr, IfOk, IsTrue, MatchOption};
 ghost use Rattle.std.specs.Prelude.{Some};
 ghost use Rattle.std.specs.Io.KnownBytes.{Consumes, IsAtEnd};
-ghost use Rattle.netlink_captures.specs.Capture.{captured_packet};
+ghost use Rattle.netlink_captures.specs.Capture.{captured_packet, stopped_input};
 ghost use Rattle.netlink_captures.specs.Reader.{IsCaptureEnd, IsCaptureStart, IsCaptureStartStop};
 ghost use Rattle.netlink_captures.specs.Reader.{IsCaptureStop, ReadsPacket, state_of};
 ghost use Rattle.program_streams.specs.ErrorText.{error_text_bytes};
@@ -124,7 +124,7 @@ pub(crate) fn read_header<R: Source>(
     ensures stopped { IfErr result (λ e. (error : CaptureError) × (e ≡ ListError.Header error)
         × (part : List ℕ)
         × Consumes (R.left input.old) (R.left input.new) part
-        × IsCaptureStartStop (R.left input.new) (R.failed input.new) part error) }
+        × IsCaptureStartStop (stopped_input (R.left input.new) (R.failed input.new) part) error) }
 {
     match CaptureReader::open(alloc, input) {
         Ok(reader) => Ok(reader),
@@ -157,7 +157,8 @@ pub(crate) fn read_packet<R: Source>(
     ensures stopped { IfErr result (λ e. (error : CaptureError)
         × (e ≡ ListError.Packet number error) × (part : List ℕ)
         × Consumes (R.left input.old) (R.left input.new) part
-        × IsCaptureStop (state_of reader.old) (R.left input.new) (R.failed input.new) part error) }
+        × IsCaptureStop (state_of reader.old)
+        (stopped_input (R.left input.new) (R.failed input.new) part) error) }
 {
     match reader.read_packet(input, packet) {
         Ok(found) => Ok(found),

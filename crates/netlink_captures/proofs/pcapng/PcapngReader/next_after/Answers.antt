@@ -1,16 +1,15 @@
-use Rattle.std.proofs.Common.{◌∙◌, arith, ap, inl, inr, length, length-append}
+use Rattle.std.proofs.Common.{◌∙◌, arith, ap, inl, length, length-append}
 use Rattle.std.proofs.lemmas.Result.{err_from_is_err_and}
 use Rattle.netlink_captures.specs.Pcapng.{Position, position_of}
-use Rattle.netlink_captures.proofs.PcapngLemmas.{length_fits, has_checked_order-append, moved_over}
-use Rattle.netlink_captures.proofs.PcapngLemmas.{stop_after_head}
-use Rattle.netlink_captures.proofs.PcapngLemmas.{stop_at_content}
+use Rattle.netlink_captures.proofs.PcapngLemmas.{length_fits, moved_over, stop_at_content}
+use Rattle.netlink_captures.proofs.PcapngLemmas.{stop_at_rest}
 use Rattle.netlink_captures.proofs.pcapng.PcapngReader.next_after.Goals as goal
 
 pub returns-in_err-order-clause-stopped : goal.returns-in_err-order-clause-stopped
 returns-in_err-order-clause-stopped g c =
     let p = err_from_is_err_and c.from_residual.result c.from_residual.ensures.1 in
     let (part, read, stop) = c.in_err-order.ensures.stopped in
-    rw (p.1, p.2) (part, read, stop_after_head _ _ _ _ _ _ c.requires stop)
+    rw (p.1, p.2) (part, read, inl stop)
 
 pub returns-in_err-content-clause-stopped : goal.returns-in_err-content-clause-stopped
 returns-in_err-content-clause-stopped g c =
@@ -31,17 +30,11 @@ returns-in_err-advance-clause-stopped g c =
     let p = err_from_is_err_and c.from_residual-in_err-advance.result
     c.from_residual-in_err-advance.ensures.1 in
     let (frame, count, stored, read) = c.in_ok-order.ensures.read in
-    let head = c.args.head.now in
-    let rest = c.read_rest.new.rest.items in
     rw p.1 (
-      rest,
+      c.read_rest.new.rest.items,
       read,
-      inr (inl (
-        omega (arith, c.requires, length-append head rest),
-        has_checked_order-append (position_of c.args.self.now) head rest (omega (arith, c.requires))
-            (c.in_ok-order.order, frame),
-        p.2,
-      )),
+      inl (stop_at_rest (position_of c.args.self.now) _ _ c.args.head.now c.requires
+          c.read_rest.new.rest.items c.in_ok-order.order _ frame (inl p.2)),
     )
 
 pub advance-requires : goal.advance-requires

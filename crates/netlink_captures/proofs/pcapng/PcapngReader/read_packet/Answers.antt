@@ -41,7 +41,7 @@ returns-in_err-copy_packet-clause-stopped g c =
         part = c.next.new.self.block.items;
         skipped = skipped;
         parts = refl;
-        stopped = inr (inl (moves.1.is_whole.long, (moves.0, moves.1.is_whole.ordered), p.2));
+        stopped = inl (inr (inl (moves.1.is_whole.long, (moves.0, moves.1.is_whole.ordered), p.2)));
       },
     )
 
