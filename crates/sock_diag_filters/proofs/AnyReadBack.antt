@@ -1,7 +1,7 @@
 -- A request for sockets of any family round-trips.
 use Rattle.std.proofs.Common.{◌≡◌, ◌∙◌, ℕ, ◌+◌, ◌≤◌, List, [], ◌++◌, length, drop, refl, sym, ap}
-use Rattle.std.proofs.Common.{subst, arith, inl, inr, Result, Ok, append-nil}
-use Rattle.std.specs.Prelude.{map, slice_index}
+use Rattle.std.proofs.Common.{subst, arith, inl, inr, Result, Ok, Err, append-nil}
+use Rattle.std.specs.Prelude.{slice_index}
 use Rattle.std.proofs.lemmas.Bool.{cases_eq, ne_eqb}
 use Rattle.std.proofs.lemmas.List.{drop_at, length-append}
 use Rattle.netlink_core.specs.declared.error.DecodeError.{DecodeError}
@@ -15,23 +15,22 @@ use Rattle.sock_diag_records.specs.InetRequest.{inet_request}
 use Rattle.sock_diag_records.specs.IpVersions.{IpVersions, versions_of_family}
 use Rattle.sock_diag_records.specs.UnixRequest.{unix_request}
 use Rattle.sock_diag_records.specs.laws.UnixRequest.{unix_request_sound}
-use Rattle.sock_diag_records.specs.declared.inet.request.InetRequest.{InetRequest}
 use Rattle.sock_diag_families.specs.laws.Record.{show_request_sound, vsock_request_sound}
 use Rattle.sock_diag_families.specs.ShowRequest.{show_request}
 use Rattle.sock_diag_families.specs.VsockRequest.{vsock_request}
-use Rattle.sock_diag_filters.specs.declared.request.RequestAttribute.{RequestAttribute}
+use Rattle.sock_diag_filters.specs.declared.request.RequestWithAttributes.{RequestWithAttributes}
 use Rattle.sock_diag_filters.specs.AnyReadBack.{IsParsedInetRequest, IsCompleteRecordRequest}
 use Rattle.sock_diag_filters.specs.AnyReadBack.{record_request_bytes}
-use Rattle.sock_diag_filters.specs.AnyRequest.{ParsesAsAnyRequest, AnyRequest, RequestedFamily}
+use Rattle.sock_diag_filters.specs.AnyRequest.{ParsesAsAnyRequest, AnyRequest}
 use Rattle.sock_diag_filters.specs.AnyRequest.{RecordFamily, RecordRequest, IsRejectedAnyRequest}
 use Rattle.sock_diag_filters.specs.AnyRequest.{family_of_request_payload, record_request_codec}
 use Rattle.sock_diag_filters.specs.AnyRequest.{family_of_message, inet, netlink, of_family, of_inet}
-use Rattle.sock_diag_filters.specs.AnyRequest.{of_record, packet, IsRejectedByRequestFamily}
+use Rattle.sock_diag_filters.specs.AnyRequest.{of_record, packet, IsRejectedByFamily}
 use Rattle.sock_diag_filters.specs.AnyRequest.{record_request_size, family_by_byte, unix, vsock}
 use Rattle.sock_diag_filters.specs.AnyRequest.{xdp}
 use Rattle.sock_diag_filters.specs.InetRequests.{IsRequestType}
 use Rattle.sock_diag_filters.specs.ReadBack.{IsRoundTrippingRequest, serialized_request_header}
-use Rattle.sock_diag_filters.specs.Requests.{request_attribute, request_bytes}
+use Rattle.sock_diag_filters.specs.Requests.{request_message}
 use Rattle.sock_diag_filters.proofs.RequestFamily.{family_by_first_byte}
 use Rattle.sock_diag_filters.proofs.ReadBack.{serialized_request_is_accepted}
 use Rattle.sock_diag_filters.proofs.ReadBack.{complete_message_has_no_error}
@@ -169,33 +168,39 @@ module _ (family : RecordFamily) (r : RecordRequest family)
       same)
 
   pub serialized_record_request_is_accepted : (e : DecodeError) → IsRejectedAnyRequest message e → ⊥
-  serialized_record_request_is_accepted e h =
-      grind (
-        arith,
-        length-append,
-        complete_message_has_no_error,
-        long,
-        one_header,
-        record_family_of_message,
-        record_read,
-      )
+  serialized_record_request_is_accepted e (inl error) =
+      let size : length message ≡ r.header.length =
+      grind (arith, long, whole.counted, length-append own r.attributes) in
+      complete_message_has_no_error message r.header e starts_with_record_request_header.0 size
+      error
+  serialized_record_request_is_accepted e (inr (k, framed, refused)) =
+      let same = one_header message k r.header framed starts_with_record_request_header.0 in
+      elim (subst (λ (g : NetlinkHeader). IsRejectedByFamily message g e) same refused) [
+        | inl unknown ↦ absurd (cc (unknown, record_family_of_message))
+        | inr (inl (is, rejected)) ↦ absurd (cc (is, record_family_of_message))
+        | inr (inr (other, is, rejected)) ↦
+            let one : other ≡ family = cc (is, record_family_of_message) in
+            let error = subst (λ (k : RecordFamily). (record_request_codec k).parses tt
+            (message_payload message r.header) ≡ Err e) one rejected in
+            absurd (cc (error, record_read))
+      ]
 
 -- ---- requests for IPv4 and IPv6 sockets
 
-module _ (h : NetlinkHeader) (request : InetRequest) (attributes : List RequestAttribute)
-    (can : IsRoundTrippingRequest h request attributes) (kind : IsRequestType h.message_type) where
+module _ (r : RequestWithAttributes) (can : IsRoundTrippingRequest r)
+    (kind : IsRequestType r.header.message_type) where
   abbrev asked : List ℕ
-  asked = request_bytes h request (map request_attribute attributes)
+  asked = request_message r
 
   abbrev own_header : NetlinkHeader
-  own_header = serialized_request_header h attributes
+  own_header = serialized_request_header r
 
   inet_family_of_message : family_of_message asked own_header ≡ Ok inet
   unfolding inet_request
   inet_family_of_message =
-      let read_there = parsed_by_fields inet_request tt (message_payload asked own_header) request
-      (reads_as h request attributes can own_header refl) in
-      family_by_first_byte (message_payload asked own_header) h.message_type (Ok inet)
+      let read_there = parsed_by_fields inet_request tt (message_payload asked own_header) r.request
+      (reads_as r can own_header refl) in
+      family_by_first_byte (message_payload asked own_header) r.header.message_type (Ok inet)
       (let enough = read_there.long in omega arith) kind
       (inet_family_of_byte (slice_index (message_payload asked own_header) 0) read_there.tag
       read_there.tag_found)
@@ -205,20 +210,18 @@ module _ (h : NetlinkHeader) (request : InetRequest) (attributes : List RequestA
       grind (arith, one_header, starts_with_serialized_header)
 
   pub serialized_inet_request_parses : (other : AnyRequest) → ParsesAsAnyRequest asked other
-      → IsParsedInetRequest h request attributes other
+      → IsParsedInetRequest r other
   serialized_inet_request_parses other asks =
       grind (arith, serialized_request_parses, inet_header, inet_family_of_message)
 
   pub serialized_inet_request_is_accepted : (e : DecodeError) → IsRejectedAnyRequest asked e → ⊥
   serialized_inet_request_is_accepted e (inl error) =
       complete_message_has_no_error asked own_header e
-      (starts_with_serialized_header h request attributes can).0
-      (request_has_own_length h request attributes) error
+      (starts_with_serialized_header r can).0 (request_has_own_length r) error
   serialized_inet_request_is_accepted e (inr (k, framed, refused)) =
-      let there : IsRejectedByRequestFamily (Ok inet) asked own_header e =
-      subst (λ (r : Result RequestedFamily DecodeError). IsRejectedByRequestFamily r asked
-      own_header e) inet_family_of_message
-      (subst (λ (g : NetlinkHeader). IsRejectedByRequestFamily
-      (family_of_message asked g) asked g e)
-      (inet_header k framed) refused) in
-      serialized_request_is_accepted h request attributes can e kind there
+      elim (subst (λ (g : NetlinkHeader). IsRejectedByFamily asked g e) (inet_header k framed)
+      refused) [
+        | inl unknown ↦ absurd (cc (unknown, inet_family_of_message))
+        | inr (inl (is, rejected)) ↦ serialized_request_is_accepted r can e kind rejected
+        | inr (inr (family, is, rejected)) ↦ absurd (cc (is, inet_family_of_message))
+      ]

@@ -2,14 +2,12 @@
 use Rattle.std.specs.Prelude.{◌≡◌, ℕ, ◌+◌, List, ◌++◌, length}
 use Rattle.netlink_core.specs.Table.{FitFields}
 use Rattle.netlink_core.specs.Header.{header_bytes, header_fields, header_values}
-use Rattle.netlink_core.specs.declared.header.NetlinkHeader.{NetlinkHeader}
 use Rattle.netlink_core.specs.declared.header.TheConstants.{NETLINK_HEADER_LEN}
-use Rattle.sock_diag_records.specs.declared.inet.request.InetRequest.{InetRequest}
-use Rattle.sock_diag_filters.specs.declared.request.RequestAttribute.{RequestAttribute}
+use Rattle.sock_diag_filters.specs.declared.request.RequestWithAttributes.{RequestWithAttributes}
 use Rattle.sock_diag_filters.specs.AnyRequest.{AnyRequest, RecordFamily, RecordRequest, of_family}
 use Rattle.sock_diag_filters.specs.AnyRequest.{of_inet, record_request_codec, record_request_size}
 use Rattle.sock_diag_filters.specs.InetRequests.{IsRequestType}
-use Rattle.sock_diag_filters.specs.ReadBack.{IsParsedRequest, IsRoundTrippingRequest}
+use Rattle.sock_diag_filters.specs.ReadBack.{IsParsedRequest}
 
 -- `record_request_bytes r`: the bytes of the message of the request `r`, whose family has one
 -- record (`RecordFamily`): its netlink header unchanged, its record, and the bytes after the
@@ -24,7 +22,6 @@ pub record IsCompleteRecordRequest {family : RecordFamily} (r : RecordRequest fa
     : Type 0 where
   -- each number of the header fits its field
   pub header : FitFields header_fields (header_values r.header)
-  -- the message type is SOCK_DIAG_BY_FAMILY or SOCK_DESTROY
   pub kind : IsRequestType r.header.message_type
   -- the length in the header is the length of the message
   pub counted : r.header.length
@@ -34,20 +31,8 @@ pub record IsCompleteRecordRequest {family : RecordFamily} (r : RecordRequest fa
   -- the record is in normal form; `tt`: it has no parameter
   pub normal : (record_request_codec family).is_normal tt r.request
 
--- `IsCompleteInetRequest h request attributes`: the conditions under which the message of the
--- header `h`, the request and the attributes is a complete request and round-trips. The length in
--- `h` can be any: the length of the message replaces it.
-pub record IsCompleteInetRequest (h : NetlinkHeader) (request : InetRequest)
-    (attributes : List RequestAttribute) : Type 0 where
-  -- the request is in range and in normal form, and the lengths fit
-  pub round_trips : IsRoundTrippingRequest h request attributes
-  -- the message type is SOCK_DIAG_BY_FAMILY or SOCK_DESTROY
-  pub kind : IsRequestType h.message_type
-
--- `IsParsedInetRequest h request attributes parsed`: the parsed request is a request for IPv4 or
--- IPv6 sockets, with the content of the request that was serialized from `h`, `request` and
--- `attributes` (`IsParsedRequest`). It is not a request for sockets of another family.
-abbrev pub IsParsedInetRequest : NetlinkHeader → InetRequest → List RequestAttribute → AnyRequest
-    → Type 0
-IsParsedInetRequest h request attributes (of_inet view) = IsParsedRequest h request attributes view
-IsParsedInetRequest h request attributes (of_family family other) = ⊥
+-- `IsParsedInetRequest r parsed`: the parsed request is one for IPv4 or IPv6 sockets, and has the
+-- content of the request `r` that was serialized (`IsParsedRequest`).
+abbrev pub IsParsedInetRequest : RequestWithAttributes → AnyRequest → Type 0
+IsParsedInetRequest r (of_inet view) = IsParsedRequest r view
+IsParsedInetRequest r (of_family family other) = ⊥

@@ -14,6 +14,7 @@ use Rattle.sock_diag_families.specs.declared.vsock.TheConstants.{AF_VSOCK}
 use Rattle.sock_diag_families.specs.declared.xdp.TheConstants.{AF_XDP}
 use Rattle.sock_diag_filters.specs.declared.any.AnyRequestView.{AnyRequestView}
 use Rattle.sock_diag_filters.specs.declared.any.AnyRequestView.TheVariants as view
+use Rattle.sock_diag_filters.specs.declared.any.RecordRequestView.{RecordRequestView}
 use Rattle.sock_diag_filters.specs.declared.view.RequestView.{RequestView}
 use Rattle.sock_diag_filters.specs.InetRequests.{ParsesAsRequest, IsRejectedRequest}
 
@@ -87,40 +88,30 @@ pub data AnyRequest : Type 0 where
   of_inet : RequestView → AnyRequest
   of_family : (family : RecordFamily) → RecordRequest family → AnyRequest
 
--- The request in an `AnyRequestView`, with its borrowed attributes as a list of bytes.
-abbrev pub any_request_content : AnyRequestView → AnyRequest
-any_request_content (view.Inet v) = of_inet v
-any_request_content (view.Unix v) = of_family unix (record {
-  header = v.header;
-  request = v.request;
-  attributes = v.attributes.now;
-})
-any_request_content (view.Netlink v) = of_family netlink (record {
-  header = v.header;
-  request = v.request;
-  attributes = v.attributes.now;
-})
-any_request_content (view.Packet v) = of_family packet (record {
-  header = v.header;
-  request = v.request;
-  attributes = v.attributes.now;
-})
-any_request_content (view.Vsock v) = of_family vsock (record {
-  header = v.header;
-  request = v.request;
-  attributes = v.attributes.now;
-})
-any_request_content (view.Xdp v) = of_family xdp (record {
+-- `record_request_content family v`: the request of this family in a view, with its borrowed
+-- attributes as a list of bytes.
+abbrev pub record_request_content : (family : RecordFamily)
+    → RecordRequestView (record_request_codec family).Value → AnyRequest
+record_request_content family v = of_family family (record {
   header = v.header;
   request = v.request;
   attributes = v.attributes.now;
 })
 
+-- The request in an `AnyRequestView`.
+abbrev pub any_request_content : AnyRequestView → AnyRequest
+any_request_content (view.Inet v) = of_inet v
+any_request_content (view.Unix v) = record_request_content unix v
+any_request_content (view.Netlink v) = record_request_content netlink v
+any_request_content (view.Packet v) = record_request_content packet v
+any_request_content (view.Vsock v) = record_request_content vsock v
+any_request_content (view.Xdp v) = record_request_content xdp v
+
 -- `ParsesAsAnyRequest message request`: the bytes `message` begin with a netlink message that
 -- parses as the request. Bytes after this message are ignored. Its header is the header of the
 -- request, and its family is the family of the request. For IPv4 and IPv6, the message parses as
 -- the `RequestView`. For another family, its payload begins with the record of the request, and the
--- attributes are the other bytes of the payload. `tt`: the record has no parameter.
+-- attributes are the other bytes of the payload.
 abbrev pub ParsesAsAnyRequest : List ℕ → AnyRequest → Type 0
 ParsesAsAnyRequest message (of_inet v) =
     (family_of_message message v.header ≡ Ok inet) × ParsesAsRequest message v
@@ -129,23 +120,20 @@ ParsesAsAnyRequest message (of_family family r) =
     × ((record_request_codec family).parses tt (message_payload message r.header) ≡ Ok r.request)
     × (r.attributes ≡ drop (record_request_size family) (message_payload message r.header))
 
--- `IsRejectedByRequestFamily family message h e`: the message with the netlink header `h` is
--- rejected with the error `e`. `family` is what `family_of_message` returns for it. There are three
--- cases. If that is an error, it is `e`. If it is IPv4 and IPv6 (`inet`), the parser of
--- `RequestView` rejects the message. If it is another family, the parser of its record rejects the
--- payload.
-abbrev pub IsRejectedByRequestFamily : Result RequestedFamily DecodeError → List ℕ → NetlinkHeader
-    → DecodeError
-    → Type 0
-IsRejectedByRequestFamily (Err error) message h e = e ≡ error
-IsRejectedByRequestFamily (Ok inet) message h e = IsRejectedRequest message e
-IsRejectedByRequestFamily (Ok (of_record family)) message h e =
-    (record_request_codec family).parses tt (message_payload message h) ≡ Err e
+-- `IsRejectedByFamily message h e`: the message with the netlink header `h` is rejected with the
+-- error `e`. There are three cases. It has no family, and `e` is the error of `family_of_message`.
+-- Its family is IPv4 and IPv6, and the parser of `RequestView` rejects it. Its family is another
+-- one, and the parser of that family's record rejects the payload.
+abbrev pub IsRejectedByFamily : List ℕ → NetlinkHeader → DecodeError → Type 0
+IsRejectedByFamily message h e =
+    (family_of_message message h ≡ Err e)
+    ⊎ (((family_of_message message h ≡ Ok inet) × IsRejectedRequest message e)
+    ⊎ ((family : RecordFamily) × (family_of_message message h ≡ Ok (of_record family))
+    × ((record_request_codec family).parses tt (message_payload message h) ≡ Err e)))
 
 -- `IsRejectedAnyRequest message e`: the bytes `message` are rejected with `e`, their first error.
 -- Either they do not begin with a netlink message; or they begin with one, whose header is `h`, and
 -- this message is rejected.
 abbrev pub IsRejectedAnyRequest : List ℕ → DecodeError → Type 0
 IsRejectedAnyRequest message e = IsMessageError message e
-    ⊎ ((h : NetlinkHeader) × HasHeader message h
-    × IsRejectedByRequestFamily (family_of_message message h) message h e)
+    ⊎ ((h : NetlinkHeader) × HasHeader message h × IsRejectedByFamily message h e)

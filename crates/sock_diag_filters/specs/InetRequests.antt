@@ -56,12 +56,19 @@ protocol_in (program_content program) = None
 protocol_in (protocol_content protocol) = Some protocol
 protocol_in other_content = None
 
+-- The last program among the contents, `None` if there is none.
+abbrev pub last_program : List RequestContent → Option (List ℕ)
+last_program decoded = last_or None (filter_map program_in decoded)
+
+-- The last protocol among the contents, `None` if there is none.
+abbrev pub last_protocol : List RequestContent → Option ℕ
+last_protocol decoded = last_or None (filter_map protocol_in decoded)
+
 -- `HasLastContents found decoded`: `found` has the last program and the last protocol among the
--- contents `decoded`, each `None` if there is none. `program.now` are the borrowed bytes.
+-- contents `decoded`. `program.now` are the borrowed bytes.
 pub record HasLastContents (found : Found) (decoded : List RequestContent) : Type 0 where
-  pub program : option_map (λ program. program.now) found.program
-      ≡ last_or None (filter_map program_in decoded)
-  pub protocol : found.protocol ≡ last_or None (filter_map protocol_in decoded)
+  pub program : option_map (λ program. program.now) found.program ≡ last_program decoded
+  pub protocol : found.protocol ≡ last_protocol decoded
 
 -- `attributes_after_record message h`: the bytes of the payload after the record,
 -- `struct inet_diag_req_v2` of 56 bytes, where the attributes are.
@@ -77,7 +84,6 @@ IsRequestType message_type = (message_type ≡ SOCK_DIAG_BY_FAMILY) ⊎ (message
 pub record ParsesAsRequest (message : List ℕ) (view : RequestView) : Type 0 where
   -- the message starts with the netlink header of the view
   pub framed : HasHeader message view.header
-  -- the message type is SOCK_DIAG_BY_FAMILY or SOCK_DESTROY
   pub kind : IsRequestType view.header.message_type
   -- the payload starts with the record of the view, `struct inet_diag_req_v2`; `tt`: the record has
   -- no parameter
@@ -88,12 +94,10 @@ pub record ParsesAsRequest (message : List ℕ) (view : RequestView) : Type 0 wh
   pub decodes : DecodeTo decode_request_attribute (attributes_after_record message view.header)
       decoded
   -- the program of the view is the last program of the attributes, if there is one
-  pub program : option_map (λ program. program.now) view.program
-      ≡ last_or None (filter_map program_in decoded)
+  pub program : option_map (λ program. program.now) view.program ≡ last_program decoded
   -- the protocol of the view is the last protocol of the attributes, or the record's protocol if
   -- there is none
-  pub protocol : view.protocol
-      ≡ unwrap_or (last_or None (filter_map protocol_in decoded)) view.request.protocol
+  pub protocol : view.protocol ≡ unwrap_or (last_protocol decoded) view.request.protocol
 
 -- `IsRejectedRequest message e`: the message at the start of the bytes is rejected with `e`, its
 -- first error. Each case states that there is no error of the cases before it. `h` is the netlink

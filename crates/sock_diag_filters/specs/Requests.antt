@@ -1,5 +1,5 @@
 -- Requests for IPv4 and IPv6 sockets with attributes (linux/inet_diag.h).
-use Rattle.std.specs.Prelude.{ℕ, ◌+◌, List, ◌++◌, length}
+use Rattle.std.specs.Prelude.{ℕ, ◌+◌, List, ◌++◌, length, map}
 use Rattle.std.specs.List.{flat_map}
 use Rattle.byteorder.specs.Endian.{little_bytes}
 use Rattle.netlink_core.specs.Attribute.{Attribute, attribute_bytes}
@@ -12,6 +12,7 @@ use Rattle.sock_diag_records.specs.declared.inet.request.TheConstants as c
 use Rattle.sock_diag_filters.specs.declared.request.TheConstants.{REQUEST_FRONT}
 use Rattle.sock_diag_filters.specs.declared.request.RequestAttribute.{RequestAttribute}
 use Rattle.sock_diag_filters.specs.declared.request.RequestAttribute.TheVariants.{Program, Protocol}
+use Rattle.sock_diag_filters.specs.declared.request.RequestWithAttributes.{RequestWithAttributes}
 
 -- The attribute of a request: INET_DIAG_REQ_BYTECODE with the bytes of a program, or
 -- INET_DIAG_REQ_PROTOCOL with the protocol as a little-endian u32.
@@ -23,13 +24,7 @@ request_attribute (Protocol protocol) =
 
 -- `header_with_length h len`: the header `h` with its length replaced by `len`.
 abbrev pub header_with_length : NetlinkHeader → ℕ → NetlinkHeader
-header_with_length h len = record {
-  length = len;
-  message_type = h.message_type;
-  flags = h.flags;
-  sequence_number = h.sequence_number;
-  port_number = h.port_number;
-}
+header_with_length h len = record h { length = len }
 
 -- `request_bytes h request attributes`: the bytes of the message: 16 of the header `h`, whose
 -- length is replaced by the length of the message; 56 of the request, `struct inet_diag_req_v2`;
@@ -39,3 +34,7 @@ request_bytes h request attributes =
     header_bytes
     (header_with_length h (REQUEST_FRONT + length (flat_map attribute_bytes attributes)))
     ++ record_bytes inet_request request ++ flat_map attribute_bytes attributes
+
+-- `request_message r`: the bytes of the message of the request `r`, with its attributes.
+abbrev pub request_message : RequestWithAttributes → List ℕ
+request_message r = request_bytes r.header r.request (map request_attribute r.attributes.now)

@@ -100,9 +100,7 @@ host_condition args = record {
 -- AF_INET6, by its last four octets.
 abbrev pub kernel_matches_address : SocketEnd → HostCondition → Bool
 kernel_matches_address end host =
-    if host.family == AF_UNSPEC
-    then host.bits == 0 || have_equal_prefix host.bits end.octets host.octets
-    else if host.family == end.family
+    if host.family == AF_UNSPEC || host.family == end.family
     then host.bits == 0 || have_equal_prefix host.bits end.octets host.octets
     else
     host.family == AF_INET

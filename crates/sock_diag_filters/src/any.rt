@@ -4,8 +4,7 @@ ghost use Rattle.std.specs.Prelude.{◌≡◌, IfOk, IfErr, drop};
 ghost use Rattle.netlink_core.specs.Header.{HasHeader};
 ghost use Rattle.netlink_core.specs.Layout.{parse_record};
 ghost use Rattle.sock_diag_filters.specs.AnyRequest.{ParsesAsAnyRequest, IsRejectedAnyRequest};
-ghost use Rattle.sock_diag_filters.specs.AnyRequest.{any_request_content, family_of_message};
-ghost use Rattle.sock_diag_filters.specs.AnyRequest.{IsRejectedByRequestFamily};
+ghost use Rattle.sock_diag_filters.specs.AnyRequest.{any_request_content, IsRejectedByFamily};
 ghost use Rattle.sock_diag_filters.specs.AnyRequest.{family_by_byte, family_of_request_payload};
 
 use crate::view::{RequestView, is_request};
@@ -110,11 +109,8 @@ fn read_under<'a>(
     // request. `any_request_content view`: the request in the view.
     ensures value { IfOk result (λ view. ParsesAsAnyRequest message.entry.now
         (any_request_content view)) }
-    // `IsRejectedByRequestFamily family message header e`: the message is rejected with `e`.
-    // `family_of_message message header`: the family of the request, or the error if it has none.
-    ensures error { IfErr result
-        (IsRejectedByRequestFamily (family_of_message message.entry.now header) message.entry.now
-        header) }
+    // `IsRejectedByFamily message header e`: the message is rejected with `e`.
+    ensures error { IfErr result (IsRejectedByFamily message.entry.now header) }
 {
     let payload = &message[NETLINK_HEADER_LEN..header.length as usize];
     match first_byte(header.message_type, payload)? {

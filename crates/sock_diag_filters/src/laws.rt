@@ -1,11 +1,9 @@
 //! Properties of programs, of requests that are serialized and parsed, and of `==` and `clone`.
 //! Proof only: the contract of each function states the property.
 
-ghost use Rattle.std.specs.Prelude.{◌≡◌, ◌↔◌, ℕ, Bool, List, [], ◌∷◌, map, IfOk, IsOk, IsTrue};
+ghost use Rattle.std.specs.Prelude.{◌≡◌, ◌↔◌, ℕ, Bool, List, [], ◌∷◌, IfOk, IsOk, IsTrue};
 ghost use Rattle.netlink_core.specs.declared.error.DecodeError.{DecodeError};
-ghost use Rattle.netlink_core.specs.declared.header.NetlinkHeader.{NetlinkHeader};
 ghost use Rattle.sock_diag_records.specs.Constants.{PairsAreEqual};
-ghost use Rattle.sock_diag_records.specs.declared.inet.request.InetRequest.{InetRequest};
 ghost use Rattle.sock_diag_filters.specs.declared.filter.Filter.{Filter};
 ghost use Rattle.sock_diag_filters.specs.Conditions.{arguments, code_of};
 ghost use Rattle.sock_diag_filters.specs.Filters.{meaning};
@@ -19,10 +17,12 @@ ghost use Rattle.sock_diag_filters.specs.AnyRequest.{ParsesAsAnyRequest, AnyRequ
 ghost use Rattle.sock_diag_filters.specs.AnyRequest.{IsRejectedAnyRequest, RecordRequest};
 ghost use Rattle.sock_diag_filters.specs.AnyRequest.{of_family};
 ghost use Rattle.sock_diag_filters.specs.AnyReadBack.{IsParsedInetRequest, IsCompleteRecordRequest};
-ghost use Rattle.sock_diag_filters.specs.AnyReadBack.{IsCompleteInetRequest, record_request_bytes};
+ghost use Rattle.sock_diag_filters.specs.AnyReadBack.{record_request_bytes};
 ghost use Rattle.sock_diag_filters.specs.ReadBack.{IsRoundTrippingRequest, IsParsedRequest};
-ghost use Rattle.sock_diag_filters.specs.Requests.{request_attribute, request_bytes};
-ghost use Rattle.sock_diag_filters.specs.declared.request.RequestAttribute.{RequestAttribute};
+ghost use Rattle.sock_diag_filters.specs.Requests.{request_message};
+ghost use Rattle.sock_diag_filters.specs.declared.request.RequestWithAttributes.{
+  RequestWithAttributes,
+};
 ghost use Rattle.sock_diag_filters.specs.ViewModels.{any_request_view_model};
 ghost use Rattle.sock_diag_filters.specs.ViewModels.{record_request_view_model, request_view_model};
 ghost use Rattle.sock_diag_filters.specs.declared.view.RequestView.{RequestView};
@@ -43,22 +43,15 @@ use std::alloc::AllocError;
 /// `RequestView::parse` does not reject them if the message type is `SOCK_DIAG_BY_FAMILY` or
 /// `SOCK_DESTROY`.
 pub fn request_round_trips()
-    // Both clauses are about all requests: a header, a record and attributes.
-    // `ParsesAsRequest message view`: the message parses as this view.
-    // `request_bytes h request attributes`: the bytes of the message. `request_attribute`: the type
-    // and the value of an attribute. `IsParsedRequest h request attributes view`: the view has the
-    // content that was serialized.
-    ensures view { (h : NetlinkHeader) (request : InetRequest) (attributes : List RequestAttribute)
-        (view : RequestView) → IsRoundTrippingRequest h request attributes
-        → ParsesAsRequest (request_bytes h request (map request_attribute attributes)) view
-        → IsParsedRequest h request attributes view }
+    // `ParsesAsRequest message view`: the message parses as this view. `request_message r`: the
+    // bytes of the message of the request `r`. `IsParsedRequest r view`: the view has the content
+    // that was serialized.
+    ensures view { (r : RequestWithAttributes) (view : RequestView) → IsRoundTrippingRequest r
+        → ParsesAsRequest (request_message r) view → IsParsedRequest r view }
     // `IsRequestType t`: the type is 20 (SOCK_DIAG_BY_FAMILY) or 21 (SOCK_DESTROY).
     // `IsRejectedRequest message e`: the message is rejected with `e`.
-    ensures accepted { (h : NetlinkHeader) (request : InetRequest)
-        (attributes : List RequestAttribute) (e : DecodeError)
-        → IsRoundTrippingRequest h request attributes
-        → IsRequestType h.message_type
-        → ¬ IsRejectedRequest (request_bytes h request (map request_attribute attributes)) e }
+    ensures accepted { (r : RequestWithAttributes) (e : DecodeError) → IsRoundTrippingRequest r
+        → IsRequestType r.header.message_type → ¬ IsRejectedRequest (request_message r) e }
 {}
 
 /// States that requests round-trip through `AnyRequestView::parse`.
@@ -69,8 +62,8 @@ pub fn request_round_trips()
 ///   message (`IsCompleteRecordRequest`).
 /// - `inet`, `inet_accepted`: a `RequestWithAttributes` is accepted, and parsed as its header with
 ///   the length of the message, its request, and its last program and protocol, if its request is
-///   in range and in normal form, its lengths fit, and its header has the type of a request
-///   (`IsCompleteInetRequest`).
+///   in range and in normal form, its lengths fit (`IsRoundTrippingRequest`), and its header has
+///   the type of a request.
 pub fn any_request_round_trips()
     // Each clause is about all requests of its families. `RecordRequest family`: a header, a record
     // of the family, and bytes of attributes. `ParsesAsAnyRequest message other`: the message
@@ -82,17 +75,15 @@ pub fn any_request_round_trips()
     // `IsRejectedAnyRequest message e`: the message is rejected with `e`.
     ensures records_accepted { (family : RecordFamily) (r : RecordRequest family) (e : DecodeError)
         → IsCompleteRecordRequest r → ¬ IsRejectedAnyRequest (record_request_bytes r) e }
-    // `request_bytes h request (map request_attribute attributes)`: the bytes of a
-    // `RequestWithAttributes`. `IsParsedInetRequest h request attributes other`: `other` is a
-    // request for IPv4 or IPv6 sockets with the content that was serialized.
-    ensures inet { (h : NetlinkHeader) (request : InetRequest) (attributes : List RequestAttribute)
-        (other : AnyRequest) → IsCompleteInetRequest h request attributes
-        → ParsesAsAnyRequest (request_bytes h request (map request_attribute attributes)) other
-        → IsParsedInetRequest h request attributes other }
-    ensures inet_accepted { (h : NetlinkHeader) (request : InetRequest)
-        (attributes : List RequestAttribute) (e : DecodeError)
-        → IsCompleteInetRequest h request attributes
-        → ¬ IsRejectedAnyRequest (request_bytes h request (map request_attribute attributes)) e }
+    // `request_message r`: the bytes of the message of a `RequestWithAttributes`.
+    // `IsParsedInetRequest r other`: `other` is a request for IPv4 or IPv6 sockets with the content
+    // that was serialized.
+    ensures inet { (r : RequestWithAttributes) (other : AnyRequest) → IsRoundTrippingRequest r
+        → IsRequestType r.header.message_type → ParsesAsAnyRequest (request_message r) other
+        → IsParsedInetRequest r other }
+    ensures inet_accepted { (r : RequestWithAttributes) (e : DecodeError)
+        → IsRoundTrippingRequest r → IsRequestType r.header.message_type
+        → ¬ IsRejectedAnyRequest (request_message r) e }
 {}
 
 /// States that a filter selects the same sockets under two readings of its conditions: under

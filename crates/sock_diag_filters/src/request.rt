@@ -5,7 +5,7 @@ ghost use Rattle.netlink_core.specs.Attribute.{AreWritableWithin};
 ghost use Rattle.netlink_core.specs.Header.{header_bytes, header_fields, header_values};
 ghost use Rattle.netlink_core.specs.Table.{FitFields};
 ghost use Rattle.sock_diag_filters.specs.Requests.{request_attribute, header_with_length};
-ghost use Rattle.sock_diag_filters.specs.Requests.{request_bytes};
+ghost use Rattle.sock_diag_filters.specs.Requests.{request_message};
 
 use byteorder::{ByteOrder, LittleEndian};
 use netlink_core::fields::{write_u16s, write_u32s};
@@ -84,10 +84,9 @@ pub struct RequestWithAttributes<'a> {
 impl Emitable for RequestWithAttributes<'_> {
     ghost use Rattle.sock_diag_filters.specs.ReadBack.{IsRequestInRange};
 
-    // `request_bytes header request attributes`: the header with the length of the message, the
-    // request, and the attributes with their padding.
-    ghost bytes = { λ r. request_bytes r.header r.request
-        (map request_attribute r.attributes.now) };
+    // `request_message r`: the header with the length of the message, the request, and the
+    // attributes with their padding.
+    ghost bytes = { request_message };
 
     // `AreWritableWithin attributes limit`: each value has at most 65,531 bytes, and all attributes
     // with headers and paddings have at most `limit` bytes. 4,294,967,223 is 2^32 - 1 - 72: the
@@ -95,9 +94,9 @@ impl Emitable for RequestWithAttributes<'_> {
     // are always writable.
     ghost writable = { λ r. AreWritableWithin (map request_attribute r.attributes.now) 4294967223 };
 
-    // `IsRequestInRange header request attributes`: each number of the header that is serialized,
-    // of the request and of the attributes fits its field.
-    ghost in_range = { λ r. IsRequestInRange r.header r.request r.attributes.now };
+    // Each number of the header that is serialized, of the request and of the attributes fits its
+    // field.
+    ghost in_range = { IsRequestInRange };
 
     /// Returns whether each program has at most 65,531 bytes, and the length of the message fits
     /// the length field of its header.

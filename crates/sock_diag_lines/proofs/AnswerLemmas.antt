@@ -8,16 +8,16 @@ use Rattle.std.proofs.lemmas.Bool.{cases_lt, eqb-true}
 use Rattle.std.proofs.lemmas.List.Splits.{join_with_byte-slice_split, length-slice_split}
 use Rattle.std.proofs.lemmas.List.Splits.{slice_split_first, slice_split_none}
 use Rattle.netlink_core.specs.Bytes.{IsBytes}
-use Rattle.sock_diag_lines.specs.Answer.{IsAnswerOf, IsRequest, name_entry}
-use Rattle.sock_diag_lines.specs.private.LineRequest.{IsAnswerTo, IsBadLine, IsParsedAs}
-use Rattle.sock_diag_lines.specs.DumpLine.{IsDumpRequest, IsDumpAnswer, IsWritableDump, dump_text}
+use Rattle.sock_diag_lines.specs.Answer.{IsAnswerOf, IsBadLine, IsRequest, name_entry}
+use Rattle.sock_diag_lines.specs.private.LineRequest.{IsAnswerTo, IsParsedAs}
+use Rattle.sock_diag_lines.specs.DumpLine.{IsDumpRequest, IsDumpAnswer}
 use Rattle.sock_diag_lines.specs.HexField.{AreHexFields, IsHexField, is_space}
 use Rattle.sock_diag_lines.specs.AnswerText.{AreEquivalentUnder, HasWritableValue, IsAnswerUnder}
 use Rattle.sock_diag_lines.specs.declared.answers.LineRequest.{LineRequest}
 use Rattle.sock_diag_lines.specs.declared.answers.LineRequest.TheVariants.{Field, Dump, Nothing}
 use Rattle.sock_diag_lines.specs.declared.answers.Name.{Name}
 use Rattle.sock_diag_lines.specs.declared.answers.Name.TheVariants as name_variants
-use Rattle.sock_diag_lines.proofs.AnswerTexts.{answers_more, same_answer, some_answer}
+use Rattle.sock_diag_lines.proofs.AnswerTexts.{same_answer, some_answer}
 use Rattle.sock_diag_lines.proofs.AnswerTexts.{same_text_iff_equivalent}
 use Rattle.sock_diag_lines.proofs.Deciding.{both_or_not, same_or_not}
 use Rattle.sock_diag_lines.proofs.DumpLaws.{fields_in_range, has_dump_text, one_dump_text}
@@ -143,7 +143,7 @@ field_answers line name bytes text (t, e, field) tells =
       dumped = λ datagrams dump.
           absurd (not_dump name (request_is_named line _ t cut (codes "dump") _
           (λ t. refl) dump).0);
-      other = λ unnamed undumped. absurd (unnamed name bytes (t, e, field));
+      other = λ none. absurd (none.unnamed name bytes (t, e, field));
     }
 
 -- the answer to the datagrams of a line answers the line
@@ -158,7 +158,7 @@ dump_answers line datagrams text (t, e, fields) tells =
       dumped = λ others also.
           let here = request_is_named line _ t cut (codes "dump") _ (λ t. refl) also in
           rw (← one_list_of_bytes (slice_split is_space t) datagrams others fields here.1) tells;
-      other = λ unnamed undumped. absurd (undumped datagrams (t, e, fields));
+      other = λ none. absurd (none.undumped datagrams (t, e, fields));
     }
 
 -- `bad line` answers a line that is not a request
@@ -167,7 +167,7 @@ bad_line_answers : (line text : List ℕ) → IsBadLine line → text ≡ codes 
 bad_line_answers line text none e = record {
   named = λ name bytes asked. absurd (none.unnamed name bytes asked);
   dumped = λ datagrams dump. absurd (none.undumped datagrams dump);
-  other = λ unnamed undumped. e;
+  other = λ none. e;
 }
 
 pub datagrams_in_range : (line : List ℕ) (datagrams : List (List ℕ))
@@ -200,7 +200,7 @@ dump_answer line datagrams dump =
 
 bad_answer : (line : List ℕ) → IsBadLine line → TheAnswer line
 bad_answer line none =
-    (_, bad_line_answers line _ none refl, λ other is. is.other none.unnamed none.undumped)
+    (_, bad_line_answers line _ none refl, λ other is. is.other none)
 
 the_answer : (line : List ℕ) → TheAnswer line
 the_answer line = elim (first_space line) [
@@ -245,8 +245,7 @@ read_answer line (Field name) bytes text asked tells =
     field_answers line name bytes text asked tells
 read_answer line (Dump dump) bytes text (datagrams, asked, read) tells =
     dump_answers line datagrams text asked
-    (answers_more IsWritableDump dump_text (λ d same. rw same read.1) (λ error never. absurd never)
-    (tells read.0 read.2))
+    (read.0, read.1, tells read.0 read.2)
 read_answer line Nothing bytes text none e = bad_line_answers line text none e
 
 -- ---- the answers to two lines

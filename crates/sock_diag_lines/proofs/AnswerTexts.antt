@@ -1,50 +1,26 @@
 -- Bytes have one answer. Equivalent bytes have the same answer, and only they, if the text
 -- shows the whole value.
-use Rattle.std.proofs.Common.{◌≡◌, ◌⊎◌, ◌∙◌, inl, inr, ℕ, List, codes, refl, sym}
+use Rattle.std.proofs.Common.{◌≡◌, ◌⊎◌, ◌∙◌, inl, inr, ℕ, List, codes, refl, subst, sym}
 use Rattle.std.proofs.lemmas.List.{append_cancel_left}
 use Rattle.netlink_core.specs.Bytes.{IsBytes}
-use Rattle.netlink_core.specs.declared.error.DecodeError.{DecodeError}
 use Rattle.sock_diag_lines.specs.AnswerText.{AnswerCodec, AreEquivalentUnder, HasWritableValue}
-use Rattle.sock_diag_lines.specs.AnswerText.{IsAnswerText, IsAnswerUnder, ok_text, refused_text}
+use Rattle.sock_diag_lines.specs.AnswerText.{IsAnswerToValue, IsAnswerUnder, ok_text, refused_text}
 use Rattle.sock_diag_lines.specs.AnswerText.{unwritable_text}
 use Rattle.sock_diag_lines.proofs.SubjectLaws.{AnswerLawsOf, HasFullText}
 
--- an answer under some values and errors is an answer under more of them
-pub answers_more : {Value : Type 0} (fits : Value → Type 0) (text_of : Value → List ℕ)
-    {parses more : Value → Type 0} {rejects others : DecodeError → Type 0} {text : List ℕ}
-    → ((v : Value) → parses v → more v) → ((e : DecodeError) → rejects e → others e)
-    → IsAnswerText parses rejects fits text_of text → IsAnswerText more others fits text_of text
-answers_more fits text_of r s (inl (v, h, f, e)) = inl (v, r v h, f, e)
-answers_more fits text_of r s (inr (inl (v, h, f, e))) = inr (inl (v, r v h, f, e))
-answers_more fits text_of r s (inr (inr (error, h, e))) = inr (inr (error, s error h, e))
+-- a value has an answer, if it is decidable whether it is writable
+pub value_has_answer : {P : Type 0} (value_text : List ℕ) → P ⊎ ¬ P
+    → (text : List ℕ) × IsAnswerToValue P value_text text
+value_has_answer value_text (inl writable) = (ok_text value_text, inl (writable, refl))
+value_has_answer value_text (inr unfit) = (unwritable_text, inr (unfit, refl))
 
-module _ {Value : Type 0} (fits : Value → Type 0) (text_of : Value → List ℕ)
-    (parses : Value → Type 0) (rejects : DecodeError → Type 0) where
-  -- a value or an error has an answer, if writability is decidable
-  pub has_text : ((v : Value) × parses v) ⊎ ((e : DecodeError) × rejects e)
-      → ((v : Value) → fits v ⊎ ¬ fits v)
-      → (text : List ℕ) × IsAnswerText parses rejects fits text_of text
-  has_text (inl (v, r)) decide = elim (decide v) [
-    | inl f ↦ (ok_text (text_of v), inl (v, r, f, refl))
-    | inr unfit ↦ (unwritable_text, inr (inl (v, r, unfit, refl)))
-  ]
-  has_text (inr (e, r)) decide = (refused_text e, inr (inr (e, r, refl)))
-
-  -- if there is at most one value or error, there is at most one answer
-  module _ (one : (v w : Value) → parses v → parses w → v ≡ w)
-      (apart : (v : Value) (e : DecodeError) → parses v → rejects e → ⊥)
-      (error : (e f : DecodeError) → rejects e → rejects f → e ≡ f) where
-    pub one_text : (x y : List ℕ) → IsAnswerText parses rejects fits text_of x
-        → IsAnswerText parses rejects fits text_of y → x ≡ y
-    one_text x y (inl (v, r, f, e)) (inl (w, s, g, k)) = rw (e, k, one v w r s)
-    one_text x y (inl (v, r, f, e)) (inr (inl (w, s, g, k))) = absurd (g (rw (one v w r s) at f))
-    one_text x y (inl (v, r, f, e)) (inr (inr (b, s, k))) = absurd (apart v b r s)
-    one_text x y (inr (inl (v, r, f, e))) (inl (w, s, g, k)) = absurd (f (rw (one w v s r) at g))
-    one_text x y (inr (inl (v, r, f, e))) (inr (inl (w, s, g, k))) = rw (e, k)
-    one_text x y (inr (inl (v, r, f, e))) (inr (inr (b, s, k))) = absurd (apart v b r s)
-    one_text x y (inr (inr (a, r, e))) (inl (w, s, g, k)) = absurd (apart w a s r)
-    one_text x y (inr (inr (a, r, e))) (inr (inl (w, s, g, k))) = absurd (apart w a s r)
-    one_text x y (inr (inr (a, r, e))) (inr (inr (b, s, k))) = rw (e, k, error a b r s)
+-- a value has at most one answer
+pub one_answer_to_value : {P : Type 0} (value_text x y : List ℕ) → IsAnswerToValue P value_text x
+    → IsAnswerToValue P value_text y → x ≡ y
+one_answer_to_value value_text x y (inl (f, e)) (inl (g, k)) = e ∙ sym k
+one_answer_to_value value_text x y (inl (f, e)) (inr (unfit, k)) = absurd (unfit f)
+one_answer_to_value value_text x y (inr (unfit, e)) (inl (g, k)) = absurd (unfit g)
+one_answer_to_value value_text x y (inr (unfit, e)) (inr (also, k)) = e ∙ sym k
 
 module _ (S : AnswerCodec) (laws : AnswerLawsOf S) where
   -- bytes have one value
@@ -55,23 +31,34 @@ module _ (S : AnswerCodec) (laws : AnswerLawsOf S) where
 
   -- bytes have an answer
   pub some_answer : (b : List ℕ) → IsBytes b → (text : List ℕ) × IsAnswerUnder S b text
-  some_answer b h = has_text S.codec.is_writable S.text_of (S.codec.parses b S.param)
-      (S.codec.rejects b S.param) (laws.is_total b h) laws.fits_or_not
+  some_answer b h = elim (laws.is_total b h) [
+    | inl (v, parses) ↦
+        let answer = value_has_answer (S.text_of v) (laws.fits_or_not v) in
+        (answer.0, inl (v, parses, answer.1))
+    | inr (e, rejects) ↦ (refused_text e, inr (e, rejects, refl))
+  ]
 
   -- bytes have at most one answer
   pub same_answer : (b x y : List ℕ) → IsBytes b → IsAnswerUnder S b x → IsAnswerUnder S b y → x ≡ y
-  same_answer b x y h = one_text S.codec.is_writable S.text_of (S.codec.parses b S.param)
-      (S.codec.rejects b S.param) (λ v w. bytes_have_one_value b v w h) (laws.is_exclusive b)
-      (laws.error_is_unique b) x y
+  same_answer b x y h (inl (v, r, e)) (inl (w, s, k)) =
+      one_answer_to_value (S.text_of v) x y e
+      (subst (λ (u : S.codec.Value). IsAnswerToValue (S.codec.is_writable u) (S.text_of u) y)
+      (bytes_have_one_value b w v h s r) k)
+  same_answer b x y h (inl (v, r, e)) (inr (error, s, k)) =
+      absurd (laws.is_exclusive b v error r s)
+  same_answer b x y h (inr (error, r, e)) (inl (w, s, k)) =
+      absurd (laws.is_exclusive b w error s r)
+  same_answer b x y h (inr (error, r, e)) (inr (other, s, k)) =
+      rw (e, k, laws.error_is_unique b error other r s)
 
   -- two inputs with writable values
   module _ (b c x y : List ℕ) (hb : IsBytes b) (hc : IsBytes c) (tells : IsAnswerUnder S b x)
       (also : IsAnswerUnder S c y) (ok : HasWritableValue S b) (ok' : HasWritableValue S c) where
     answer_is_ok_text : x ≡ ok_text (S.text_of ok.0)
-    answer_is_ok_text = same_answer b x _ hb tells (inl (ok.0, ok.1, ok.2, refl))
+    answer_is_ok_text = same_answer b x _ hb tells (inl (ok.0, ok.1, inl (ok.2, refl)))
 
     other_answer_is_ok_text : y ≡ ok_text (S.text_of ok'.0)
-    other_answer_is_ok_text = same_answer c y _ hc also (inl (ok'.0, ok'.1, ok'.2, refl))
+    other_answer_is_ok_text = same_answer c y _ hc also (inl (ok'.0, ok'.1, inl (ok'.2, refl)))
 
     -- equivalent inputs have the same answer, and only they, if the text shows the whole value
     pub same_text_iff_equivalent : (HasFullText S → x ≡ y → AreEquivalentUnder S b c)

@@ -30,6 +30,7 @@ use Rattle.netlink_packet_sock_diag.proofs.DumpRows.{dump_of_joined, items_of_ea
 use Rattle.netlink_packet_sock_diag.proofs.DumpRows.{equal_dumps, split_of_dump, reading_status}
 use Rattle.netlink_packet_sock_diag.proofs.DumpRows.{reading_has_no_error_number}
 use Rattle.sock_diag_lines.specs.declared.dump_line.ReadDump.{ReadDump}
+use Rattle.sock_diag_lines.specs.AnswerText.{IsAnswerToValue}
 use Rattle.sock_diag_lines.specs.DumpLine.{DumpOutcome, IsDumpAnswer, IsDumpOf, IsWritableDump}
 use Rattle.sock_diag_lines.specs.DumpLine.{dump_state_text, dump_text}
 use Rattle.sock_diag_lines.specs.HexField.{IsHexField, hex_field_of}
@@ -41,8 +42,8 @@ use Rattle.sock_diag_lines.proofs.MessageLaws.{netlink_message_answer_laws}
 use Rattle.sock_diag_lines.proofs.FieldLaws.{IsBytes-field}
 use Rattle.sock_diag_lines.specs.Answer.{name_entry}
 use Rattle.sock_diag_lines.specs.declared.answers.Name.TheVariants.{NetlinkMessage}
-use Rattle.sock_diag_lines.proofs.AnswerTexts.{answers_more, has_text, one_text}
-use Rattle.sock_diag_lines.proofs.AnswerTexts.{bytes_have_one_value}
+use Rattle.sock_diag_lines.proofs.AnswerTexts.{bytes_have_one_value, one_answer_to_value}
+use Rattle.sock_diag_lines.proofs.AnswerTexts.{value_has_answer}
 
 -- each datagram has items
 pub each_datagram_has_items : (b : List ℕ) → IsBytes b
@@ -84,38 +85,39 @@ pub has_dump_text : (datagrams : List (List ℕ)) → AllByRecursion IsBytes dat
 has_dump_text datagrams in_range =
     let parts = items_of_each (IsItemOf message_codec) each_datagram_has_items datagrams in_range in
     let dump = has_dump [] (concatenation parts.0) in
-    has_text IsWritableDump dump_text (IsDumpOf datagrams) (λ error. ⊥)
-    (inl ((dump.0, dump.1), (parts.0, parts.1, dump.2)))
-    (λ d. each_or_not _ message_fits_or_not d.0)
+    let outcome : DumpOutcome = (dump.0, dump.1) in
+    let answer = value_has_answer (dump_text outcome) (each_or_not _ message_fits_or_not dump.0) in
+    (answer.0, (outcome, (parts.0, parts.1, dump.2), answer.1))
 
 -- datagrams have at most one answer
 pub one_dump_text : (datagrams : List (List ℕ)) → AllByRecursion IsBytes datagrams → (x y : List ℕ)
     → IsDumpAnswer datagrams x → IsDumpAnswer datagrams y → x ≡ y
-one_dump_text datagrams in_range =
-    one_text IsWritableDump dump_text (IsDumpOf datagrams) (λ error. ⊥)
-    (one_dump_outcome datagrams in_range) (λ d error is never. never)
-    (λ error other never also. absurd never)
+one_dump_text datagrams in_range x y (d, is, answer) (e, also, other) =
+    one_answer_to_value (dump_text d) x y answer
+    (subst (λ (o : DumpOutcome). IsAnswerToValue (IsWritableDump o) (dump_text o) y)
+    (one_dump_outcome datagrams in_range e d also is) other)
 
 -- datagrams with the same concatenated items have the same answer
 pub answers_same_items : (datagrams others : List (List ℕ))
     → AllByRecursion IsBytes datagrams → HaveSameItems (IsItemOf message_codec) datagrams others
     → (text : List ℕ) → IsDumpAnswer datagrams text → IsDumpAnswer others text
-answers_same_items datagrams others in_range same text =
-    answers_more IsWritableDump dump_text
-    (λ d. equal_dumps (IsItemOf message_codec) one_items datagrams others in_range same [] d.0 d.1)
-    (λ error never. never)
+answers_same_items datagrams others in_range same text (d, is, answer) = (
+  d,
+  equal_dumps (IsItemOf message_codec) one_items datagrams others in_range same [] d.0 d.1 is,
+  answer,
+)
 
 -- another split of the same bytes has the same answer
 pub answers_split : (datagrams others : List (List ℕ)) → AllByRecursion IsBytes others
     → AreCompleteExceptLast datagrams → AreCompleteExceptLast others
     → concat datagrams ≡ concat others
     → (text : List ℕ) → IsDumpAnswer datagrams text → IsDumpAnswer others text
-answers_split datagrams others in_range split cut same text =
-    answers_more IsWritableDump dump_text
-    (λ d is. split_of_dump (IsItemOf message_codec) each_datagram_has_items
-    one_items others in_range cut [] d.0 d.1
-    (rw same at (dump_of_split (IsItemOf message_codec) datagrams split [] d.0 d.1 is)))
-    (λ error never. never)
+answers_split datagrams others in_range split cut same text (d, is, answer) = (
+  d,
+  split_of_dump (IsItemOf message_codec) each_datagram_has_items one_items others in_range cut []
+      d.0 d.1 (rw same at (dump_of_split (IsItemOf message_codec) datagrams split [] d.0 d.1 is)),
+  answer,
+)
 
 -- ---- the end of a dump
 
@@ -206,7 +208,7 @@ texts_answer_dump dump writable outcome has =
     ap (λ (end : Result DumpState DecodeError).
     dump_state_text (map_ok (λ (state : DumpState). (state, None)) end)) has.1
     ∙ shown_text outcome.1 in
-    inl (outcome, refl, all.0, rw (end, all.1, all.2, length-map, texts_of_messages) refl)
+    inl (all.0, rw (end, all.1, all.2, length-map, texts_of_messages) refl)
 
 -- ---- one more datagram
 

@@ -61,7 +61,13 @@ abbrev pub IsWritableRequest : List ℕ → Name → List ℕ → Type 0
 IsWritableRequest line name bytes =
     IsRequest line name bytes × HasWritableValue (codec_of_name name) bytes
 
--- the answer to a line that is no request
+-- `IsBadLine line`: the line is neither a name and a hex field, whatever the name and the bytes,
+-- nor a dump, whatever the datagrams
+pub record IsBadLine (line : List ℕ) : Type 0 where
+  pub unnamed : (name : Name) (bytes : List ℕ) → ¬ IsRequest line name bytes
+  pub undumped : (datagrams : List (List ℕ)) → ¬ IsDumpRequest line datagrams
+
+-- the answer to a bad line
 abbrev pub bad_line_text : List ℕ
 bad_line_text = codes "bad line"
 
@@ -77,9 +83,8 @@ pub record IsAnswerOf (line text : List ℕ) : Type 0 where
   -- if the line is a dump over these datagrams
   pub dumped : (datagrams : List (List ℕ)) → IsDumpRequest line datagrams
       → IsDumpAnswer datagrams text
-  -- if the line is neither, whatever the name, the bytes and the datagrams
-  pub other : ((name : Name) (bytes : List ℕ) → ¬ IsRequest line name bytes)
-      → ((datagrams : List (List ℕ)) → ¬ IsDumpRequest line datagrams) → text ≡ bad_line_text
+  -- if the line is neither
+  pub other : IsBadLine line → text ≡ bad_line_text
 
 -- `is_good text`: the answer starts with `ok `, and not with `ok failed`. Only the answer to a dump
 -- can start with `ok failed`: that of a dump that ended with a decode error. `eqb` compares bytes.

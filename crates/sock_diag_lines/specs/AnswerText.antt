@@ -17,23 +17,11 @@ unwritable_text = codes "unwritable"
 abbrev pub refused_text : DecodeError → List ℕ
 refused_text error = codes "refused " ++ decimal (error_code error)
 
--- `IsAnswerText parses rejects is_writable text_of text`: the text answers some bytes. They parse
--- as the values of which `parses` holds, and are rejected with the errors of which `rejects` holds.
--- The answer is `ok ` and the text of such a value (`text_of`), if it is writable (`is_writable`);
--- `unwritable`, if it is not; or `refused ` and the code of such an error.
-abbrev pub IsAnswerText : {Value : Type 0} → (Value → Type 0) → (DecodeError → Type 0)
-    → (Value → Type 0) → (Value → List ℕ) → List ℕ → Type 0
-IsAnswerText {Value} parses rejects is_writable text_of text =
-    ((value : Value) × parses value × is_writable value × (text ≡ ok_text (text_of value)))
-    ⊎ (((value : Value) × parses value × (¬ is_writable value) × (text ≡ unwritable_text))
-    ⊎ ((e : DecodeError) × rejects e × (text ≡ refused_text e)))
-
--- `IsAnswerToValue value is_writable text_of text`: the text answers bytes that parse as this value
--- and are not rejected (`⊥`): `ok ` and the text of the value if it is writable, else `unwritable`
-abbrev pub IsAnswerToValue : {Value : Type 0} → Value → (Value → Type 0) → (Value → List ℕ)
-    → List ℕ → Type 0
-IsAnswerToValue value is_writable text_of text =
-    IsAnswerText (λ other. other ≡ value) (λ error. ⊥) is_writable text_of text
+-- `IsAnswerToValue is_writable value_text text`: the text answers bytes that parse as a value:
+-- `ok ` and the text of the value if the value is writable, else `unwritable`
+abbrev pub IsAnswerToValue : Type 0 → List ℕ → List ℕ → Type 0
+IsAnswerToValue is_writable value_text text =
+    (is_writable × (text ≡ ok_text value_text)) ⊎ ((¬ is_writable) × (text ≡ unwritable_text))
 
 -- How bytes are parsed and shown: a codec, and the text of a value.
 pub record AnswerCodec : Type 1 where
@@ -58,11 +46,12 @@ answer_codec codec param =
     codec_with_text codec param (λ value. hex_field_of (codec.serialized value))
 
 -- `IsAnswerUnder answers bytes text`: the text answers the bytes, which are parsed and shown as
--- `answers` says (`IsAnswerText`). `text` is the last argument, which the right side leaves out.
+-- `answers` says: it answers their value, or it is `refused ` and the code of their first error
 abbrev pub IsAnswerUnder : AnswerCodec → List ℕ → List ℕ → Type 0
-IsAnswerUnder answers bytes = IsAnswerText
-    (answers.codec.parses bytes answers.param) (answers.codec.rejects bytes answers.param)
-    answers.codec.is_writable answers.text_of
+IsAnswerUnder answers bytes text =
+    ((value : answers.codec.Value) × answers.codec.parses bytes answers.param value
+    × IsAnswerToValue (answers.codec.is_writable value) (answers.text_of value) text)
+    ⊎ ((e : DecodeError) × answers.codec.rejects bytes answers.param e × (text ≡ refused_text e))
 
 -- `HasWritableValue answers bytes`: the bytes parse as a writable value by the codec of `answers`
 abbrev pub HasWritableValue : AnswerCodec → List ℕ → Type 0

@@ -10,7 +10,7 @@ use Rattle.netlink_core.specs.Items.{IsItemOf}
 use Rattle.netlink_packet_sock_diag.specs.Dump.{DumpOfDatagrams, DumpStatus}
 use Rattle.netlink_packet_sock_diag.specs.Message.{Message, message_codec}
 use Rattle.sock_diag_lines.specs.HexField.{AreHexFields, hex_field_of, space}
-use Rattle.sock_diag_lines.specs.AnswerText.{IsAnswerText}
+use Rattle.sock_diag_lines.specs.AnswerText.{IsAnswerToValue}
 
 -- `IsDumpRequest line datagrams`: the line is `dump`, a space, and one or more hex fields, each
 -- separated from the next by one space; they are the hex fields of these datagrams, in order
@@ -50,7 +50,7 @@ dump_text outcome = dump_state_text outcome.1 ++ space ∷ decimal (length outco
     ++ flat_map (λ message. space ∷ hex_field_of (message_codec.serialized message)) outcome.0
 
 -- `IsDumpAnswer datagrams text`: the text answers the dump over the datagrams: it is `ok ` and the
--- text of the dump, or `unwritable` if a message of the dump is not writable. It is never `refused`
--- (`⊥`). `text` is the last argument, which the right side leaves out.
+-- text of the dump, or `unwritable` if a message of the dump is not writable
 abbrev pub IsDumpAnswer : List (List ℕ) → List ℕ → Type 0
-IsDumpAnswer datagrams = IsAnswerText (IsDumpOf datagrams) (λ error. ⊥) IsWritableDump dump_text
+IsDumpAnswer datagrams text = (outcome : DumpOutcome) × IsDumpOf datagrams outcome
+    × IsAnswerToValue (IsWritableDump outcome) (dump_text outcome) text

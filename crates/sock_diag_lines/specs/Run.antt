@@ -7,11 +7,6 @@ use Rattle.program_streams.specs.Lines.{SplitsIntoLines, all_lines}
 use Rattle.program_streams.specs.declared.lines.RunError.{RunError}
 use Rattle.sock_diag_lines.specs.Answer.{IsAnswerOf, is_good}
 
--- `AnswersLines answer`: for each line, `answer line` is the answer to it; there is exactly one
--- such function
-abbrev pub AnswersLines : (List ℕ → List ℕ) → Type 0
-AnswersLines answer = AnswersEachLine IsAnswerOf answer
-
 -- `WritesAllAnswers left held held'`: if the bytes that were left to read before the run (`left`)
 -- are known, the answers to all their lines were written, each followed by a line feed. `held` and
 -- `held'` are the bytes that had been written before and after the run, if they are known. In the
@@ -20,8 +15,8 @@ AnswersLines answer = AnswersEachLine IsAnswerOf answer
 -- three.
 abbrev pub WritesAllAnswers : Option (List ℕ) → Option (List ℕ) → Option (List ℕ) → Type 0
 WritesAllAnswers left held held' = IfSome left (λ text.
-    (answer : List ℕ → List ℕ) (whole : List (List ℕ)) (rest : List ℕ) → AnswersLines answer
-    → SplitsIntoLines text whole rest
+    (answer : List ℕ → List ℕ) (whole : List (List ℕ)) (rest : List ℕ)
+    → AnswersEachLine IsAnswerOf answer → SplitsIntoLines text whole rest
     → Appends held held' (answer_lines answer (all_lines whole rest)))
 
 -- `exit_status_of is_strict outcome`: the exit status of a run: 1 if it failed, 3 if it is strict
@@ -36,5 +31,5 @@ exit_status_of is_strict (Err error) = 1
 -- succeeded, the outcome is whether each answer is good (`is_good`). `answer` has the answer to
 -- each line: there is exactly one such function.
 abbrev pub RunEnds : RunStreams → Result Bool RunError → Type 0
-RunEnds streams outcome = (answer : List ℕ → List ℕ) → AnswersLines answer
-    → AnswersInput answer streams is_good outcome
+RunEnds streams outcome = (answer : List ℕ → List ℕ)
+    → AnswersEachLine IsAnswerOf answer → AnswersInput answer streams is_good outcome

@@ -41,7 +41,8 @@ comma_list numbers =
 -- - 8 and 9: the two numbers of UNIX_DIAG_RQLEN, `udiag_rqueue` and `udiag_wqueue`, if the state is
 --   TCP_LISTEN; `none` in any other state
 -- - 10 and 11: the same two numbers, if the state is not TCP_LISTEN; else `none`
--- - 12 and 13: the numbers SK_MEMINFO_SNDBUF and SK_MEMINFO_WMEM_QUEUED of UNIX_DIAG_MEMINFO
+-- - 12 and 13: the numbers SK_MEMINFO_SNDBUF (`max_datagram_size`) and SK_MEMINFO_WMEM_QUEUED
+--   (`alloc`) of UNIX_DIAG_MEMINFO
 -- `found kind` is the value of the first attribute of this type, and `both` are the two numbers of
 -- a pair.
 abbrev pub reply_text : ReplyValue unix_response_spec → List ℕ
@@ -51,12 +52,9 @@ reply_text reply = let found = λ (kind : ℕ).
     option_map (λ numbers. numbers.0) pair ∷ option_map (λ numbers. numbers.1) pair ∷ [] in
     join_with_byte space (map decimal (reply.header.kind ∷ reply.header.state
     ∷ reply.header.inode ∷ [])
-    -- UNIX_DIAG_PEER, UNIX_DIAG_NAME, UNIX_DIAG_ICONS
     ++ or_none decimal (found c.UNIX_DIAG_PEER) ∷ or_none socket_name_text (found c.UNIX_DIAG_NAME)
     ∷ or_none comma_list (found c.UNIX_DIAG_ICONS)
-    -- UNIX_DIAG_SHUTDOWN; the queue lengths of a socket that listens, and those of any other socket
     ∷ map (or_none decimal) (found c.UNIX_DIAG_SHUTDOWN
     ∷ both (listening_queue_of reply) ++ both (nonlistening_queue_of reply)
-    -- two numbers of UNIX_DIAG_MEMINFO: SK_MEMINFO_SNDBUF and SK_MEMINFO_WMEM_QUEUED
     ++ option_map (λ info. info.max_datagram_size) (found c.UNIX_DIAG_MEMINFO)
     ∷ option_map (λ info. info.alloc) (found c.UNIX_DIAG_MEMINFO) ∷ []))

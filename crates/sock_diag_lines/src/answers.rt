@@ -15,7 +15,7 @@ ghost use Rattle.netlink_packet_sock_diag.specs.MessageViewModel.{message_view_m
 ghost use Rattle.netlink_packet_sock_diag.specs.PayloadViewModel.{netlink_message_view_model};
 ghost use Rattle.sock_diag_lines.specs.Answer.{IsAnswerOf, IsWritableRequest, codec_of_name};
 ghost use Rattle.sock_diag_lines.specs.Answer.{spelling_of};
-ghost use Rattle.sock_diag_lines.specs.Run.{AnswersLines};
+ghost use Rattle.program_streams.specs.LineRun.{AnswersEachLine};
 ghost use Rattle.sock_diag_lines.specs.private.LineRequest.{IsAnswerTo, IsParsedAs};
 ghost use Rattle.sock_diag_lines.specs.DumpLine.{IsDumpRequest};
 ghost use Rattle.sock_diag_lines.specs.MessageLine.{netlink_message_text};
@@ -132,8 +132,8 @@ pub fn answer(alloc: Global, line: &[u8]) -> Result<Vec<u8>, AllocError>
 
 /// Each line has exactly one answer. Proof only: the contract states the property.
 pub fn each_line_has_one_answer()
-    // There is a function that has the answer to each line (`AnswersLines answer`).
-    ensures some { (answer : List ℕ → List ℕ) × AnswersLines answer }
+    // There is a function that has the answer to each line (`AnswersEachLine`).
+    ensures some { (answer : List ℕ → List ℕ) × AnswersEachLine IsAnswerOf answer }
     // Two texts that answer one line (`IsAnswerOf line text`) are equal.
     ensures one { (line text other : List ℕ) → IsAnswerOf line text → IsAnswerOf line other
         → text ≡ other }
@@ -285,12 +285,12 @@ fn push_message_text(
     message: &MessageView<'_>,
 ) -> Result<(), AllocError>
     // Some bytes were appended (`AppendsSome old new Holds`), which answer this value
-    // (`IsAnswerToValue value is_writable text_of text`): `ok ` and its text
-    // (`netlink_message_text`) if it is writable, else `unwritable`. `netlink_message_view_model`:
-    // the borrowed message, with its bytes as lists.
-    ensures { OnOk result (AppendsSome text.old.items text.new.items
-        (IsAnswerToValue (netlink_message_view_model message.now)
-        netlink_message_codec.is_writable netlink_message_text)) }
+    // (`IsAnswerToValue is_writable value_text text`): `ok ` and its text (`netlink_message_text`)
+    // if it is writable, else `unwritable`. `netlink_message_view_model`: the borrowed message,
+    // with its bytes as lists.
+    ensures { OnOk result (AppendsSome text.old.items text.new.items (IsAnswerToValue
+        (netlink_message_codec.is_writable (netlink_message_view_model message.now))
+        (netlink_message_text (netlink_message_view_model message.now)))) }
 {
     if !message.is_writable() {
         return text.extend_from_slice(UNWRITABLE);

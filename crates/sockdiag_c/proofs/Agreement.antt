@@ -3,6 +3,7 @@ use Rattle.std.proofs.Common.{◌≡◌, ◌≢◌, ◌∙◌, ℕ, List, [], �
 use Rattle.std.proofs.Common.{Result, Ok, Err, None, Some, Option, drop, slice_get}
 use Rattle.std.specs.List.{AllZip, cons_option, filter_map}
 use Rattle.std.specs.Result.{result_err}
+use Rattle.std.specs.Option.{option_or}
 use Rattle.netlink_core.specs.Attribute.{Attribute, HasAttributeError, IsFramingError}
 use Rattle.netlink_core.specs.Attribute.{SplitsIntoAttributes, StartsWithAttribute}
 use Rattle.netlink_core.specs.AttributeSet.{decode_attribute}
@@ -16,7 +17,7 @@ use Rattle.sockdiag_c.specs.Family.{AgreesWithCodec, ArePartsOf, CallsAgree, Has
 use Rattle.sockdiag_c.specs.Family.{AreDetailsOf}
 use Rattle.sockdiag_c.specs.Family.{SplitsWithError, Family, IsCodeOf, IsFirstError, ReplyParts}
 use Rattle.sockdiag_c.specs.Family.{first_error}
-use Rattle.sockdiag_c.specs.Family.{first_present, optional_code, value_error}
+use Rattle.sockdiag_c.specs.Family.{optional_code, value_error}
 use Rattle.sockdiag_c.specs.declared.lenient.Rejections.{Rejections}
 use Rattle.sockdiag_c.proofs.Rows.{code_is_not_zero, first_attribute}
 
@@ -52,7 +53,7 @@ module _ {V : Type 0} (decode : Attribute → Result V DecodeError)
   first_of_more : (a : Attribute) (others : List Attribute) (r : Result V DecodeError)
       → decode a ≡ r
       → first_content_of error_of (a ∷ others)
-      ≡ first_present (result_err r) (first_content_of error_of others)
+      ≡ option_or (result_err r) (first_content_of error_of others)
   first_of_more a others (Ok v) is =
       ap (λ (o : Option DecodeError). slice_get (cons_option o (filter_map error_of others)) 0)
       (same a ∙ ap result_err is)
@@ -80,13 +81,13 @@ module _ {V : Type 0} (decode : Attribute → Result V DecodeError)
   error_of_more : (bytes left : List ℕ) (a : Attribute) (others : List Attribute)
       (end : Option DecodeError) (e : DecodeError) (r : Result V DecodeError)
       → StartsWithAttribute bytes a left
-      → (first_present (first_content_of error_of others) end ≡ Some e
+      → (option_or (first_content_of error_of others) end ≡ Some e
       → HasAttributeError decode left e)
-      → decode a ≡ r → first_present (first_content_of error_of (a ∷ others)) end ≡ Some e
+      → decode a ≡ r → option_or (first_content_of error_of (a ∷ others)) end ≡ Some e
       → HasAttributeError decode bytes e
   error_of_more bytes left a others end e (Ok v) start more of is =
       error_of_rest decode bytes left a v e start of
-      (more (sym (ap (λ (o : Option DecodeError). first_present o end)
+      (more (sym (ap (λ (o : Option DecodeError). option_or o end)
       (first_of_more a others (Ok v) of)) ∙ is))
   error_of_more bytes left a others end e (Err f) start more of is =
       error_of_first_attribute decode bytes e (StartsWithAttribute-nonempty bytes left a start)
@@ -94,7 +95,7 @@ module _ {V : Type 0} (decode : Attribute → Result V DecodeError)
         a,
         attribute_prefix_of_start bytes left a start,
         of ∙ ap Err (some_injective
-            (sym (ap (λ (o : Option DecodeError). first_present o end)
+            (sym (ap (λ (o : Option DecodeError). option_or o end)
             (first_of_more a others (Err f) of)) ∙ is)),
       ))
 
@@ -102,7 +103,7 @@ module _ {V : Type 0} (decode : Attribute → Result V DecodeError)
   pub error_of_bytes : (bytes : List ℕ) (attributes : List Attribute) (end : Option DecodeError)
       (e : DecodeError)
       → SplitsWithError attributes end bytes
-      → first_present (first_content_of error_of attributes) end ≡ Some e
+      → option_or (first_content_of error_of attributes) end ≡ Some e
       → HasAttributeError decode bytes e
   error_of_bytes bytes [] None e ends is = absurd cc
   error_of_bytes bytes [] (Some f) e (rest, split, some, error) is = (
@@ -131,7 +132,7 @@ error_of_mapped : {A B : Type 0} (f : A → B) (r : Result A DecodeError) (e : D
 error_of_mapped f (Ok x) e is = absurd cc
 error_of_mapped f (Err g) e is = cc
 
-both_none : {A : Type 0} (o p : Option A) → first_present o p ≡ None → (o ≡ None) × (p ≡ None)
+both_none : {A : Type 0} (o p : Option A) → option_or o p ≡ None → (o ≡ None) × (p ≡ None)
 both_none None p none = (refl, none)
 both_none (Some x) p none = absurd cc
 

@@ -7,7 +7,7 @@ use Rattle.sock_diag_extras.specs.Acknowledgement.{ack_attribute_bytes_from}
 use Rattle.sock_diag_extras.specs.Models.{ack_attributes, ack_number}
 use Rattle.sock_diag_extras.specs.declared.acknowledgement.AckView.{AckView}
 use Rattle.sockdiag_c.specs.Answers.{SetsTargetIf}
-use Rattle.sockdiag_c.specs.ErrorAttributes.{PointsAt}
+use Rattle.sockdiag_c.specs.Walks.{bytes_after_cursor}
 use Rattle.sockdiag_c.specs.declared.walks.Cursor.{Cursor}
 
 -- a suffix is found by its length
@@ -36,7 +36,7 @@ pub pointed : (P : Type 0) (found : Option AckView) (payload attributes : List �
     → (IsSome found ↔ P)
     → IfSome found (λ ack. ack_attributes ack ≡ attributes)
     → drop (length payload - length attributes) payload ≡ attributes
-    → SetsTargetIf P (PointsAt attributes payload)
+    → SetsTargetIf P (λ target. bytes_after_cursor payload target ≡ attributes)
     (record { old = old; new = new; returned = answer })
 pointed P (Some ack) payload attributes old new answer how whether is suffix =
     inl (

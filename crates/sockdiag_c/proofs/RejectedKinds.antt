@@ -4,13 +4,14 @@ use Rattle.std.proofs.Common.{arith, refl}
 use Rattle.std.specs.Prelude.{⊤}
 use Rattle.std.specs.List.{AllByRecursion}
 use Rattle.std.specs.Result.{result_err}
+use Rattle.std.specs.Option.{option_or}
 use Rattle.netlink_core.specs.declared.error.DecodeError.{DecodeError}
 use Rattle.netlink_core.specs.Attribute.{Attribute, attribute_kind}
 use Rattle.netlink_core.specs.AttributeSet.{AttributeSet, AttributeValue, decode_attribute}
 use Rattle.netlink_core.specs.AttributeSet.{kind_numbers}
 use Rattle.sock_diag_attributes.specs.InetAttributes.{inet_attribute_set}
 use Rattle.sock_diag_attributes.specs.UnixAttributes.{unix_attribute_set}
-use Rattle.sockdiag_c.specs.Family.{StructRow, first_present, value_error, value_of}
+use Rattle.sockdiag_c.specs.Family.{StructRow, value_error, value_of}
 use Rattle.sockdiag_c.specs.InetDetails.{inet_rows}
 use Rattle.sockdiag_c.specs.UnixDetails.{unix_rows}
 use Rattle.sockdiag_c.proofs.Rows.{NoValues}
@@ -71,7 +72,7 @@ KindsAreBelow n (row ∷ others) a =
 
 either_error : (o p : Option DecodeError) (P : Type 0) → ((e : DecodeError) → o ≡ Some e → P)
     → ((e : DecodeError) → p ≡ Some e → P)
-    → (e : DecodeError) → first_present o p ≡ Some e → P
+    → (e : DecodeError) → option_or o p ≡ Some e → P
 either_error None p P first later e is = later e is
 either_error (Some f) p P first later e is = first f refl
 

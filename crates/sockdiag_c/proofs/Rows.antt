@@ -4,6 +4,7 @@ use Rattle.std.proofs.Common.{Err, Ok, Result, ap, arith, drop, slice_get, subst
 use Rattle.std.specs.Prelude.{⊤, ◌==◌, Bool, IfOk, MatchResult, false, if◌then◌else◌, true}
 use Rattle.std.proofs.lemmas.List.{append_assoc, append-nil}
 use Rattle.std.specs.List.{filter_map, cons_option}
+use Rattle.std.specs.Option.{option_or}
 use Rattle.netlink_core.specs.Attribute.{Attribute, IsFramingError, StartsWithAttribute}
 use Rattle.netlink_core.specs.Attribute.{attribute_kind}
 use Rattle.netlink_core.specs.Errors.{error_code}
@@ -11,7 +12,7 @@ use Rattle.netlink_core.specs.declared.error.DecodeError.{DecodeError}
 use Rattle.sock_diag_replies.specs.UnixGetters.{first_content_of}
 use Rattle.sockdiag_c.specs.Family.{ArePartsOf, SplitsWithError, Family, HasValues, ReplyParts}
 use Rattle.sockdiag_c.specs.Family.{StructRow}
-use Rattle.sockdiag_c.specs.Family.{error_of_kind, first_present, value_error, value_in}
+use Rattle.sockdiag_c.specs.Family.{error_of_kind, value_error, value_in}
 use Rattle.sock_diag_values.specs.declared.inet.mem_info.MemInfo.{MemInfo}
 use Rattle.sockdiag_c.specs.Details.{memory_struct}
 use Rattle.sockdiag_c.specs.declared.family_values.Memory.{Memory}
@@ -24,12 +25,12 @@ option_alone o =
     grind arith
 
 first_of_prefix : {B : Type 0} (o p : Option B) (now later : List B)
-    → slice_get later 0 ≡ first_present (slice_get now 0) p
-    → slice_get (cons_option o later) 0 ≡ first_present (slice_get (cons_option o now) 0) p
+    → slice_get later 0 ≡ option_or (slice_get now 0) p
+    → slice_get (cons_option o later) 0 ≡ option_or (slice_get (cons_option o now) 0) p
 first_of_prefix o p now later e =
     grind arith
 
-pub or_none : {A : Type 0} (o : Option A) → first_present o None ≡ o
+pub or_none : {A : Type 0} (o : Option A) → option_or o None ≡ o
 or_none None = refl
 or_none (Some x) = refl
 
@@ -37,7 +38,7 @@ module _ {A B : Type 0} where
   -- the first content of a list with one more element
   pub first_more : (content : A → Option B) (xs : List A) (x : A)
       → first_content_of content (xs ++ x ∷ [])
-      ≡ first_present (first_content_of content xs) (content x)
+      ≡ option_or (first_content_of content xs) (content x)
   first_more content [] x = option_alone (content x)
   first_more content (y ∷ ys) x =
       grind (
@@ -52,7 +53,7 @@ module _ {A B : Type 0} where
       → first_content_of content xs ≡ first_content_of content (xs ++ x ∷ [])
   first_unchanged content xs x none =
       sym (first_more content xs x
-      ∙ ap (first_present (first_content_of content xs)) none
+      ∙ ap (option_or (first_content_of content xs)) none
       ∙ or_none (first_content_of content xs))
 
 module _ {D : Type 0} where
@@ -73,10 +74,10 @@ module _ {A : Type 0} where
   pub first_after : (error_of : Attribute → Option A) (xs : List Attribute) (a : Attribute)
       (before : Option A) (e : A)
       → before ≡ first_content_of error_of xs → error_of a ≡ Some e
-      → first_present before (Some e) ≡ first_content_of error_of (xs ++ a ∷ [])
+      → option_or before (Some e) ≡ first_content_of error_of (xs ++ a ∷ [])
   first_after error_of xs a before e was error =
-      ap (λ (o : Option A). first_present o (Some e)) was
-      ∙ ap (first_present (first_content_of error_of xs)) (sym error)
+      ap (λ (o : Option A). option_or o (Some e)) was
+      ∙ ap (option_or (first_content_of error_of xs)) (sym error)
       ∙ sym (first_more error_of xs a)
 
 if_equal : (o p : Option DecodeError) (t : Bool) → o ≡ p
@@ -99,13 +100,13 @@ module _ {D : Type 0} (family : Family D) where
   -- the first error of a kind after an attribute with an error
   pub kind_after : (k : ℕ) (xs : List Attribute) (a : Attribute) (kind : ℕ) (e : DecodeError)
       → value_error family.rows a ≡ Some e → kind ≡ attribute_kind a
-      → first_present (first_content_of (error_of_kind family k) xs)
+      → option_or (first_content_of (error_of_kind family k) xs)
       (if kind == k then Some e else None)
       ≡ first_content_of (error_of_kind family k) (xs ++ a ∷ [])
   kind_after k xs a kind e error is =
-      ap (λ (n : ℕ). first_present (first_content_of (error_of_kind family k) xs)
+      ap (λ (n : ℕ). option_or (first_content_of (error_of_kind family k) xs)
       (if n == k then Some e else None)) is
-      ∙ ap (first_present (first_content_of (error_of_kind family k) xs))
+      ∙ ap (option_or (first_content_of (error_of_kind family k) xs))
       (if_equal _ _ (attribute_kind a == k) (sym error))
       ∙ sym (first_more (error_of_kind family k) xs a)
 
@@ -187,14 +188,14 @@ pub unchanged : {D : Type 0} (rows : List (StructRow D)) (a : Attribute) (d : D)
     → AddsValues rows a (record { old = d; new = d })
 unchanged [] a d none = tt
 unchanged (row ∷ others) a d (none, more) = (
-  λ o has. has ∙ ap row.contents (sym (ap (first_present o) none ∙ or_none o)),
+  λ o has. has ∙ ap row.contents (sym (ap (option_or o) none ∙ or_none o)),
   unchanged others a d more,
 )
 
 -- memory that is not set is set
 pub memory_set : (o : Option MemInfo) (old new : Memory) (m : MemInfo)
     → old.receive_queue.is_set ≡ 0 → old ≡ memory_struct o → new ≡ memory_struct (Some m)
-    → new ≡ memory_struct (first_present o (Some m))
+    → new ≡ memory_struct (option_or o (Some m))
 memory_set None old new m unset was is = is
 memory_set (Some x) old new m unset was is =
     absurd (omega (arith, unset, ap (λ (d : Memory). d.receive_queue.is_set) was))

@@ -3,6 +3,7 @@ use Rattle.std.specs.Prelude.{◌≡◌, ◌≢◌, ◌<◌, ℕ, ◌⊎◌, ◌
 use Rattle.std.specs.Prelude.{Option, Some, None, option_map, option_and_then, slice_index}
 use Rattle.std.specs.Prelude.{Result, Ok, Err}
 use Rattle.std.specs.Result.{result_ok, result_err}
+use Rattle.std.specs.Option.{option_or}
 use Rattle.netlink_core.specs.Attribute.{Attribute, IsFramingError, SplitsIntoAttributes}
 use Rattle.netlink_core.specs.Attribute.{SplitsUntilError, attribute_kind}
 use Rattle.netlink_core.specs.AttributeSet.{AttributeSet, ValueOfKind, decode_attribute}
@@ -63,11 +64,6 @@ part_of F kind part a =
 
 -- ---- the values of attributes
 
--- first_present o p: `o` if it is a `Some`, else `p`
-abbrev pub first_present : {A : Type 0} → Option A → Option A → Option A
-first_present (Some x) p = Some x
-first_present None p = p
-
 -- value_in row a: the value of the attribute `a` for this row; None if `a` has another kind, or is
 -- rejected. `option_and_then (λ o. o)` makes one option of the two.
 abbrev pub value_in : {D : Type 0} (row : StructRow D) → Attribute → Option row.Value
@@ -77,7 +73,7 @@ value_in row a = option_and_then (λ o. o) (result_ok (row.read a))
 -- None if no row does.
 abbrev pub value_error : {D : Type 0} → List (StructRow D) → Attribute → Option DecodeError
 value_error [] a = None
-value_error (row ∷ others) a = first_present (result_err (row.read a)) (value_error others a)
+value_error (row ∷ others) a = option_or (result_err (row.read a)) (value_error others a)
 
 -- HasValues rows d attributes: for each row, the struct `d` has the value of the first of these
 -- attributes that has one for the row. If none of them has one, the fields of the row are zeros.
@@ -122,7 +118,7 @@ module _ {D : Type 0} (family : Family D) where
   -- error of the first rejected attribute; if none is rejected, the framing error. None if there is
   -- no error.
   abbrev pub first_error : ReplyParts family.Header → Option DecodeError
-  first_error parts = first_present
+  first_error parts = option_or
       (first_content_of (value_error family.rows) parts.attributes) parts.framing_error
 
   -- AreDetailsOf family payload d: the reply in the payload has no error, and the struct `d` has

@@ -9,11 +9,11 @@ pub mod UnixDetails
 pub mod InetDetails
 pub mod AttributeValues
 pub mod ErrorDetails
-pub mod ErrorAttributes
 pub mod TcpInfo
 pub mod NetlinkDetails
 pub mod PacketDetails
 pub mod VsockDetails
 pub mod XdpDetails
 pub mod FamilyRequests
+pub mod laws
 pub mod private

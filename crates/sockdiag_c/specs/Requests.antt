@@ -1,5 +1,5 @@
 -- The bytes of requests for UNIX and internet sockets.
-use Rattle.std.specs.Prelude.{◌≡◌, ◌≢◌, ℕ, ◌+◌, ◌%◌, ◌<◌, ◌≤◌, ◌==◌, nat_lt, if◌then◌else◌, List}
+use Rattle.std.specs.Prelude.{◌≡◌, ℕ, ◌+◌, ◌%◌, ◌<◌, ◌≤◌, ◌==◌, nat_lt, if◌then◌else◌, List}
 use Rattle.std.specs.Prelude.{[], ◌∷◌, ◌++◌, length, drop, replicate, slice_index}
 use Rattle.byteorder.specs.Endian.{little_bytes}
 use Rattle.std.specs.declared.net.ip_addr.IpAddr.{IpAddr}
@@ -15,7 +15,7 @@ use Rattle.netlink_core.specs.Header.{header_bytes}
 use Rattle.sock_diag_records.specs.InetRequest.{inet_request}
 use Rattle.sock_diag_records.specs.SignificantBits.{IsInetFamily}
 use Rattle.sock_diag_records.specs.UnixRequest.{unix_request}
-use Rattle.sock_diag_records.specs.declared.constants.TheConstants.{AF_INET, AF_INET6}
+use Rattle.sock_diag_records.specs.declared.constants.TheConstants.{AF_INET}
 use Rattle.sock_diag_records.specs.declared.constants.TheConstants.{SOCK_DIAG_BY_FAMILY}
 use Rattle.sock_diag_records.specs.declared.inet.request.TheConstants.{INET_DIAG_REQ_PROTOCOL}
 use Rattle.sock_diag_records.specs.declared.inet.request.InetRequest as inet
@@ -127,8 +127,7 @@ abbrev pub WritesInetMessage : ℕ → InetRequest → Call (List ℕ) → Type 
 WritesInetMessage message_type r call =
     (IsInetFamily r.family
     → WritesMessage (inet_message_length r.protocol) (inet_message message_type r) call)
-    × (r.family ≢ AF_INET → r.family ≢ AF_INET6
-    → (call.returned ≡ 0) × (call.new ≡ call.old))
+    × (¬ IsInetFamily r.family → (call.returned ≡ 0) × (call.new ≡ call.old))
 
 -- ---- requests with attributes of the caller
 

@@ -5,6 +5,7 @@
 ghost use Rattle.std.specs.Prelude.{◌≡◌, ◌≢◌, ℕ, [], drop, Err, IfErr, IfOk, None, Ok, Option};
 ghost use Rattle.std.specs.Prelude.{Some};
 ghost use Rattle.std.specs.Result.{result_err, result_ok};
+ghost use Rattle.std.specs.Option.{option_or};
 ghost use Rattle.netlink_core.specs.Parse.{number_of_width};
 ghost use Rattle.netlink_core.specs.Walk.{buffered_attribute};
 ghost use Rattle.sockdiag_c.specs.Details.{optional_number, text_parts};
@@ -12,7 +13,7 @@ ghost use Rattle.sockdiag_c.specs.Family.{AreDetailsOf, HasHeaderAndValuesOf, Sp
 ghost use Rattle.sockdiag_c.specs.Family.{Family};
 ghost use Rattle.sockdiag_c.specs.Family.{HasRejections, HasValues, IsCodeOf, IsFirstError};
 ghost use Rattle.sockdiag_c.specs.Family.{IsHeaderError, LenientDetailsAre, ReplyParts};
-ghost use Rattle.sockdiag_c.specs.Family.{first_error, first_present, value_error};
+ghost use Rattle.sockdiag_c.specs.Family.{first_error, value_error};
 ghost use Rattle.sockdiag_c.specs.private.Rows.{AddsValues};
 
 use crate::check::store_parsed;
@@ -62,10 +63,10 @@ impl Number {
     /// Sets the number, unless it is set already.
     pub(crate) fn set(&mut self, value: u32)
         // `o`: the number before the call, or None. `optional_number o`: the struct that has it;
-        // nothing is stated of other structs, which do not occur. `first_present`: the first
+        // nothing is stated of other structs, which do not occur. `option_or`: the first
         // number, or else the second.
         ensures { (o : Option ℕ) → self.old ≡ optional_number o
-            → self.new ≡ optional_number (first_present o (Some value)) }
+            → self.new ≡ optional_number (option_or o (Some value)) }
     {
         if self.is_set == 0 {
             *self = Number { is_set: 1, value };
@@ -76,11 +77,11 @@ impl Number {
     /// unless it is set already. Fails if the value has another length than 4 bytes.
     pub(crate) fn set_u32(&mut self, value: &[u8], kind: u16) -> Result<(), DecodeError>
         // `o`: the number before the call, or None. `optional_number o`: the struct that has it.
-        // `first_present`: the first number, or else the second. `result_ok`: the value of a
+        // `option_or`: the first number, or else the second. `result_ok`: the value of a
         // result, or None. `number_of_width (Some kind) 4`: the parser of a little-endian `u32`,
         // whose error has this kind.
         ensures number { (o : Option ℕ) → self.old ≡ optional_number o → self.new
-            ≡ optional_number (first_present o
+            ≡ optional_number (option_or o
             (result_ok (number_of_width (Some kind) 4 value.now))) }
         // `result_err`: the error of a result, or None.
         ensures error { result_err result ≡ result_err (number_of_width (Some kind) 4 value.now) }
@@ -107,10 +108,10 @@ impl<'a> Text<'a> {
     pub(crate) fn set(&mut self, kind: u32, bytes: &'a [u8])
         // The kind 0 denotes that there is no text.
         requires { kind ≢ 0 }
-        // `text_parts`: the kind and the bytes of the text, or None. `first_present`: the first
+        // `text_parts`: the kind and the bytes of the text, or None. `option_or`: the first
         // text, or else the second.
         ensures { text_parts self.new
-            ≡ first_present (text_parts self.old) (Some (kind, bytes.entry.now)) }
+            ≡ option_or (text_parts self.old) (Some (kind, bytes.entry.now)) }
     {
         if self.kind == 0 {
             *self = Text { kind, bytes };
@@ -120,10 +121,10 @@ impl<'a> Text<'a> {
     /// Sets the text to these bytes, with the kind `BYTES`, unless it is set already. Always
     /// returns `Ok`, since the bytes are not checked.
     pub(crate) fn set_bytes(&mut self, bytes: &'a [u8]) -> Result<(), DecodeError>
-        // `text_parts`: the kind and the bytes of the text, or None. `first_present`: the first
+        // `text_parts`: the kind and the bytes of the text, or None. `option_or`: the first
         // text, or else the second.
         ensures text { text_parts self.new
-            ≡ first_present (text_parts self.old) (Some (BYTES, bytes.entry.now)) }
+            ≡ option_or (text_parts self.old) (Some (BYTES, bytes.entry.now)) }
         ensures error { result ≡ Ok tt }
     {
         self.set(BYTES, bytes);

@@ -7,7 +7,7 @@ ghost use Rattle.sock_diag_extras.specs.Acknowledgement.{ack_attribute_bytes_fro
 ghost use Rattle.sock_diag_extras.specs.Acknowledgement.{error_attribute_bytes};
 ghost use Rattle.sock_diag_extras.specs.Models.{ack_attributes};
 ghost use Rattle.sockdiag_c.specs.Answers.{SetsTargetIf};
-ghost use Rattle.sockdiag_c.specs.ErrorAttributes.{PointsAt};
+ghost use Rattle.sockdiag_c.specs.Walks.{bytes_after_cursor};
 
 use crate::walks::{Cursor, END, ITEM};
 use netlink_core::{NLMSG_DONE, NLMSG_ERROR};
@@ -33,17 +33,19 @@ pub extern "C" fn sockdiag_find_error_attributes(
     flags: u16,
     cursor: &mut Cursor,
 ) -> u32
-    // `SetsTargetIf condition target`: if the condition holds, the cursor is set to the target, and
+    // `SetsTargetIf condition IsTarget`: if the condition holds, the cursor is set to a target, and
     // the result is 1; else it is 0. The payload has to contain the request (`HasCompleteRequest`).
-    // The target is the start (`PointsAt`) of the attributes after it (`error_attribute_bytes`).
+    // From the target on (`bytes_after_cursor`) it has the attributes after the request
+    // (`error_attribute_bytes`).
     ensures error { message_type ≡ NLMSG_ERROR → SetsTargetIf (HasCompleteRequest flags payload.now)
-        (PointsAt (error_attribute_bytes flags payload.now) payload.now)
+        (λ target. bytes_after_cursor payload.now target ≡ error_attribute_bytes flags payload.now)
         record { old = cursor.old; new = cursor.new; returned = result } }
-    // The payload has to contain an error number. The target is the start of the attributes after
-    // its 4 bytes (`ack_attribute_bytes_from`).
+    // The payload has to contain an error number. From the target on it has the attributes after
+    // the 4 bytes of this number (`ack_attribute_bytes_from`).
     ensures done { message_type ≡ NLMSG_DONE
         → SetsTargetIf (IsSome (leading_error_number payload.now))
-        (PointsAt (ack_attribute_bytes_from flags 4 payload.now) payload.now)
+        (λ target. bytes_after_cursor payload.now target
+        ≡ ack_attribute_bytes_from flags 4 payload.now)
         record { old = cursor.old; new = cursor.new; returned = result } }
     ensures other { message_type ≢ NLMSG_ERROR → message_type ≢ NLMSG_DONE
         → (result ≡ 0) × (cursor.new ≡ cursor.old) }

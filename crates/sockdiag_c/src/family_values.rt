@@ -3,11 +3,11 @@
 
 ghost use Rattle.std.specs.Prelude.{◌≡◌, drop, IfErr, IfOk, Ok, Err, Option, Some};
 ghost use Rattle.std.specs.Result.{result_err, result_ok};
+ghost use Rattle.std.specs.Option.{option_or};
 ghost use Rattle.netlink_core.specs.Layout.{parse_record};
 ghost use Rattle.sock_diag_values.specs.declared.inet.mem_info.MemInfo.{MemInfo as MemInfoModel};
 ghost use Rattle.sockdiag_c.specs.Answers.{IsGetterResult};
 ghost use Rattle.sockdiag_c.specs.Details.{memory_struct, optional_number, optional_record};
-ghost use Rattle.sockdiag_c.specs.Family.{first_present};
 
 use crate::details::Number;
 use crate::walks::{END, ITEM};
@@ -76,10 +76,10 @@ impl Memory {
     /// `parsed`, if any.
     pub(crate) fn set(&mut self, parsed: Result<MemInfo, DecodeError>) -> Result<(), DecodeError>
         // `o`: the memory counters before the call, or None. `memory_struct o`: the struct that has
-        // them. `first_present`: the first counters, or else the second. `result_ok`: the value of
+        // them. `option_or`: the first counters, or else the second. `result_ok`: the value of
         // a result, or None.
         ensures memory { (o : Option MemInfoModel) → self.old ≡ memory_struct o
-            → self.new ≡ memory_struct (first_present o (result_ok parsed)) }
+            → self.new ≡ memory_struct (option_or o (result_ok parsed)) }
         // `result_err`: the error of a result, or None.
         ensures error { result_err result ≡ result_err parsed }
     {
@@ -99,11 +99,11 @@ pub(crate) fn set_record<T: Copy>(
     record: &mut T,
 ) -> Result<(), DecodeError>
     // `zero`: what `record` contains if none is set. `o`: the record before the call, or None.
-    // `optional_record zero o`: 1 and this record, or 0 and `zero`. `first_present`: the first
+    // `optional_record zero o`: 1 and this record, or 0 and `zero`. `option_or`: the first
     // record, or else the second. `result_ok`: the value of a result, or None.
     ensures record { (zero : T) (o : Option T)
         → (is_set.old, record.old) ≡ optional_record zero o
-        → (is_set.new, record.new) ≡ optional_record zero (first_present o (result_ok parsed)) }
+        → (is_set.new, record.new) ≡ optional_record zero (option_or o (result_ok parsed)) }
     // `result_err`: the error of a result, or None.
     ensures error { result_err result ≡ result_err parsed }
 {

@@ -3,9 +3,10 @@
 
 ghost use Rattle.std.specs.Prelude.{◌≡◌, ◌≢◌, ◌<◌, ◌==◌, if◌then◌else◌, ℕ, None, Option, Some};
 ghost use Rattle.std.specs.Prelude.{slice_index};
+ghost use Rattle.std.specs.Option.{option_or};
 ghost use Rattle.netlink_core.specs.declared.error.DecodeError.{DecodeError};
 ghost use Rattle.sockdiag_c.specs.Family.{IsCodeOf, IsHeaderError, LenientDetailsAre};
-ghost use Rattle.sockdiag_c.specs.Family.{first_present, optional_code};
+ghost use Rattle.sockdiag_c.specs.Family.{optional_code};
 ghost use Rattle.sockdiag_c.specs.InetDetails.{inet_family};
 ghost use Rattle.sockdiag_c.specs.NetlinkDetails.{netlink_family};
 ghost use Rattle.sockdiag_c.specs.PacketDetails.{packet_family};
@@ -76,8 +77,8 @@ impl Errors {
     /// Adds an error: it is the first one if there was none. Its code as a framing error or as the
     /// error of a kind is not stored; the caller does that.
     pub(crate) fn add(&mut self, error: DecodeError)
-        // `first_present`: the first error, or else the second.
-        ensures first { self.new.first ≡ first_present self.old.first (Some error) }
+        // `option_or`: the first error, or else the second.
+        ensures first { self.new.first ≡ option_or self.old.first (Some error) }
         // If the code `first` of the rejections was that of the first error before, it still is.
         // `optional_code`: the code, or 0 for None.
         ensures code { self.old.rejections.first ≡ optional_code self.old.first
@@ -93,8 +94,8 @@ impl Errors {
 
     /// Adds the error of an attribute of this kind.
     pub(crate) fn add_value(&mut self, kind: u16, error: DecodeError)
-        // `first_present`: the first error, or else the second.
-        ensures first { self.new.first ≡ first_present self.old.first (Some error) }
+        // `option_or`: the first error, or else the second.
+        ensures first { self.new.first ≡ option_or self.old.first (Some error) }
         // If the code `first` of the rejections was that of the first error before, it still is.
         // `optional_code`: the code, or 0 for None.
         ensures code { self.old.rejections.first ≡ optional_code self.old.first
@@ -105,7 +106,7 @@ impl Errors {
         ensures errors { (k : ℕ) (o : Option DecodeError) → k < REJECTION_KINDS
             → slice_index self.old.rejections.errors k ≡ optional_code o
             → slice_index self.new.rejections.errors k
-            ≡ optional_code (first_present o (if kind == k then Some error else None)) }
+            ≡ optional_code (option_or o (if kind == k then Some error else None)) }
     {
         let index = usize::from(kind);
         if index < REJECTION_KINDS && self.rejections.errors[index] == 0 {

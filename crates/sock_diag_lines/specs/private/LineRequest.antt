@@ -1,18 +1,11 @@
 -- The request in a line, and its answer.
 use Rattle.std.specs.Prelude.{◌≡◌, ℕ, List}
-use Rattle.sock_diag_lines.specs.Answer.{IsRequest, bad_line_text, codec_of_name}
+use Rattle.sock_diag_lines.specs.Answer.{IsBadLine, IsRequest, bad_line_text, codec_of_name}
 use Rattle.sock_diag_lines.specs.DumpLine.{IsDumpRequest}
 use Rattle.sock_diag_lines.specs.private.ReadDump.{AnswersDump, IsReadDump}
 use Rattle.sock_diag_lines.specs.AnswerText.{IsAnswerUnder}
-use Rattle.sock_diag_lines.specs.declared.answers.Name.{Name}
 use Rattle.sock_diag_lines.specs.declared.answers.LineRequest.{LineRequest}
 use Rattle.sock_diag_lines.specs.declared.answers.LineRequest.TheVariants.{Field, Dump, Nothing}
-
--- `IsBadLine line`: the line has another form: it is neither a name with a hex field, whatever the
--- name and the bytes, nor a dump, whatever the datagrams
-pub record IsBadLine (line : List ℕ) : Type 0 where
-  pub unnamed : (name : Name) (bytes : List ℕ) → ¬ IsRequest line name bytes
-  pub undumped : (datagrams : List (List ℕ)) → ¬ IsDumpRequest line datagrams
 
 -- `IsParsedAs line request bytes`: the line has this request. It is the name of the request and the
 -- hex field of the bytes; or a dump, whose datagrams were read; or neither (`Nothing`). `bytes`

@@ -65,4 +65,4 @@ AppendsMessage old message new = (new.end ≡ old.end) × ((messages : List Mess
 -- the same answer.
 abbrev pub AnswersDump : ReadDump → List ℕ → Type 0
 AnswersDump dump text = (outcome : DumpOutcome) → HasOutcome dump outcome
-    → IsAnswerToValue outcome IsWritableDump dump_text text
+    → IsAnswerToValue (IsWritableDump outcome) (dump_text outcome) text

@@ -1,7 +1,8 @@
 -- The fields of a struct after one more attribute.
 use Rattle.std.specs.Prelude.{◌≡◌, List, [], ◌∷◌, Option, ⊤}
+use Rattle.std.specs.Option.{option_or}
 use Rattle.netlink_core.specs.Attribute.{Attribute}
-use Rattle.sockdiag_c.specs.Family.{StructRow, first_present, value_in}
+use Rattle.sockdiag_c.specs.Family.{StructRow, value_in}
 
 -- A struct of C before and after one more attribute.
 pub record Change (D : Type 0) : Type 0 where
@@ -17,5 +18,5 @@ abbrev pub AddsValues : {D : Type 0} → List (StructRow D) → Attribute → Ch
 AddsValues [] a change = ⊤
 AddsValues (row ∷ others) a change =
     ((o : Option row.Value) → row.fields change.old ≡ row.contents o
-    → row.fields change.new ≡ row.contents (first_present o (value_in row a)))
+    → row.fields change.new ≡ row.contents (option_or o (value_in row a)))
     × AddsValues others a change

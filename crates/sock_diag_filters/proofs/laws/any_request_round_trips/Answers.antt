@@ -13,9 +13,9 @@ returns-clause-records_accepted c = λ family r e whole refused.
     serialized_record_request_is_accepted family r whole e refused
 
 pub returns-clause-inet : goal.returns-clause-inet
-returns-clause-inet c = λ h request attributes other whole asks.
-    serialized_inet_request_parses h request attributes whole.round_trips whole.kind other asks
+returns-clause-inet c = λ r other can kind asks.
+    serialized_inet_request_parses r can kind other asks
 
 pub returns-clause-inet_accepted : goal.returns-clause-inet_accepted
-returns-clause-inet_accepted c = λ h request attributes e whole refused.
-    serialized_inet_request_is_accepted h request attributes whole.round_trips whole.kind e refused
+returns-clause-inet_accepted c = λ r e can kind refused.
+    serialized_inet_request_is_accepted r can kind e refused

@@ -1,9 +1,10 @@
 use Rattle.std.proofs.Common.{◌∙◌, ◌++◌, ◌∷◌, ℕ, List, None, Some, Option, [], ap, refl, sym}
 use Rattle.std.specs.Prelude.{slice_index}
+use Rattle.std.specs.Option.{option_or}
 use Rattle.netlink_core.specs.Walk.{buffered_attribute}
 use Rattle.netlink_core.specs.declared.error.DecodeError.{DecodeError}
 use Rattle.sock_diag_replies.specs.UnixGetters.{first_content_of}
-use Rattle.sockdiag_c.specs.Family.{error_of_kind, first_present, optional_code, value_error}
+use Rattle.sockdiag_c.specs.Family.{error_of_kind, optional_code, value_error}
 use Rattle.sockdiag_c.proofs.Rows.{all_attributes, first_after, first_unchanged, kind_after}
 use Rattle.sockdiag_c.proofs.Rows.{kind_unchanged, no_attributes_yet, one_more_attribute, or_none}
 use Rattle.sockdiag_c.proofs.Rows.{until_framing_error, values_after}
@@ -72,7 +73,7 @@ returns-in-Err g c = λ values.
     let e = c.in-Err.error in
     let stop = rw c.in-Err.is at c.in-Some.ensures.steps in
     let first = c.add.ensures.first
-    ∙ ap (λ (o : Option DecodeError). first_present o (Some e)) inv.first in (
+    ∙ ap (λ (o : Option DecodeError). option_or o (Some e)) inv.first in (
       record {
         header = family.header c.args.details.now;
         attributes = inv.so_far;

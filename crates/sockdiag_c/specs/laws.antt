@@ -1,0 +1,2 @@
+-- Lemmas about the definitions.
+pub mod Constants
