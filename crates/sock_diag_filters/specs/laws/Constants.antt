@@ -1,8 +1,6 @@
 -- The numbers of the constants that definitions name.
 use Rattle.std.proofs.Common.{◌≡◌, refl}
-use Rattle.sock_diag_filters.specs.declared.assembly.TheConstants.{MAX_PROGRAM}
 use Rattle.sock_diag_filters.specs.declared.codes.TheConstants as c
-use Rattle.sock_diag_filters.specs.declared.request.TheConstants.{REQUEST_FRONT}
 
 -- INET_DIAG_BC_.. of linux/inet_diag.h, which tests/kernel_headers.py compares too
 pub operation_codes : (c.INET_DIAG_BC_JMP ≡ 1) × (c.INET_DIAG_BC_S_GE ≡ 2)
@@ -13,7 +11,6 @@ pub operation_codes : (c.INET_DIAG_BC_JMP ≡ 1) × (c.INET_DIAG_BC_S_GE ≡ 2)
 operation_codes =
     (refl, refl, refl, refl, refl, refl, refl, refl, refl, refl, refl, refl, refl)
 
--- `struct inet_diag_bc_op` has 4 bytes; before the attributes of a request are `struct nlmsghdr`
--- (16) and `struct inet_diag_req_v2` (56); the value of an attribute has at most 2^16 - 1 - 4 bytes
-pub sizes : (c.OPERATION_HEADER_LEN ≡ 4) × (REQUEST_FRONT ≡ 72) × (MAX_PROGRAM ≡ 65531)
-sizes = (refl, refl, refl)
+-- the size of `struct inet_diag_bc_op`; `laws.rt` states the other lengths
+pub operation_header_length : c.OPERATION_HEADER_LEN ≡ 4
+operation_header_length = refl
