@@ -24,9 +24,9 @@ use Rattle.sslist_lister.specs.declared.command_line.options.Options.{Options}
 use Rattle.sslist_lister.specs.Diagnostics.{DiagnosesPacket}
 use Rattle.sslist_lister.specs.Listing.{requests_after_packet}
 use Rattle.sslist_lister.specs.Requests.{PastRequests, no_requests}
-use Rattle.sslist_lister.specs.Run.{FailsAtWrite, Fails, Finishes, IsListed, IsTableOfCapture}
+use Rattle.sslist_lister.specs.Run.{FailsAtWrite, Fails, Finishes, IsTableOfCapture}
 use Rattle.sslist_lister.specs.Run.{RunState, ListedPacket}
-use Rattle.sslist_lister.proofs.Progress.{lines_of_packet}
+use Rattle.sslist_lister.proofs.Progress.{IsListed, lines_of_packet}
 use Rattle.sslist_lister.proofs.Progress.{Progress, progress_continues_incomplete}
 use Rattle.sslist_lister.proofs.Progress.{progress_continues_complete, lines_push}
 use Rattle.sslist_lister.proofs.Progress.{progress_begins}

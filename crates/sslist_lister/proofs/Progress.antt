@@ -12,13 +12,17 @@ use Rattle.netlink_captures.specs.Capture.{CapturedPacket}
 use Rattle.netlink_captures.specs.Reader.{CaptureState, ReadsPacket}
 use Rattle.sslist_lister.specs.declared.command_line.options.Options.{Options}
 use Rattle.sslist_lister.specs.Diagnostics.{AreDiagnosed, DiagnosesPacket}
-use Rattle.sslist_lister.specs.Listing.{requests_after_packet}
-use Rattle.sslist_lister.specs.Run.{AreListed, ArePackets, IsListed, ListedPacket}
+use Rattle.sslist_lister.specs.Listing.{ListsCapturedPacket, requests_after_packet}
+use Rattle.sslist_lister.specs.Run.{AreListed, ArePackets, ListedPacket}
 use Rattle.sslist_lister.specs.Requests.{PastRequests, no_requests}
 
 -- the lines of a listed packet
 abbrev pub lines_of_packet : ListedPacket → List ℕ
 lines_of_packet listing = listing.lines
+
+-- the packet was listed so; `past` are the requests before it
+abbrev pub IsListed : Options → PastRequests → CapturedPacket → ListedPacket → Type 0
+IsListed o past packet listing = ListsCapturedPacket o past packet [] listing.lines listing.whole
 
 -- the packet was listed completely
 abbrev pub IsListedCompletely : ListedPacket → Type 0

@@ -8,7 +8,7 @@ use Rattle.netlink_core.specs.declared.error.DecodeError.{DecodeError}
 use Rattle.sslist_lister.specs.Collected.{Summary}
 use Rattle.sslist_lister.specs.Details.{error_reason}
 use Rattle.sslist_lister.specs.texts.JsonData.{JsonMember, array_member, number_members, object_of}
-use Rattle.sslist_lister.specs.texts.JsonData.{json_line, optional_member, text_member}
+use Rattle.sslist_lister.specs.texts.JsonData.{json_text, optional_member, text_member}
 use Rattle.sslist_lister.specs.AttributeFacts.{attribute_outcome}
 use Rattle.sslist_lister.specs.Facts.{facts_in}
 use Rattle.sslist_lister.specs.declared.attributes.Sockets.{Sockets}
@@ -61,6 +61,6 @@ socket_members list header s =
     header ++ attributes_members s ++ optional_member (codes "list") (later_list list)
 
 -- `socket_json list header s`: the line of a socket: an object with `socket_members`, and a line
--- feed
+-- feed (10)
 abbrev pub socket_json : ℕ → List JsonMember → Summary → List ℕ
-socket_json list header s = json_line (socket_members list header s)
+socket_json list header s = json_text (object_of (socket_members list header s)) ++ 10 ∷ []

@@ -44,23 +44,18 @@ family_numbered n =
 
 -- ---- values of attributes
 
--- `u32_in_attribute offset attribute`: the little-endian `u32` at this offset of the value of an
--- attribute; None if there is no attribute, or if its value ends before the end of the `u32`
-abbrev pub u32_in_attribute : ℕ → Option Attribute → Option ℕ
-u32_in_attribute offset None = None
-u32_in_attribute offset (Some a) =
-    if nat_lt (length a.value) (offset + 4) then None
-    else Some (little_number 4 (drop offset a.value))
-
 -- `none_if_equal none n`: the number `n`, or None if it is equal to the number `none`
 abbrev pub none_if_equal : ℕ → ℕ → Option ℕ
 none_if_equal none n = if n == none then None else Some n
 
--- `u32_in_first kind offset s`: the `u32` at this offset of the value of the first valid attribute
--- of this kind; None if there is none, or if `kind` is None
+-- `u32_in_first kind offset s`: the little-endian `u32` at this offset of the value of the first
+-- valid attribute of this kind; None if there is none, if its value ends before the end of the
+-- `u32`, or if `kind` is None
 abbrev pub u32_in_first : Option ℕ → ℕ → Summary → Option ℕ
-u32_in_first None offset s = None
-u32_in_first (Some kind) offset s = u32_in_attribute offset (first_in kind s)
+u32_in_first kind offset s = option_and_then
+    (λ a. if nat_lt (length a.value) (offset + 4) then None
+    else Some (little_number 4 (drop offset a.value)))
+    (option_and_then (λ known. first_in known s) kind)
 
 -- `interface_number kind s`: the interface number, which is the `u32` at offset 0 of the first
 -- valid attribute of this kind. None if there is no such attribute, or if the number is 0, which is

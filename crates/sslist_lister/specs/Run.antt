@@ -25,17 +25,12 @@ pub record ListedPacket : Type 0 where
   -- the packet was listed completely
   pub whole : Bool
 
--- `IsListed o past packet listing`: `listing` has the lines of the packet, and whether it was
--- listed completely. `past` are the requests before this packet. No text precedes the lines (`[]`).
-abbrev pub IsListed : Options → PastRequests → CapturedPacket → ListedPacket → Type 0
-IsListed o past packet listing = ListsCapturedPacket o past packet [] listing.lines listing.whole
-
 -- `AreListed o past packets listings`: one listing for each of these consecutive packets, in
--- order. `past` are the requests before the first of them.
+-- order. `past` are the requests before the first of them. No text precedes the lines (`[]`).
 abbrev pub AreListed : Options → PastRequests → List CapturedPacket → List ListedPacket → Type 0
 AreListed o past [] [] = ⊤
 AreListed o past (packet ∷ packets) (listing ∷ later) =
-    IsListed o past packet listing
+    ListsCapturedPacket o past packet [] listing.lines listing.whole
     × AreListed o (requests_after_packet past packet.bytes) packets later
 AreListed o past _ _ = ⊥
 

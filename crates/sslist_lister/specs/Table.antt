@@ -7,8 +7,9 @@ use Rattle.netlink_core.specs.Attribute.{Attribute}
 use Rattle.netlink_core.specs.AttributeSet.{AttributeValue, ValueOfKind, decode_attribute}
 use Rattle.netlink_core.specs.AttributeSet.{value_of_kind}
 use Rattle.netlink_core.specs.declared.error.DecodeError.{DecodeError}
-use Rattle.sslist_lister.specs.texts.Cells.{FirstColumns, endpoint, named_line, number_or_star}
+use Rattle.sslist_lister.specs.texts.Cells.{FirstColumns, endpoint, first_columns, number_or_star}
 use Rattle.sslist_lister.specs.texts.Cells.{table_line}
+use Rattle.sslist_lister.specs.texts.Widths.{name_column}
 use Rattle.sslist_lister.specs.texts.Parts.{no_timer, details_after_separator}
 use Rattle.sslist_lister.specs.texts.Escapes.{byte_digits, unescaped_bytes, shown_name}
 use Rattle.sslist_lister.specs.declared.command_line.options.Options.{Options}
@@ -125,16 +126,16 @@ unix_first_columns h queues uid = record {
   uid = uid;
 }
 
--- `unix_columns o h s`: the columns of a UNIX socket, whose header is `h`. The name is in the
--- attribute UNIX_DIAG_NAME, the inode of the peer in UNIX_DIAG_PEER, the lengths of the queues in
--- UNIX_DIAG_RQLEN, and the user id in UNIX_DIAG_UID.
+-- `unix_columns o h s`: the columns of a UNIX socket, whose header is `h`: the first columns, the
+-- cell of the name, and the peer. The name is in the attribute UNIX_DIAG_NAME, the inode of the peer
+-- in UNIX_DIAG_PEER, the lengths of the queues in UNIX_DIAG_RQLEN, and the user id in
+-- UNIX_DIAG_UID. The width of the cell, 30, is measured by `name_column`.
 abbrev pub unix_columns : Options → UnixResponseHeader → Summary → List ℕ
 unix_columns o h s =
-    named_line o.utf8
-    (unix_first_columns h (unix_value UNIX_DIAG_RQLEN s)
+    first_columns (unix_first_columns h (unix_value UNIX_DIAG_RQLEN s)
     (option_and_then user_id (first_in UNIX_DIAG_UID s)))
-    (name_cell o.utf8 (unix_value UNIX_DIAG_NAME s))
-    (number_or_star (unix_value UNIX_DIAG_PEER s))
+    ++ name_column o.utf8 30 (name_cell o.utf8 (unix_value UNIX_DIAG_NAME s))
+    ++ number_or_star (unix_value UNIX_DIAG_PEER s)
 
 -- `inet_first_columns protocol h`: the first columns of an IPv4 or IPv6 socket, whose header is
 -- `h`. `protocol` is the protocol of the request.

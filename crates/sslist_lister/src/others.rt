@@ -19,7 +19,7 @@ ghost use Rattle.sslist_lister.specs.Others.{address_text, interface_number, net
 ghost use Rattle.sslist_lister.specs.Others.{other_columns, other_first_columns};
 ghost use Rattle.sslist_lister.specs.Others.{other_lines, packet_socket, none_if_equal};
 ghost use Rattle.sslist_lister.specs.Others.{user_kind, vsock_socket};
-ghost use Rattle.sslist_lister.specs.Others.{u32_in_attribute, u32_in_first};
+ghost use Rattle.sslist_lister.specs.Others.{u32_in_first};
 ghost use Rattle.sslist_lister.specs.Others.{xdp_socket};
 ghost use Rattle.sslist_lister.specs.Pieces.{framing_error_of, pieces_in};
 ghost use Rattle.sslist_lister.specs.declared.attributes.Sockets.TheVariants.{Other};
@@ -317,27 +317,12 @@ fn u32_in_first(found: &Attributes<'_>, kind: Option<u16>, offset: usize) -> Opt
     requires { offset ≤ WMEM_ALLOC_OFFSET }
     ensures { result ≡ u32_in_first kind offset (collected found.now) }
 {
-    match kind {
-        Some(kind) => u32_in_attribute(found.first_of(kind), offset),
-        None => None,
+    let nla = found.first_of(kind?)?;
+    let value = nla.value();
+    if value.len() < offset + 4 {
+        return None;
     }
-}
-
-/// Returns the little-endian `u32` at an offset of the value of an attribute. Returns `None` if
-/// there is no attribute, or if its value is too short.
-fn u32_in_attribute(attribute: Option<NlaBuffer<'_>>, offset: usize) -> Option<u32>
-    // The greatest offset that is used, so that `offset + 4` cannot overflow.
-    requires { offset ≤ WMEM_ALLOC_OFFSET }
-    // `option_map buffered_attribute attribute.entry`: the type and the value of the attribute, if
-    // there is one.
-    ensures { result ≡ u32_in_attribute offset (option_map buffered_attribute attribute.entry) }
-{
-    match attribute {
-        Some(nla) if nla.value().len() >= offset + 4 => {
-            Some(LittleEndian::read_u32(&nla.value()[offset..]))
-        }
-        _ => None,
-    }
+    Some(LittleEndian::read_u32(&value[offset..]))
 }
 
 /// Returns the number, or `None` if it is equal to `none`.

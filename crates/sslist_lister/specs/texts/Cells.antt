@@ -8,7 +8,7 @@ use Rattle.std.specs.Net.Text.{ip_text, scope_text}
 use Rattle.sslist_lister.specs.declared.texts.cells.TheConstants.{INODE_WIDTH, NETID_WIDTH}
 use Rattle.sslist_lister.specs.declared.texts.cells.TheConstants.{QUEUE_WIDTH, STATE_WIDTH}
 use Rattle.sslist_lister.specs.declared.texts.cells.TheConstants.{UID_WIDTH}
-use Rattle.sslist_lister.specs.texts.Widths.{column_padding, name_column}
+use Rattle.sslist_lister.specs.texts.Widths.{column_padding}
 
 -- `column width content`: the content, padded with spaces to a width, and one more space. Longer
 -- content is not cut.
@@ -79,9 +79,3 @@ first_columns cells =
 -- address, padded to 30 characters, then the peer's, which is not padded
 abbrev pub table_line : FirstColumns → List ℕ → List ℕ → List ℕ
 table_line cells local peer = first_columns cells ++ column 30 local ++ peer
-
--- `named_line utf8 cells name peer`: the line of a socket with a name, without its details: as
--- `table_line`, with the cell of the name in place of the local address. Its width is measured by
--- `name_column`.
-abbrev pub named_line : Bool → FirstColumns → List ℕ → List ℕ → List ℕ
-named_line utf8 cells name peer = first_columns cells ++ name_column utf8 30 name ++ peer

@@ -98,7 +98,3 @@ bytes_member name hex_name bytes =
 -- the text of a value, without spaces
 abbrev pub json_text : json.Json → List ℕ
 json_text value = print (json_tokens value)
-
--- a line: the text of the object with these members, and a line feed (10)
-abbrev pub json_line : List JsonMember → List ℕ
-json_line members = json_text (object_of members) ++ 10 ∷ []

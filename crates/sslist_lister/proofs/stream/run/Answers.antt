@@ -13,8 +13,7 @@ use Rattle.sslist_lister.specs.declared.command_line.options.Options.{Options}
 use Rattle.sslist_lister.proofs.Reporting.{ReportsMore}
 use Rattle.sslist_lister.specs.Diagnostics.{DiagnosesPacket}
 use Rattle.sslist_lister.specs.Listing.{ListsCapturedPacket, requests_after_packet}
-use Rattle.sslist_lister.specs.Run.{IsListed}
-use Rattle.sslist_lister.proofs.Progress.{lines_of_packet}
+use Rattle.sslist_lister.proofs.Progress.{IsListed, lines_of_packet}
 use Rattle.sslist_lister.specs.Requests.{PastRequests, past_requests}
 use Rattle.sslist_lister.proofs.Failing.{fails_at_flush, fails_at_header, fails_at_heading}
 use Rattle.sslist_lister.proofs.Failing.{fails_at_lines, fails_at_memory, fails_at_packet}
