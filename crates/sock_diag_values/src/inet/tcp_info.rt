@@ -299,8 +299,8 @@ impl TcpInfo {
     /// [`DecodeError::BufferTooSmall`].
     #[inline(always)]
     pub fn parse(payload: &[u8]) -> Result<Self, DecodeError>
-        // parse_record layout param bytes: `Ok` of the value, or `Err` of the first error. There is
-        // no parameter (`tt`).
+        // `parse_record layout param bytes`: `Ok` of the value, or `Err` of the first error. There
+        // is no parameter (`tt`).
         ensures { result ≡ parse_record tcp_info tt payload.now }
     {
         read_record(payload, ())
@@ -355,7 +355,7 @@ impl TcpInfo {
         write_u32s(&self.u32s_at_216(), u32s_at_216);
     }
 
-    // Returns the eight `u8` fields from offset 0 on, as the definition of the same name does.
+    // Returns the eight `u8` fields from offset 0 on.
     fn u8s_at_0(&self) -> [u8; 8]
         ensures { result ≡ u8s_at_0 self.now }
     {
@@ -371,7 +371,7 @@ impl TcpInfo {
         ]
     }
 
-    // Returns the nine `u32` fields from offset 8 on, as the definition of the same name does.
+    // Returns the nine `u32` fields from offset 8 on.
     fn u32s_at_8(&self) -> [u32; 9]
         ensures { result ≡ u32s_at_8 self.now }
     {
@@ -388,7 +388,7 @@ impl TcpInfo {
         ]
     }
 
-    // Returns the four `u32` fields from offset 44 on, as the definition of the same name does.
+    // Returns the four `u32` fields from offset 44 on.
     fn u32s_at_44(&self) -> [u32; 4]
         ensures { result ≡ u32s_at_44 self.now }
     {
@@ -400,7 +400,7 @@ impl TcpInfo {
         ]
     }
 
-    // Returns the eight `u32` fields from offset 60 on, as the definition of the same name does.
+    // Returns the eight `u32` fields from offset 60 on.
     fn u32s_at_60(&self) -> [u32; 8]
         ensures { result ≡ u32s_at_60 self.now }
     {
@@ -416,14 +416,14 @@ impl TcpInfo {
         ]
     }
 
-    // Returns the three `u32` fields from offset 92 on, as the definition of the same name does.
+    // Returns the three `u32` fields from offset 92 on.
     fn u32s_at_92(&self) -> [u32; 3]
         ensures { result ≡ u32s_at_92 self.now }
     {
         [self.rcv_rtt, self.rcv_space, self.total_retrans]
     }
 
-    // Returns the four `u64` fields from offset 104 on, as the definition of the same name does.
+    // Returns the four `u64` fields from offset 104 on.
     fn u64s_at_104(&self) -> [u64; 4]
         ensures { result ≡ u64s_at_104 self.now }
     {
@@ -435,7 +435,7 @@ impl TcpInfo {
         ]
     }
 
-    // Returns the six `u32` fields from offset 136 on, as the definition of the same name does.
+    // Returns the six `u32` fields from offset 136 on.
     fn u32s_at_136(&self) -> [u32; 6]
         ensures { result ≡ u32s_at_136 self.now }
     {
@@ -449,7 +449,7 @@ impl TcpInfo {
         ]
     }
 
-    // Returns the four `u64` fields from offset 160 on, as the definition of the same name does.
+    // Returns the four `u64` fields from offset 160 on.
     fn u64s_at_160(&self) -> [u64; 4]
         ensures { result ≡ u64s_at_160 self.now }
     {
@@ -461,21 +461,21 @@ impl TcpInfo {
         ]
     }
 
-    // Returns the two `u32` fields from offset 192 on, as the definition of the same name does.
+    // Returns the two `u32` fields from offset 192 on.
     fn u32s_at_192(&self) -> [u32; 2]
         ensures { result ≡ u32s_at_192 self.now }
     {
         [self.delivered, self.delivered_ce]
     }
 
-    // Returns the two `u64` fields from offset 200 on, as the definition of the same name does.
+    // Returns the two `u64` fields from offset 200 on.
     fn u64s_at_200(&self) -> [u64; 2]
         ensures { result ≡ u64s_at_200 self.now }
     {
         [self.bytes_sent, self.bytes_retrans]
     }
 
-    // Returns the four `u32` fields from offset 216 on, as the definition of the same name does.
+    // Returns the four `u32` fields from offset 216 on.
     fn u32s_at_216(&self) -> [u32; 4]
         ensures { result ≡ u32s_at_216 self.now }
     {
