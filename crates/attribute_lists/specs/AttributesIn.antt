@@ -16,12 +16,13 @@ use Rattle.netlink_core.specs.Walk.{unread_bytes}
 
 -- `attributes_after n bytes`: the attributes in the bytes after the first `n` bytes. An attribute
 -- is `nla_len` and `nla_type`, both little-endian with 16 bits, and a value of `nla_len - 4` bytes.
--- The next attribute begins `nla_len` bytes later, rounded up to a multiple of four. Example: the
--- bytes 04 00 01 00 05 00 02 00 09 have two attributes, type 1 without a value, and type 2 with the
--- value 09. The definition is recursive on the bytes, one by one, so that it terminates: `n` bytes
--- are skipped first. In the last equation `byte` is the first one of the attribute. So `drop 1
--- bytes` starts at offset 2 of the attribute, `drop 3 bytes` at offset 4, and 1 is subtracted from
--- the offset of the next attribute.
+-- The next attribute begins `nla_len` bytes later, rounded up to a multiple of four.
+-- Example: the bytes 04 00 01 00 05 00 02 00 09 have two attributes, type 1 without a value, and
+-- type 2 with the value 09.
+-- The definition is recursive on the bytes, one by one, so that it terminates: `n` bytes are
+-- skipped first. In the last equation `byte` is the first one of the attribute. So `drop 1 bytes`
+-- starts at offset 2 of the attribute, `drop 3 bytes` at offset 4, and 1 is subtracted from the
+-- offset of the next attribute.
 unfoldable pub attributes_after : ℕ → List ℕ → List Attribute
 attributes_after n [] = []
 attributes_after (suc n) (byte ∷ bytes) = attributes_after n bytes
