@@ -16,6 +16,7 @@ use Rattle.netlink_core.specs.AttributeSet.{AttributeValue, ValueOfKind, value_o
 use Rattle.netlink_core.specs.AttributeSet.{decode_attribute}
 use Rattle.netlink_core.specs.declared.attribute.NlaBuffer.{NlaBuffer}
 use Rattle.netlink_core.specs.declared.nla.DefaultNla.{DefaultNla}
+use Rattle.netlink_core.specs.Walk.{unread_bytes}
 use Rattle.sock_diag_attributes.specs.declared.numbers.NumbersView.{NumbersView}
 use Rattle.sock_diag_attributes.specs.declared.unix.name.SocketName.{SocketName}
 use Rattle.sock_diag_attributes.specs.declared.unix.nlas.UnixNla.{UnixNla}
@@ -24,7 +25,6 @@ use Rattle.sock_diag_attributes.specs.UnixAttributes.{unix_attribute_set}
 use Rattle.sock_diag_replies.specs.declared.view.AttributeViews.{AttributeViews}
 use Rattle.sock_diag_replies.specs.declared.view.ReplyHeader.{Ghosts}
 use Rattle.sock_diag_replies.specs.UnixGetters.{first_content_of}
-use Rattle.sock_diag_replies.specs.ViewModel.{unread_attributes}
 use denote.Param.Members.{Mut}
 use lib.ListN.{length-map}
 
@@ -128,21 +128,25 @@ first_owned {s = s} k result_model none_is_none some_is_some xs rest call_return
 -- the values of the attributes that the iterator has not yielded yet
 abbrev values_left_in : {H : Type 0} {of : Ghosts H} → AttributeViews H of
     → List (AttributeValue unix_attribute_set)
-values_left_in views = decoded_in (decode_attribute unix_attribute_set) (unread_attributes views)
+values_left_in views = decoded_in (decode_attribute unix_attribute_set) (unread_bytes views.walk)
+
+-- equal bytes have equal values
+pub equal_values : {left right : List ℕ} → left ≡ right
+    → decoded_in (decode_attribute unix_attribute_set) left
+    ≡ decoded_in (decode_attribute unix_attribute_set) right
+equal_values = ap (decoded_in (decode_attribute unix_attribute_set))
 
 -- `find_map` over borrowed attributes finds the first value of the attribute type `k`
 pub first_in_view : {H : Type 0} {of : Ghosts H} {C F : Type 0}
     {g : Mut F (NlaView × Unit {0}) (Option C)} {f : F} {s : AttributeViews H of} (k : ℕ)
     (result_model : Option C → Option (ValueOfKind unix_attribute_set k))
     → result_model None ≡ None → ((y : C) → IsSome (result_model (Some y)))
-    → (bytes : List ℕ) → unread_attributes s ≡ bytes
+    → (all : List (AttributeValue unix_attribute_set)) → values_left_in s ≡ all
     → ((x : NlaView) (o : Option C) (q : F) → Called g f (x, tt) o q → (q ≡ f)
     × (result_model o ≡ value_of_kind unix_attribute_set k (unix_nla_view_model x)))
     → (r : Option C) → FindMapReturns (YieldsFirstBy unix_nla_view_model values_left_in) g s f r
-    → result_model r ≡ first_content_of (value_of_kind unix_attribute_set k)
-    (decoded_in (decode_attribute unix_attribute_set) bytes)
-first_in_view k result_model none_is_none some_is_some bytes unread call_returns =
+    → result_model r ≡ first_content_of (value_of_kind unix_attribute_set k) all
+first_in_view k result_model none_is_none some_is_some all rest call_returns =
     first_value_of_iterator unix_nla_view_model (value_of_kind unix_attribute_set k) result_model
     none_is_none some_is_some call_returns
-    (YieldsList-from_first unix_nla_view_model values_left_in _
-    (ap (decoded_in (decode_attribute unix_attribute_set)) unread))
+    (YieldsList-from_first unix_nla_view_model values_left_in all rest)
