@@ -11,25 +11,25 @@ use Rattle.netlink_core.specs.declared.error.DecodeError.TheVariants.{Memory}
 pub record Codec (Param : Type 0) : Type 1 where
   -- the type of the values
   pub Value : Type 0
-  -- is_in_range v: each number of `v` fits its field
+  -- `is_in_range v`: each number of `v` fits its field
   pub is_in_range : Value → Type 0
-  -- parses b p v: `b` is accepted, and parses as `v`
+  -- `parses b p v`: `b` is accepted, and parses as `v`
   pub parses : List ℕ → Param → Value → Type 0
-  -- rejects b p e: `b` is rejected, and `e` is its first error
+  -- `rejects b p e`: `b` is rejected, and `e` is its first error
   pub rejects : List ℕ → Param → DecodeError → Type 0
-  -- needs_no_memory v: `v` is stored without an allocation
+  -- `needs_no_memory v`: `v` is stored without an allocation
   pub needs_no_memory : Value → Type 0
-  -- equivalent p b c: the accepted byte strings `b` and `c` are equivalent: they differ only in
+  -- `equivalent p b c`: the accepted byte strings `b` and `c` are equivalent: they differ only in
   -- ignored bits
   pub equivalent : Param → List ℕ → List ℕ → Type 0
-  -- is_normal p v: `v` is in normal form, the form of every parsed value
+  -- `is_normal p v`: `v` is in normal form, the form of every parsed value
   pub is_normal : Param → Value → Type 0
-  -- serialized v: the bytes that `v` serializes to
+  -- `serialized v`: the bytes that `v` serializes to
   pub serialized : Value → List ℕ
-  -- is_writable v: `v` is writable: its lengths fit their length fields
+  -- `is_writable v`: `v` is writable: its lengths fit their length fields
   pub is_writable : Value → Type 0
 
--- KeepsCodecLaws C: the codec laws hold of `C`, for all byte strings, parameters, values and
+-- `KeepsCodecLaws C`: the codec laws hold of `C`, for all byte strings, parameters, values and
 -- errors. Several laws require that the numbers of a byte string are below 256 (`IsBytes`).
 pub record KeepsCodecLaws {Param : Type 0} (C : Codec Param) : Type 0 where
   -- In this order: bytes have a value or an error; not both; at most one error; and this error is
@@ -53,9 +53,9 @@ pub record KeepsCodecLaws {Param : Type 0} (C : Codec Param) : Type 0 where
   pub round_trips : (p : Param) (v : C.Value) → C.is_in_range v → C.is_normal p v → C.is_writable v
       → C.parses (C.serialized v) p v
 
--- as_codec part: the codec of a part of a message by itself, given its `ValueCodec`, whose members
--- it has. `part.parses` returns the value or the error: here `parses` says that it returns the
--- value `v`, and `rejects` that it returns the error `e`. No value needs memory (`⊤`), and each
+-- `as_codec part`: the codec of a part of a message by itself, given its `ValueCodec`, whose
+-- members it has. `part.parses` returns the value or the error: here `parses` says that it returns
+-- the value `v`, and `rejects` that it returns the error `e`. No value needs memory (`⊤`), and each
 -- value is writable (`⊤`).
 abbrev pub as_codec : {Param : Type 0} → ValueCodec Param → Codec Param
 as_codec part = record {
@@ -70,7 +70,7 @@ as_codec part = record {
   is_writable = λ v. ⊤;
 }
 
--- record_codec layout: the codec of a record, given its layout: `parse_record` and `record_bytes`
+-- `record_codec layout`: the codec of a record, given its layout: `parse_record` and `record_bytes`
 -- parse and serialize; `AreEquivalent`, `IsInRange` and `IsNormal` are `equivalent`, `is_in_range`
 -- and `is_normal`; no value needs memory, and each is writable
 abbrev pub record_codec : {Param Tag Value : Type 0} → Layout Param Tag Value → Codec Param

@@ -6,7 +6,7 @@ use Rattle.netlink_core.specs.declared.error.DecodeError.{DecodeError}
 use Rattle.netlink_core.specs.Attribute.{padding_length}
 use Rattle.netlink_core.specs.Header.{IsMessageError, message_length_in}
 
--- StartsWithMessage bytes message rest: the bytes are the message, its padding, and `rest`
+-- `StartsWithMessage bytes message rest`: the bytes are the message, its padding, and `rest`
 -- (`parts`). The message has at least the 16 bytes of a header, and as many bytes as its
 -- `nlmsg_len` says (`whole`). The other fields of the header and the payload are not considered.
 -- The padding may have any content. It is complete, up to a multiple of four; it may be shorter
@@ -18,7 +18,7 @@ pub record StartsWithMessage (bytes message rest : List ℕ) : Type 0 where
   pub filled : (length padding ≡ padding_length (length message))
       ⊎ ((length padding < padding_length (length message)) × (rest ≡ []))
 
--- SplitsIntoMessages bytes messages end: the bytes are these messages, consecutive and each with
+-- `SplitsIntoMessages bytes messages end`: the bytes are these messages, consecutive and each with
 -- its padding. If `end` is `None`, no bytes follow. If it is `Some e`, other bytes follow, at least
 -- one, which do not begin with a message; `e` is their error.
 abbrev pub SplitsIntoMessages : List ℕ → List (List ℕ) → Option DecodeError → Type 0

@@ -7,9 +7,9 @@ use Rattle.netlink_core.specs.AttributeSet.{encode_attribute, IsInRangeIn, IsNor
 use Rattle.netlink_core.specs.AttributeSet.{NeedsNoMemoryIn, AreEquivalentAttributes}
 use Rattle.netlink_core.specs.Codec.{Codec}
 
--- first_attribute_codec set: the codec of the attribute at the start of the bytes, which is decoded
--- by the set. Its padding and the bytes after it are ignored. `b` and `c` are byte strings, `v` is
--- a decoded value, and `e` is an error; `p` is `tt`, since there is no parameter.
+-- `first_attribute_codec set`: the codec of the attribute at the start of the bytes, which is
+-- decoded by the set. Its padding and the bytes after it are ignored. `b` and `c` are byte strings,
+-- `v` is a decoded value, and `e` is an error; `p` is `tt`, since there is no parameter.
 abbrev pub first_attribute_codec : AttributeSet → Codec (Unit {0})
 first_attribute_codec set = record {
   Value = AttributeValue set;

@@ -22,37 +22,37 @@ header_rows =
 abbrev pub header_fields : List Field
 header_fields = fields_of header_rows
 
--- header_values h: the five numbers of the header `h`, in the order of the rows
+-- `header_values h`: the five numbers of the header `h`, in the order of the rows
 abbrev pub header_values : NetlinkHeader → List ℕ
 header_values = numbers_of header_rows
 
--- header_bytes h: the 16 bytes that the header `h` serializes to
+-- `header_bytes h`: the 16 bytes that the header `h` serializes to
 abbrev pub header_bytes : NetlinkHeader → List ℕ
 header_bytes h = bytes_of header_fields (header_values h)
 
--- HasHeader bytes h: the bytes begin with the header `h`. Each number of `h` fits its field. The
+-- `HasHeader bytes h`: the bytes begin with the header `h`. Each number of `h` fits its field. The
 -- message is complete: `nlmsg_len` is at least 16, the length of the header, and at most the number
 -- of bytes. What follows the header is not considered.
 abbrev pub HasHeader : List ℕ → NetlinkHeader → Type 0
 HasHeader bytes h = (values_of header_fields bytes ≡ header_values h)
     × FitFields header_fields (header_values h) × (16 ≤ h.length) × (h.length ≤ length bytes)
 
--- message_length_in bytes: `nlmsg_len` of the header at the start of the bytes: four bytes,
+-- `message_length_in bytes`: `nlmsg_len` of the header at the start of the bytes: four bytes,
 -- little-endian, at offset 0
 abbrev pub message_length_in : List ℕ → ℕ
 message_length_in bytes = little_number 4 bytes
 
--- message_type_in bytes: `nlmsg_type` of the header at the start of the bytes: two bytes,
+-- `message_type_in bytes`: `nlmsg_type` of the header at the start of the bytes: two bytes,
 -- little-endian, at offset 4
 abbrev pub message_type_in : List ℕ → ℕ
 message_type_in bytes = little_number 2 (drop 4 bytes)
 
--- message_payload bytes h: the payload of the message at the start of the bytes, whose header is
+-- `message_payload bytes h`: the payload of the message at the start of the bytes, whose header is
 -- `h`: the bytes from offset 16, the end of the header, to offset `nlmsg_len`
 abbrev pub message_payload : List ℕ → NetlinkHeader → List ℕ
 message_payload bytes h = take (h.length - 16) (drop 16 bytes)
 
--- IsMessageError bytes e: the bytes do not begin with a complete message, and `e` is their first
+-- `IsMessageError bytes e`: the bytes do not begin with a complete message, and `e` is their first
 -- error: fewer than 16 bytes, the length of the header; else `nlmsg_len` is below 16; else
 -- `nlmsg_len` is above the number of bytes. The errors contain `nlmsg_len` and the number of bytes.
 -- No other `DecodeError` is such an error (`⊥`).

@@ -3,7 +3,7 @@ use Rattle.std.specs.Prelude.{◌≡◌, ◌≢◌, ℕ, List, [], map, Option, 
 use Rattle.std.specs.Prelude.{MatchResult}
 use Rattle.netlink_core.specs.declared.error.DecodeError.{DecodeError}
 
--- YieldsPart starts has_error left item later: one call of `next` of an iterator returns `item`.
+-- `YieldsPart starts has_error left item later`: one call of `next` of an iterator returns `item`.
 -- `left` are the bytes that the iterator has not read before the call, and `later` those after it.
 -- One of three holds. The item is a part, with `starts left part later`: `left` starts with the
 -- part, and `later` follows. Or the item is an error, with `has_error left error`; `left` is not
@@ -15,7 +15,7 @@ YieldsPart starts has_error left item later = MatchOption item ((left ≡ []) ×
     (λ part_or_error. MatchResult part_or_error (λ part. starts left part later)
     (λ e. (left ≢ []) × has_error left e × (later ≡ [])))
 
--- items_without_errors yielded: the items of an iterator that yields these parts and no error: `Ok`
--- of each part
+-- `items_without_errors yielded`: the items of an iterator that yields these parts and no error:
+-- `Ok` of each part
 abbrev pub items_without_errors : {I : Type 0} → List I → List (Result I DecodeError)
 items_without_errors yielded = map (λ part. Ok part) yielded

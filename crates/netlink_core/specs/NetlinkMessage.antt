@@ -14,7 +14,7 @@ use Rattle.netlink_core.specs.Header.{HasHeader, IsMessageError, message_length_
 use Rattle.netlink_core.specs.Header.{message_type_in, message_payload}
 use Rattle.netlink_core.specs.Codec.{Codec}
 
--- Payload A: the payload of a message. An inner message is an `A`, and the raw bytes of a control
+-- `Payload A`: the payload of a message. An inner message is an `A`, and the raw bytes of a control
 -- message are a list.
 abbrev pub Payload : Type 0 → Type 0
 Payload A = NetlinkPayload A (List ℕ)
@@ -24,14 +24,14 @@ pub record NetlinkMessageModel (A : Type 0) : Type 0 where
   pub header : NetlinkHeader
   pub payload : Payload A
 
--- IsInnerMessageType t: a message of the type `t` has an inner message: `t` is 0, or above 4
+-- `IsInnerMessageType t`: a message of the type `t` has an inner message: `t` is 0, or above 4
 -- (NLMSG_OVERRUN). The control messages have the types 1 to 4. The kernel's header reserves the
 -- other types below NLMSG_MIN_TYPE (16) for control messages, but defines none of them: here they
 -- count as types of inner messages.
 abbrev pub IsInnerMessageType : ℕ → Type 0
 IsInnerMessageType t = (t ≡ 0) ⊎ (constants.NLMSG_OVERRUN < t)
 
--- ParsesAsPayload parses bytes t payload: the bytes parse as this payload under the message type
+-- `ParsesAsPayload parses bytes t payload`: the bytes parse as this payload under the message type
 -- `t`. `parses bytes t value` says that they parse as the inner message `value`. The raw bytes of
 -- an NLMSG_ERROR, NLMSG_DONE or NLMSG_OVERRUN are all bytes. An NLMSG_NOOP accepts any bytes, and
 -- drops them.
@@ -43,7 +43,7 @@ ParsesAsPayload parses bytes t (Done raw) = (t ≡ constants.NLMSG_DONE) × (raw
 ParsesAsPayload parses bytes t (Overrun raw) = (t ≡ constants.NLMSG_OVERRUN) × (raw ≡ bytes)
 ParsesAsPayload parses bytes t (InnerMessage value) = IsInnerMessageType t × parses bytes t value
 
--- AreEquivalentPayloads inner t b c: `b` and `c`, two payloads of the message type `t`, are
+-- `AreEquivalentPayloads inner t b c`: `b` and `c`, two payloads of the message type `t`, are
 -- equivalent. Any two payloads of NLMSG_NOOP are. Those of the other control messages (types 2 to
 -- 4) are if their bytes are equal. Those of the other types are if `inner t b c`: their inner
 -- messages are equivalent.
@@ -54,8 +54,8 @@ AreEquivalentPayloads inner t b c = (t ≡ constants.NLMSG_NOOP)
 
 -- ---- serializing
 
--- payload_bytes bytes payload: the bytes that the payload serializes to; `bytes value` are those of
--- the inner message `value`
+-- `payload_bytes bytes payload`: the bytes that the payload serializes to; `bytes value` are those
+-- of the inner message `value`
 abbrev pub payload_bytes : {A : Type 0} → (A → List ℕ) → Payload A → List ℕ
 payload_bytes bytes Noop = []
 payload_bytes bytes (Error raw) = raw
@@ -63,7 +63,7 @@ payload_bytes bytes (Done raw) = raw
 payload_bytes bytes (Overrun raw) = raw
 payload_bytes bytes (InnerMessage value) = bytes value
 
--- payload_type type_of payload: the message type of the payload; `type_of value` is that of the
+-- `payload_type type_of payload`: the message type of the payload; `type_of value` is that of the
 -- inner message `value`
 abbrev pub payload_type : {A : Type 0} → (A → ℕ) → Payload A → ℕ
 payload_type type_of Noop = constants.NLMSG_NOOP
@@ -72,8 +72,8 @@ payload_type type_of (Done raw) = constants.NLMSG_DONE
 payload_type type_of (Overrun raw) = constants.NLMSG_OVERRUN
 payload_type type_of (InnerMessage value) = type_of value
 
--- HoldsOfInnerMessage predicate payload: if the payload is an inner message, the predicate holds of
--- it; a control message has no inner message, so that nothing is required (`⊤`)
+-- `HoldsOfInnerMessage predicate payload`: if the payload is an inner message, the predicate holds
+-- of it; a control message has no inner message, so that nothing is required (`⊤`)
 abbrev pub HoldsOfInnerMessage : {A : Type 0} → (A → Type 0) → Payload A → Type 0
 HoldsOfInnerMessage predicate (InnerMessage value) = predicate value
 HoldsOfInnerMessage predicate Noop = ⊤
@@ -81,14 +81,14 @@ HoldsOfInnerMessage predicate (Error raw) = ⊤
 HoldsOfInnerMessage predicate (Done raw) = ⊤
 HoldsOfInnerMessage predicate (Overrun raw) = ⊤
 
--- leading_error_number bytes: the signed 32-bit error number (0 or -errno), little-endian, at the
+-- `leading_error_number bytes`: the signed 32-bit error number (0 or -errno), little-endian, at the
 -- start of a payload; `None` if the payload has fewer than four bytes
 abbrev pub leading_error_number : List ℕ → Option ℤ
 leading_error_number bytes = if nat_lt (length bytes) 4 then None
     else Some (cast_signed w32 (little_number 4 bytes))
 
--- error_number_of payload: the error number at the start of the payload, if it is an NLMSG_ERROR or
--- NLMSG_DONE; `None` if it has fewer than four bytes, and for any other payload
+-- `error_number_of payload`: the error number at the start of the payload, if it is an NLMSG_ERROR
+-- or NLMSG_DONE; `None` if it has fewer than four bytes, and for any other payload
 abbrev pub error_number_of : {A : Type 0} → Payload A → Option ℤ
 error_number_of (Error raw) = leading_error_number raw
 error_number_of (Done raw) = leading_error_number raw
@@ -96,7 +96,7 @@ error_number_of Noop = None
 error_number_of (Overrun raw) = None
 error_number_of (InnerMessage value) = None
 
--- finalized_header bytes type_of m: the header of the message `m`, with the length and the type
+-- `finalized_header bytes type_of m`: the header of the message `m`, with the length and the type
 -- that the message has. The length is 16, for the header, plus the length of the payload. The other
 -- fields are unchanged. `bytes` and `type_of` return the bytes and the message type of an inner
 -- message.
@@ -109,7 +109,7 @@ finalized_header bytes type_of m = record m.header {
 
 -- ---- the codec
 
--- netlink_codec C: the codec of netlink messages, given the codec `C` of inner messages, whose
+-- `netlink_codec C`: the codec of netlink messages, given the codec `C` of inner messages, whose
 -- parameter is the message type. It does not keep the codec law `round_trips`, since the header of
 -- a value may have any length and any type: see `laws::finalized_message_round_trips`. `b` and `c`
 -- are byte strings, and `p` is `tt`, since there is no parameter; `m` is a netlink message, and `e`

@@ -23,18 +23,18 @@ pub record ResponseValue (Header Nla : Type 0) : Type 0 where
   pub header : Header
   pub nlas : List Nla
 
--- ReplyValue spec: the value of a reply: the value of its header, and a decoded value for each
+-- `ReplyValue spec`: the value of a reply: the value of its header, and a decoded value for each
 -- attribute
 abbrev pub ReplyValue : ResponseSpec → Type 0
 ReplyValue spec = ResponseValue spec.header.Value (AttributeValue spec.attribute_set)
 
--- response_bytes spec reply: the bytes that the reply serializes to: its header, and its attributes
--- with their padding
+-- `response_bytes spec reply`: the bytes that the reply serializes to: its header, and its
+-- attributes with their padding
 abbrev pub response_bytes : (spec : ResponseSpec) → ReplyValue spec → List ℕ
 response_bytes spec reply = spec.header.bytes reply.header
     ++ flat_map attribute_bytes (map (encode_attribute spec.attribute_set) reply.nlas)
 
--- response_codec spec: the codec of these replies. `v` is a reply, `b` and `c` are byte strings,
+-- `response_codec spec`: the codec of these replies. `v` is a reply, `b` and `c` are byte strings,
 -- and `e` is an error; `p` is `tt`, since there is no parameter. The attributes are in the bytes
 -- from offset `size` on (`drop spec.size`).
 abbrev pub response_codec : ResponseSpec → Codec (Unit {0})

@@ -16,33 +16,33 @@ pub data Field : Type 0 where
   -- bytes that the parser ignores; the serializer writes the bytes `written` there
   unread : (offset : ℕ) → (written : List ℕ) → Field
 
--- array field offset width count: `count` consecutive fields of `width` bytes, the first at the
+-- `array field offset width count`: `count` consecutive fields of `width` bytes, the first at the
 -- offset; `field` makes one of them from its offset and width, for example `number`
 abbrev pub array : (ℕ → ℕ → Field) → (offset width count : ℕ) → List Field
 array field offset width zero = []
 array field offset width (suc count) =
     field offset width ∷ array field (offset + width) width count
 
--- bytes_at offset count: `count` consecutive bytes, the first at the offset, each a field
+-- `bytes_at offset count`: `count` consecutive bytes, the first at the offset, each a field
 abbrev pub bytes_at : (offset count : ℕ) → List Field
 bytes_at offset count = array (λ at width. byte at) offset 1 count
 
--- u32_fields offset count: `count` consecutive little-endian fields of 4 bytes, the first at the
+-- `u32_fields offset count`: `count` consecutive little-endian fields of 4 bytes, the first at the
 -- offset
 abbrev pub u32_fields : (offset count : ℕ) → List Field
 u32_fields offset count = array number offset 4 count
 
--- u64_fields offset count: `count` consecutive little-endian fields of 8 bytes, the first at the
+-- `u64_fields offset count`: `count` consecutive little-endian fields of 8 bytes, the first at the
 -- offset
 abbrev pub u64_fields : (offset count : ℕ) → List Field
 u64_fields offset count = array number offset 8 count
 
--- u16_be_fields offset count: `count` consecutive fields of 2 bytes in network byte order, the
+-- `u16_be_fields offset count`: `count` consecutive fields of 2 bytes in network byte order, the
 -- first at the offset
 abbrev pub u16_be_fields : (offset count : ℕ) → List Field
 u16_be_fields offset count = array network offset 2 count
 
--- values_of fields b: the numbers in the bytes `b`, in order, one for each field that is not
+-- `values_of fields b`: the numbers in the bytes `b`, in order, one for each field that is not
 -- ignored. A number of flags has only its defined bits. A byte past the end counts as 0, but no
 -- record is parsed from such a byte: `parse_record` and `HasTagAndNumbers` require `least` bytes of
 -- the layout, and in accepted bytes all fields of their tag are within the bytes (`room` of
@@ -56,7 +56,7 @@ values_of (flags at width mask ∷ fields) b =
     bit_and (little_number width (drop at b)) mask ∷ values_of fields b
 values_of (unread at written ∷ fields) b = values_of fields b
 
--- bytes_of fields values: the bytes that the fields serialize to, given one number for each field
+-- `bytes_of fields values`: the bytes that the fields serialize to, given one number for each field
 -- that is not ignored. The bytes of the fields are concatenated, and their offsets are not
 -- considered. Each field is written at its offset nevertheless, since the fields of each layout are
 -- consecutive from offset 0 on (`fields_are_consecutive`, which `MeetsLayoutConditions` requires).
@@ -73,15 +73,15 @@ bytes_of (flags at width mask ∷ fields) (value ∷ values) =
     little_bytes width value ++ bytes_of fields values
 bytes_of _ _ = []
 
--- first_numbers count numbers: the first `count` numbers of the list; 0 for each that is missing
+-- `first_numbers count numbers`: the first `count` numbers of the list; 0 for each that is missing
 abbrev pub first_numbers : (count : ℕ) → List ℕ → List ℕ
 first_numbers zero numbers = []
 first_numbers (suc count) numbers =
     slice_index numbers 0 ∷ first_numbers count (drop 1 numbers)
 
--- FitFields fields values: there is exactly one number for each field that is not ignored, and each
--- number fits the width of its field; the masks of flags are not considered. The last equation is
--- for too few or too many numbers (`⊥`).
+-- `FitFields fields values`: there is exactly one number for each field that is not ignored, and
+-- each number fits the width of its field; the masks of flags are not considered. The last equation
+-- is for too few or too many numbers (`⊥`).
 abbrev pub FitFields : List Field → List ℕ → Type 0
 FitFields [] [] = ⊤
 FitFields (unread at written ∷ fields) values = FitFields fields values
@@ -94,7 +94,7 @@ FitFields (flags at width mask ∷ fields) (value ∷ values) =
     (value < 256 ^ width) × FitFields fields values
 FitFields _ _ = ⊥
 
--- HaveDefinedFlags fields values: each number in a field of flags has only defined bits, those of
+-- `HaveDefinedFlags fields values`: each number in a field of flags has only defined bits, those of
 -- its mask; the other fields are not considered
 abbrev pub HaveDefinedFlags : List Field → List ℕ → Type 0
 HaveDefinedFlags (unread at written ∷ fields) values = HaveDefinedFlags fields values

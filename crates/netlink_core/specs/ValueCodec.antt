@@ -11,19 +11,19 @@ use Rattle.netlink_core.specs.Layout.{IsNormal}
 pub record ValueCodec (Param : Type 0) : Type 1 where
   -- the type of the values
   pub Value : Type 0
-  -- parses p b: `Ok` of the value of `b`, or `Err` of its first error
+  -- `parses p b`: `Ok` of the value of `b`, or `Err` of its first error
   pub parses : Param → List ℕ → Result Value DecodeError
-  -- bytes v: the bytes that `v` serializes to
+  -- `bytes v`: the bytes that `v` serializes to
   pub bytes : Value → List ℕ
-  -- equivalent p b c: the accepted byte strings `b` and `c` are equivalent: they differ only in
+  -- `equivalent p b c`: the accepted byte strings `b` and `c` are equivalent: they differ only in
   -- ignored bits
   pub equivalent : Param → List ℕ → List ℕ → Type 0
-  -- is_in_range v: each number of `v` fits its field
+  -- `is_in_range v`: each number of `v` fits its field
   pub is_in_range : Value → Type 0
-  -- is_normal p v: `v` is in normal form, the form of every parsed value
+  -- `is_normal p v`: `v` is in normal form, the form of every parsed value
   pub is_normal : Param → Value → Type 0
 
--- value_codec layout: the codec of a record, given its layout; the module `Layout` defines each
+-- `value_codec layout`: the codec of a record, given its layout; the module `Layout` defines each
 -- member
 abbrev pub value_codec : {Param Tag Value : Type 0} → Layout Param Tag Value → ValueCodec Param
 value_codec {Param} {Tag} {Value} layout = record {

@@ -54,18 +54,18 @@ pub fn canonical<T: Wire + Drop>(
     bytes: &[u8],
     param: T::Param,
 ) -> Result<Vec<u8>, CanonError>
-    // HasCanonicalForm codec param bytes form: the bytes parse as a writable value, which
+    // `HasCanonicalForm codec param bytes form`: the bytes parse as a writable value, which
     // serializes to `form`.
     ensures written { IfOk result (λ form. HasCanonicalForm T.codec param bytes.now form.items) }
     // Other bytes with a canonical form have the same one if and only if they are equivalent to
-    // these bytes. IsBytes bytes: each number of the list is below 256.
+    // these bytes. `IsBytes bytes`: each number of the list is below 256.
     ensures same { IfOk result (λ form. (others other_form : List ℕ) → IsBytes others
         → HasCanonicalForm T.codec param others other_form
         → ((other_form ≡ form.items) ↔ T.codec.equivalent param bytes.now others)) }
     // The canonical form is its own canonical form.
     ensures again { IfOk result (λ form.
         IsBytes form.items × HasCanonicalForm T.codec param form.items form.items) }
-    // CanonicalFormFails codec param bytes error: no canonical form of the bytes is returned, for
+    // `CanonicalFormFails codec param bytes error`: no canonical form of the bytes is returned, for
     // this reason.
     ensures err { IfErr result (CanonicalFormFails T.codec param bytes.now) }
 {

@@ -35,7 +35,8 @@ pub trait Nla {
     fn value_len(&self) -> usize
         ensures { result ≡ length (attribute self.now).value };
 
-    /// Returns the type field (`nla_type`) that is serialized.
+    /// Returns the type field (`nla_type`) that is serialized, with its two flag bits, unlike
+    /// [`NlaBuffer::kind`].
     fn kind(&self) -> u16
         ensures { result ≡ (attribute self.now).type_word };
 
@@ -43,10 +44,10 @@ pub trait Nla {
     /// after it are unchanged. The value must have at most 65,531 bytes, and the buffer at least as
     /// many as the value.
     fn emit_value(&self, buffer: &mut [u8])
-        // FitsLengthField: the value has at most 65,531 bytes.
+        // `FitsLengthField`: the value has at most 65,531 bytes.
         requires fits { FitsLengthField (attribute self.now) }
         requires room { length (attribute self.now).value ≤ length buffer.old }
-        // HoldsAtStart bytes old new: `new` is `bytes`, and then what `old` has after as many
+        // `HoldsAtStart bytes old new`: `new` is `bytes`, and then what `old` has after as many
         // bytes.
         ensures written { HoldsAtStart (attribute self.now).value buffer.old buffer.new }
         // Each number of the value fits its field. This is so for all Rust values; the codec laws
@@ -76,9 +77,9 @@ pub trait WireNla: Nla + Wire {
 /// Returns the number of the attribute's bytes, with header and padding. Its value must fit its
 /// length field: it has at most 65,531 bytes.
 pub fn nla_len<T: Nla>(nla: &T) -> usize
-    // FitsLengthField: the value has at most 65,531 bytes.
+    // `FitsLengthField`: the value has at most 65,531 bytes.
     requires { FitsLengthField (T.attribute nla.now) }
-    // attribute_bytes: the header, the value and the padding of the attribute.
+    // `attribute_bytes`: the header, the value and the padding of the attribute.
     ensures { result ≡ length (attribute_bytes (T.attribute nla.now)) }
 {
     padded(NLA_HEADER_SIZE + nla.value_len())
@@ -88,11 +89,11 @@ pub fn nla_len<T: Nla>(nla: &T) -> usize
 /// it are unchanged. Its value must have at most 65,531 bytes, and the buffer at least as many as
 /// the attribute with its padding.
 pub fn emit_nla<T: Nla>(nla: &T, buffer: &mut [u8])
-    // FitsLengthField: the value has at most 65,531 bytes.
+    // `FitsLengthField`: the value has at most 65,531 bytes.
     requires fits { FitsLengthField (T.attribute nla.now) }
-    // attribute_bytes: the header, the value and the padding of the attribute.
+    // `attribute_bytes`: the header, the value and the padding of the attribute.
     requires room { length (attribute_bytes (T.attribute nla.now)) ≤ length buffer.old }
-    // HoldsAtStart bytes old new: `new` is `bytes`, and then what `old` has after as many bytes.
+    // `HoldsAtStart bytes old new`: `new` is `bytes`, and then what `old` has after as many bytes.
     ensures written { HoldsAtStart (attribute_bytes (T.attribute nla.now)) buffer.old buffer.new }
     // The type field has 16 bits, and each number of the value fits its field. This is so for all
     // Rust values; the codec laws require it.
@@ -134,10 +135,10 @@ fn zero_padding(padding: &mut [u8])
 /// Returns the number of the attributes' bytes, with headers and paddings, or `None` if a value
 /// does not fit its length field or the attributes have more than `limit` bytes.
 pub fn nlas_len_within<T: Nla>(nlas: &[T], limit: usize) -> Option<usize>
-    // SomeIff option condition value: `option` is `Some value` if the condition holds, else `None`.
-    // AreWritableWithin attributes limit: each value has at most 65,531 bytes, and all attributes
-    // with headers and paddings have at most `limit` bytes. flat_map attribute_bytes: the bytes of
-    // all attributes, concatenated.
+    // `SomeIff option condition value`: `option` is `Some value` if the condition holds, else
+    // `None`. `AreWritableWithin attributes limit`: each value has at most 65,531 bytes, and all
+    // attributes with headers and paddings have at most `limit` bytes. `flat_map attribute_bytes`:
+    // the bytes of all attributes, concatenated.
     ensures { SomeIff result (AreWritableWithin (map T.attribute nlas.now) limit)
         (length (flat_map attribute_bytes (map T.attribute nlas.now))) }
 {
@@ -159,7 +160,7 @@ pub fn nlas_len_within<T: Nla>(nlas: &[T], limit: usize) -> Option<usize>
 /// Returns whether each value fits its length field (at most 65,531 bytes), and all attributes,
 /// with headers and paddings, have at most 4,294,967,295 bytes.
 pub fn nlas_writable<T: Nla>(nlas: &[T]) -> bool
-    // AreWritable: each value has at most 65,531 bytes, and all attributes have at most 2^32 - 1.
+    // `AreWritable`: each value has at most 65,531 bytes, and all attributes have at most 2^32 - 1.
     ensures { IsTrue result ↔ AreWritable (map T.attribute nlas.now) }
 {
     nlas_len_within(nlas, u32::MAX as usize).is_some()
@@ -168,9 +169,9 @@ pub fn nlas_writable<T: Nla>(nlas: &[T]) -> bool
 /// Returns the number of the attributes' bytes, with headers and paddings. The attributes must be
 /// writable: [`nlas_writable`] returns `true`.
 pub fn nlas_len<T: Nla>(nlas: &[T]) -> usize
-    // AreWritable: each value has at most 65,531 bytes, and all attributes have at most 2^32 - 1.
+    // `AreWritable`: each value has at most 65,531 bytes, and all attributes have at most 2^32 - 1.
     requires { AreWritable (map T.attribute nlas.now) }
-    // flat_map attribute_bytes: the bytes of all attributes, concatenated.
+    // `flat_map attribute_bytes`: the bytes of all attributes, concatenated.
     ensures { result ≡ length (flat_map attribute_bytes (map T.attribute nlas.now)) }
 {
     let mut len = 0;
@@ -184,12 +185,12 @@ pub fn nlas_len<T: Nla>(nlas: &[T]) -> usize
 /// buffer. The bytes after them are unchanged. They must be writable ([`nlas_writable`] returns
 /// `true`), and the buffer must be at least as long as their bytes.
 pub fn emit_nlas<T: Nla>(nlas: &[T], buffer: &mut [u8])
-    // AreWritable: each value has at most 65,531 bytes, and all attributes have at most 2^32 - 1.
+    // `AreWritable`: each value has at most 65,531 bytes, and all attributes have at most 2^32 - 1.
     requires fits { AreWritable (map T.attribute nlas.now) }
-    // flat_map attribute_bytes: the bytes of all attributes, concatenated.
+    // `flat_map attribute_bytes`: the bytes of all attributes, concatenated.
     requires room { length (flat_map attribute_bytes (map T.attribute nlas.now))
         ≤ length buffer.old }
-    // HoldsAtStart bytes old new: `new` is `bytes`, and then what `old` has after as many bytes.
+    // `HoldsAtStart bytes old new`: `new` is `bytes`, and then what `old` has after as many bytes.
     ensures written { HoldsAtStart (flat_map attribute_bytes (map T.attribute nlas.now)) buffer.old
         buffer.new }
     // Each number of each value fits its field. This is so for all Rust values; the codec laws
@@ -217,7 +218,7 @@ impl DefaultNla {
 
     /// Returns the attribute with this type field and this value.
     pub fn new(kind: u16, value: Vec<u8>) -> DefaultNla
-        // raw_attribute: the type field and the bytes of the value.
+        // `raw_attribute`: the type field and the bytes of the value.
         ensures { raw_attribute result ≡ record { type_word = kind; value = value.items } }
     {
         DefaultNla { kind, value }
@@ -225,8 +226,8 @@ impl DefaultNla {
 
     // Copies the attribute. Fails only if an allocation fails, and never if the value is empty.
     fn from_buffer(alloc: Global, nla: &NlaBuffer<'_>) -> Result<DefaultNla, AllocError>
-        // raw_attribute and buffered_attribute: the type field and the value, of the copy and of
-        // the buffer.
+        // `raw_attribute` and `buffered_attribute`: the type field and the value, of the copy and
+        // of the buffer.
         ensures equal { IfOk result (λ copy. raw_attribute copy ≡ buffered_attribute nla.now) }
         ensures needs_no_memory { (buffered_attribute nla.now).value ≡ [] → IsOk result }
     {
@@ -236,7 +237,7 @@ impl DefaultNla {
         })
     }
 
-    /// Returns the type field, with its two flag bits.
+    /// Returns the type field, with its two flag bits, unlike [`NlaBuffer::kind`].
     pub fn kind(&self) -> u16
         ensures { result ≡ (raw_attribute self.now).type_word }
     {

@@ -161,11 +161,11 @@ pub trait Wire: HasCodec + Readable + Emitable {
         // Each byte is below 256. This is so for all Rust values; it is stated for the proofs of
         // callers, as the codec laws require it.
         ensures in_range { IsBytes bytes.now }
-        // HasCanonicalForm codec param bytes form: the bytes parse as a writable value, which
+        // `HasCanonicalForm codec param bytes form`: the bytes parse as a writable value, which
         // serializes to `form`.
         ensures written { IfOk result (λ form.
             HasCanonicalForm Self.codec param bytes.now form.items) }
-        // CanonicalFormFails codec param bytes error: no canonical form of the bytes is returned,
+        // `CanonicalFormFails codec param bytes error`: no canonical form of the bytes is returned,
         // for this reason.
         ensures err { IfErr result (CanonicalFormFails Self.codec param bytes.now) };
 
@@ -190,8 +190,8 @@ pub fn write_new<T: Emitable>(alloc: Global, value: &T) -> Result<Vec<u8>, Canon
     // Each number of the value fits its field. This is so for all Rust values; the codec laws
     // require it.
     ensures in_range { OnOk result (T.in_range value.now) }
-    // SerializingFails is_writable value error: `Unwritable` if the value is not writable, `Memory`
-    // if it is.
+    // `SerializingFails is_writable value error`: `Unwritable` if the value is not writable,
+    // `Memory` if it is.
     ensures err { IfErr result (SerializingFails T.writable value.now) }
 {
     let Some(len) = value.writable_len() else {

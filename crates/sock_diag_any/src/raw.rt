@@ -95,7 +95,7 @@ impl<H: FamilyHeader> ReplyHeader for RawHeader<H> {
 
     ghost keeps = { H.keeps };
 
-    ghost compared = { response_test_decides H.PartialEq.eq [] tt H.exact.0 };
+    ghost test_decides = { response_test_decides H.PartialEq.eq [] tt H.exact.0 };
 }
 
 impl<'a, H: FamilyHeader> ReplyViews<'a> for RawHeader<H> {

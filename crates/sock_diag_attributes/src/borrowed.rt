@@ -121,7 +121,7 @@ pub(crate) trait BorrowNumbers {
     /// Returns the numbers as the value of an attribute, which serializes to four bytes for each
     /// number, little-endian.
     fn borrow_value(&self) -> Value<'_>
-        // value_bytes value: the bytes that a value serializes to.
+        // `value_bytes value`: the bytes that a value serializes to.
         ensures bytes { value_bytes result ≡ flat_map (little_bytes 4) (numbers self.now) }
         // Proof only, for the codec laws: if the returned value is in range, as every Rust value
         // is, then each number is below 2^32.

@@ -20,7 +20,7 @@ use std::alloc::{AllocError, Global};
 /// Parses the number in exactly one byte, the value of an attribute of this kind. Returns
 /// `WrongLength` with the kind for any other length.
 pub(crate) fn exact_u8(kind: u16, value: &[u8]) -> Result<u8, DecodeError>
-    // number_of_width (Some kind) width bytes: `Ok` of the little-endian number, or `Err` of the
+    // `number_of_width (Some kind) width bytes`: `Ok` of the little-endian number, or `Err` of the
     // error of another length, which contains the kind.
     ensures { result ≡ number_of_width (Some kind) 1 value.now }
 {
@@ -33,8 +33,8 @@ pub(crate) fn exact_u8(kind: u16, value: &[u8]) -> Result<u8, DecodeError>
 /// Parses the little-endian number in exactly four bytes, the value of an attribute of this kind.
 /// Returns `WrongLength` with the kind for any other length.
 pub(crate) fn exact_u32(kind: u16, value: &[u8]) -> Result<u32, DecodeError>
-    // number_of_width (Some kind) 4 bytes: `Ok` of the number in four bytes, or `Err` of the error
-    // of another length, which contains the kind.
+    // `number_of_width (Some kind) 4 bytes`: `Ok` of the number in four bytes, or `Err` of the
+    // error of another length, which contains the kind.
     ensures { result ≡ number_of_width (Some kind) 4 value.now }
 {
     if value.len() != 4 {
@@ -46,7 +46,7 @@ pub(crate) fn exact_u32(kind: u16, value: &[u8]) -> Result<u32, DecodeError>
 /// Parses the flag in exactly one byte, the value of an attribute of this kind. The flag is true if
 /// the byte is not zero. Returns `WrongLength` with the kind for any other length.
 pub(crate) fn exact_flag(kind: u16, value: &[u8]) -> Result<bool, DecodeError>
-    // parse_flag kind bytes: `Ok` of the flag, or `Err` of the `WrongLength`.
+    // `parse_flag kind bytes`: `Ok` of the flag, or `Err` of the `WrongLength`.
     ensures { result ≡ parse_flag kind value.now }
 {
     Ok(exact_u8(kind, value)? != 0)
@@ -55,7 +55,7 @@ pub(crate) fn exact_flag(kind: u16, value: &[u8]) -> Result<bool, DecodeError>
 /// Parses the two little-endian numbers in exactly eight bytes, the value of an attribute of this
 /// kind. Returns `WrongLength` with the kind for any other length.
 pub(crate) fn exact_u32_pair(kind: u16, value: &[u8]) -> Result<(u32, u32), DecodeError>
-    // parse_number_pair kind bytes: `Ok` of the two numbers, or `Err` of the `WrongLength`.
+    // `parse_number_pair kind bytes`: `Ok` of the two numbers, or `Err` of the `WrongLength`.
     ensures { result ≡ parse_number_pair kind value.now }
 {
     if value.len() != 8 {
@@ -130,7 +130,7 @@ impl<'a> NumbersView<'a> {
     /// Returns the number at `index`, or `None` if the index is out of bounds.
     #[tactic(auto, using(crate::specs::laws::Number::number_at_index_rules))]
     pub fn get(&self, index: usize) -> Option<u32>
-        // slice_get xs i: `Some` of the element at index `i`, or `None` if there is none.
+        // `slice_get xs i`: `Some` of the element at index `i`, or `None` if there is none.
         ensures { result ≡ slice_get (numbers_view_model self.now) index }
     {
         if index >= self.bytes.len() / 4 {
@@ -240,7 +240,7 @@ pub(crate) fn emit_u32_pair(first: u32, second: u32, buffer: &mut [u8])
 #[tactic(auto, using(crate::specs::laws::Number::emit_numbers_rules))]
 pub(crate) fn emit_numbers(numbers: &[u32], buffer: &mut [u8])
     requires { length (flat_map (little_bytes 4) numbers.now) ≤ length buffer.old }
-    // HoldsAtStart bytes old new: `new` is `old` with the bytes written at its start.
+    // `HoldsAtStart bytes old new`: `new` is `old` with the bytes written at its start.
     ensures written { HoldsAtStart (flat_map (little_bytes 4) numbers.now) buffer.old buffer.new }
     // Each number is below 2^32. So it is for each `u32`; this is stated for the codec laws.
     ensures in_range { AllByRecursion (λ n. n < 2 ^ 32) numbers.now }

@@ -55,7 +55,7 @@ abbrev pub is_listening_reply : Item Message → Bool
 is_listening_reply (Ok (InnerMessage (message_of unix_response v))) = v.header.state == TCP_LISTEN
 is_listening_reply _ = false
 
--- IsCountAtEnd count items answer: what `listening` returns, if `count` replies about listening
+-- `IsCountAtEnd count items answer`: what `listening` returns, if `count` replies about listening
 -- sockets precede these items. The items are empty, or their first one ends the dump:
 -- - No items: `Ok (Some count)`.
 -- - NLMSG_DONE: `Ok (Some count)` if its payload starts with four zero bytes, error number 0; else

@@ -23,7 +23,7 @@ HasKey reply = (key : List ℕ) × IsKey reply key
 -- `KeyFails reply e`: what holds if `key` returns the error `e`:
 -- - `Refused`: the reply is rejected with the decode error in `e`.
 -- - `Unwritable`: the reply parses as a message that is not writable.
--- - `Memory`: the reply parses as a writable message, and an allocation failed.
+-- - `Memory`: the reply parses as a writable message.
 abbrev pub KeyFails : List ℕ → CanonError → Type 0
 KeyFails reply = CanonicalFails (message_codec.parses reply SOCK_DIAG_BY_FAMILY)
     (message_codec.rejects reply SOCK_DIAG_BY_FAMILY)

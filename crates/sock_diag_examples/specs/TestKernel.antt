@@ -111,7 +111,7 @@ IsUnixRequestMessage request = (h : NetlinkHeader) × (requested : UnixRequest)
 -- `AnswerFails request replies error`: what holds if `answer` returns this error:
 -- - `Request e`: the request is rejected with `e`.
 -- - `Unwritable`: the request is accepted, and the message of some reply is not writable.
--- - `Memory`: the request is accepted, and an allocation failed.
+-- - `Memory`: the request is accepted.
 abbrev pub AnswerFails : List ℕ → List (ReplyValue unix_response_spec) → AnswerError → Type 0
 AnswerFails request replies (errors.Request e) = RejectsUnixRequest request e
 AnswerFails request replies errors.Unwritable =

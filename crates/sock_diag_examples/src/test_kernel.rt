@@ -86,8 +86,8 @@ pub fn answer(
 ) -> Result<Vec<u8>, AnswerError>
     // `IsAnswer request replies datagram`: the request is valid, and the datagram has the message
     // of each reply and then `NLMSG_DONE`, all with its sequence number. `AnswerFails request
-    // replies error`: what the list above says of this error. `unix_response_model`: the model of a
-    // reply, its header and its decoded attributes.
+    // replies error`: what the list above says of this error; of `Memory`, that the request is
+    // valid. `unix_response_model`: the model of a reply, its header and its decoded attributes.
     ensures answer { IfOk result (λ datagram.
         IsAnswer request.now (map unix_response_model replies.now)
         datagram.items) }

@@ -130,6 +130,12 @@ abbrev values_left_in : {H : Type 0} {of : Ghosts H} → AttributeViews H of
     → List (AttributeValue unix_attribute_set)
 values_left_in views = decoded_in (decode_attribute unix_attribute_set) (unread_bytes views.walk)
 
+-- equal bytes have equal values
+pub equal_values : {left right : List ℕ} → left ≡ right
+    → decoded_in (decode_attribute unix_attribute_set) left
+    ≡ decoded_in (decode_attribute unix_attribute_set) right
+equal_values = ap (decoded_in (decode_attribute unix_attribute_set))
+
 -- `find_map` over borrowed attributes finds the first value of the attribute type `k`
 pub first_in_view : {H : Type 0} {of : Ghosts H} {C F : Type 0}
     {g : Mut F (NlaView × Unit {0}) (Option C)} {f : F} {s : AttributeViews H of} (k : ℕ)

@@ -38,7 +38,7 @@ pub trait ReplyHeader: Drop + Sized {
 
     // `reply`: the format of the replies, as the codec of the header, its size, and the set of the
     // attributes after it. `header_model`: the model of a header. `test`: the comparison of two
-    // replies, which is true if and only if they are equal (`compared`, below).
+    // replies, which is true if and only if they are equal (`test_decides`, below).
     // `reply.header.parses tt bytes`: the model of the header at the start of the bytes, or the
     // error that rejects it.
     ghost reply: { ResponseSpec };
@@ -130,7 +130,7 @@ pub trait ReplyHeader: Drop + Sized {
     ghost keeps: { KeepsCodecLaws (response_codec reply) };
 
     // The comparison is true if and only if the replies are equal.
-    ghost compared: { (v w : ReplyValue reply) → IsTrue (test v w) ↔ (v ≡ w) };
+    ghost test_decides: { (v w : ReplyValue reply) → IsTrue (test v w) ↔ (v ≡ w) };
 }
 
 /// A header whose replies have a borrowed form.
@@ -304,12 +304,8 @@ impl<'a, H: ReplyViews<'a>> ReplyView<'a, H> {
 
     /// Returns an iterator over the attributes, in wire order.
     pub fn attributes(&self) -> AttributeViews<'a, H>
-        // `unread_attributes result`: the bytes that the iterator has not read yet. They decode to
-        // the same values as the bytes after the header (`bytes_after_header`): all attributes are
-        // left.
-        ensures { let parses = decode_attribute H.View.FamilyView.attribute_set in
-            decoded_in parses (unread_attributes result)
-            ≡ decoded_in parses (bytes_after_header self.now) }
+        // `unread_attributes result`: the bytes that the iterator has not read yet.
+        ensures { unread_attributes result ≡ bytes_after_header self.now }
     {
         AttributeViews {
             walk: NlasIterator::new(self.attribute_bytes()),
@@ -326,8 +322,9 @@ impl<H: ReplyHeader> PartialEq for ReplyView<'_, H> {
 
     ghost eq = { λ v w. H.test (view_model v) (view_model w) };
 
-    // `==` is an equivalence, since it compares the models (`compared`).
-    ghost laws = { partial_equiv_from_equiv (equivalence _ view_model (λ v w. H.compared _ _)) };
+    // `==` is an equivalence, since it compares the models (`test_decides`).
+    ghost laws = { partial_equiv_from_equiv
+        (equivalence _ view_model (λ v w. H.test_decides _ _)) };
 
     fn eq(&self, other: &Self) -> bool {
         self.header().is_same(
@@ -341,8 +338,8 @@ impl<H: ReplyHeader> PartialEq for ReplyView<'_, H> {
 impl<H: ReplyHeader> Eq for ReplyView<'_, H> {
     ghost use Rattle.sock_diag_replies.specs.ViewModel.{view_model};
 
-    // `==` is an equivalence, since it compares the models (`compared`).
-    ghost laws = { equivalence _ view_model (λ v w. H.compared _ _) };
+    // `==` is an equivalence, since it compares the models (`test_decides`).
+    ghost laws = { equivalence _ view_model (λ v w. H.test_decides _ _) };
 }
 
 /// Serializes to the canonical form of the reply. Does not allocate.

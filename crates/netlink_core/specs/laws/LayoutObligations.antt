@@ -29,7 +29,7 @@ abbrev pub ignored_content_is_bytes : Field → Bool
 ignored_content_is_bytes (unread offset written) = list_all (λ number. nat_lt number 256) written
 ignored_content_is_bytes _ = true
 
--- fields_are_consecutive start fields end: the fields are consecutive from the offset `start` to
+-- `fields_are_consecutive start fields end`: the fields are consecutive from the offset `start` to
 -- the offset `end`, and what the serializer writes to ignored fields is bytes
 abbrev pub fields_are_consecutive : (start : ℕ) → List Field → (end : ℕ) → Bool
 fields_are_consecutive start [] end = start == end

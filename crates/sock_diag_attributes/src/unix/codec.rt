@@ -21,7 +21,7 @@ use std::alloc::Global;
 impl HasCodec for Nla {
     type Param = ();
 
-    // first_attribute_codec set: the codec of the attribute at the start of the bytes.
+    // `first_attribute_codec set`: the codec of the attribute at the start of the bytes.
     ghost codec = { first_attribute_codec unix_attribute_set };
 
     // What contracts see of a value: its decoded value.

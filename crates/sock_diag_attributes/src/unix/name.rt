@@ -278,8 +278,8 @@ impl Wire for UnixDiagName {
 // Returns the index of the first zero, or `None` if there is none. Usually there is none, which
 // `contains` finds out faster than a search byte by byte.
 fn first_zero(bytes: &[u8]) -> Option<usize>
-    // HasNoZero bytes: no byte is zero. IsFirstZero bytes index: the byte at the index is zero, and
-    // no byte before it is. The index is the one in `Some`.
+    // `HasNoZero bytes`: no byte is zero. `IsFirstZero bytes index`: the byte at the index is zero,
+    // and no byte before it is. The index is the one in `Some`.
     ensures { MatchOption result (HasNoZero bytes.now) (IsFirstZero bytes.now) }
 {
     if !bytes.contains(&0) {

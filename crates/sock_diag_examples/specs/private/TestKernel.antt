@@ -6,7 +6,7 @@ use Rattle.sock_diag_examples.specs.declared.test_kernel.AnswerError.TheVariants
 -- `FailsUnless are_writable e`: what holds if a function that appends messages returns the error
 -- `e`. `are_writable` states that all of these messages are writable.
 -- - `Unwritable`: `are_writable` does not hold.
--- - `Memory`: an allocation failed; nothing else is stated (`⊤`).
+-- - `Memory`: nothing is stated (`⊤`).
 -- - `Request` is never returned (`⊥`).
 abbrev pub FailsUnless : Type 0 → AnswerError → Type 0
 FailsUnless are_writable (errors.Request e) = ⊥

@@ -49,7 +49,8 @@ impl PacketInfo {
     /// Parses the first 24 bytes of the value of an attribute `PACKET_DIAG_INFO`, and ignores the
     /// bytes after them. Fewer bytes are [`DecodeError::BufferTooSmall`].
     pub fn parse(value: &[u8]) -> Result<PacketInfo, DecodeError>
-        // parse_packet_info value: `Ok` of the record in the first 24 bytes, or `Err` of the error.
+        // `parse_packet_info value`: `Ok` of the record in the first 24 bytes, or `Err` of the
+        // error.
         ensures { result ≡ parse_packet_info value.now }
     {
         let value = enough_in(value, AF_PACKET, PACKET_DIAG_INFO, PACKET_INFO_LEN)?;
@@ -107,7 +108,7 @@ impl PacketRing {
     /// `PACKET_DIAG_TX_RING`, and ignores the bytes after them. Fewer bytes are `BufferTooSmall`,
     /// which contains `kind`, the kind of the attribute. The kind has no other effect.
     pub fn parse(value: &[u8], kind: u16) -> Result<PacketRing, DecodeError>
-        // parse_packet_ring kind value: `Ok` of the record in the first 28 bytes, or `Err` of the
+        // `parse_packet_ring kind value`: `Ok` of the record in the first 28 bytes, or `Err` of the
         // error, with this kind.
         ensures { result ≡ parse_packet_ring kind value.now }
     {

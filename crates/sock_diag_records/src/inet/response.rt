@@ -150,8 +150,8 @@ impl InetResponseHeader {
     /// [`DecodeError::Memory`].
     #[inline(always)]
     pub fn from_prefix(payload: &[u8]) -> Result<Self, DecodeError>
-        // parse_record layout param bytes: `Ok` of the value, or `Err` of the first error. There is
-        // no parameter (`tt`).
+        // `parse_record layout param bytes`: `Ok` of the value, or `Err` of the first error. There
+        // is no parameter (`tt`).
         ensures value { result ≡ parse_record inet_response_header tt payload.now }
         ensures not_memory { IfErr result (λ error. error ≢ Memory) }
     {
@@ -191,8 +191,8 @@ pub fn timer_fields(timer: &Option<Timer>) -> (u8, u8, u32)
 // Returns the timer with these fields `idiag_timer`, `idiag_retrans` and `idiag_expires`, or `None`
 // if `timer` is none of 1, 2, 3 and 4. A number that the timer does not have is ignored.
 fn timer_from(timer: u8, retransmits: u8, milliseconds: u32) -> Option<Timer>
-    // timer_of class retransmits expires: the timer of this class, with those of the two numbers
-    // that it has, or `None` for class 0. timer_class: the timer byte if it is 1 to 4, else 0.
+    // `timer_of class retransmits expires`: the timer of this class, with those of the two numbers
+    // that it has, or `None` for class 0. `timer_class`: the timer byte if it is 1 to 4, else 0.
     ensures { result ≡ timer_of (timer_class timer) retransmits milliseconds }
 {
     let expires = Duration::from_millis(u64::from(milliseconds));

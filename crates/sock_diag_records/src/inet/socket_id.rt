@@ -228,7 +228,7 @@ impl SocketId {
     /// (10). It does not allocate, so the error is never [`DecodeError::Memory`].
     #[inline(always)]
     pub fn from_prefix(payload: &[u8], family: u8) -> Result<Self, DecodeError>
-        // parse_record layout param bytes: `Ok` of the value, or `Err` of the first error.
+        // `parse_record layout param bytes`: `Ok` of the value, or `Err` of the first error.
         ensures value { result ≡ parse_record socket_id family payload.now }
         ensures not_memory { IfErr result (λ error. error ≢ Memory) }
     {

@@ -80,8 +80,8 @@ impl UnixResponseHeader {
     /// not checked. It does not allocate. Fewer bytes are [`DecodeError::BufferTooSmall`], the only
     /// error.
     pub fn from_prefix(payload: &[u8]) -> Result<Self, DecodeError>
-        // parse_record layout param bytes: `Ok` of the value, or `Err` of the first error. There is
-        // no parameter (`tt`).
+        // `parse_record layout param bytes`: `Ok` of the value, or `Err` of the first error. There
+        // is no parameter (`tt`).
         ensures { result ≡ parse_record unix_response_header tt payload.now }
     {
         read_record(payload, ())

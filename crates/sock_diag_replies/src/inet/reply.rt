@@ -82,7 +82,7 @@ impl ReplyHeader for InetResponseHeader {
 
     ghost keeps = { reply_codec_laws inet_response_spec inet_response_laws };
 
-    ghost compared = { inet_test_decides };
+    ghost test_decides = { inet_test_decides };
 }
 
 impl<'a> ReplyViews<'a> for InetResponseHeader {

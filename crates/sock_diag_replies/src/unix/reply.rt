@@ -79,7 +79,7 @@ impl ReplyHeader for UnixResponseHeader {
 
     ghost keeps = { reply_codec_laws unix_response_spec unix_response_laws };
 
-    ghost compared = { unix_test_decides };
+    ghost test_decides = { unix_test_decides };
 }
 
 impl<'a> ReplyViews<'a> for UnixResponseHeader {

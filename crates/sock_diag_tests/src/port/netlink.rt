@@ -28,9 +28,13 @@ fn an_attribute_is_borrowed(rt: HostRuntime) {
         .expect(&rt, "refused");
     let text = "DefaultNla { kind: 32774, value: [2] }";
     assert_debug(&rt, alloc, &owned, text);
-    let record = RecordBuffer::<u8, 2>::read_prefix(bytes);
+}
+
+#[test]
+fn a_record_buffer_is_printed(rt: HostRuntime) {
+    let record = RecordBuffer::<u8, 2>::read_prefix(&[5, 0, 6]);
     let text = "Some(RecordBuffer { bytes: [5, 0], of: PhantomData<_> })";
-    assert_debug(&rt, alloc, &record, text);
+    assert_debug(&rt, rt.alloc(), &record, text);
 }
 
 #[test]

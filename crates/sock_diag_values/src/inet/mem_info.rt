@@ -168,8 +168,8 @@ impl MemInfo {
     /// 32 bytes has no drops, and one of 28 bytes neither a backlog nor drops: these fields are
     /// `None`. Fewer than 28 bytes are [`DecodeError::BufferTooSmall`].
     pub fn parse(payload: &[u8]) -> Result<Self, DecodeError>
-        // parse_record layout param bytes: `Ok` of the value, or `Err` of the first error. There is
-        // no parameter (`tt`).
+        // `parse_record layout param bytes`: `Ok` of the value, or `Err` of the first error. There
+        // is no parameter (`tt`).
         ensures { result ≡ parse_record mem_info tt payload.now }
     {
         read_record(payload, ())
@@ -243,7 +243,7 @@ impl MemInfoBytes {
 fn u32_if_present(payload: &[u8], offset: usize) -> Option<u32>
     // The end of the field, `offset + 4`, does not overflow a `usize`.
     requires { offset + 4 < 2 ^ 64 }
-    // SomeIff option condition value: the option is `Some value` if the condition holds, else
+    // `SomeIff option condition value`: the option is `Some value` if the condition holds, else
     // `None`.
     ensures { SomeIff result (offset + 4 ≤ length payload.now)
         (little_number 4 (drop offset payload.now)) }

@@ -1,6 +1,6 @@
 //! The value of `INET_DIAG_INFO`: the state of a TCP connection.
 
-ghost use Rattle.std.specs.Prelude.{◌≡◌, ⊤, length};
+ghost use Rattle.std.specs.Prelude.{◌≡◌, ⊤};
 ghost use Rattle.std.proofs.Common.{rules};
 ghost use Rattle.netlink_core.specs.Layout.{parse_record};
 ghost use Rattle.netlink_core.proofs.LayoutLaws.{record_laws};
@@ -8,10 +8,7 @@ ghost use Rattle.sock_diag_values.specs.TcpInfo.{tcp_info};
 ghost use Rattle.sock_diag_values.specs.private.TcpInfo.{u8s_at_0, u32s_at_8, u32s_at_44};
 ghost use Rattle.sock_diag_values.specs.private.TcpInfo.{u32s_at_60, u32s_at_92, u64s_at_104};
 ghost use Rattle.sock_diag_values.specs.private.TcpInfo.{u32s_at_136, u64s_at_160, u32s_at_192};
-ghost use Rattle.sock_diag_values.specs.private.TcpInfo.{u64s_at_200, u32s_at_216, bytes_0_to_92};
-ghost use Rattle.sock_diag_values.specs.private.TcpInfo.{bytes_92_to_192, bytes_192_to_232};
-ghost use Rattle.sock_diag_values.specs.private.TcpInfo.{ValuesFitIn0To92, ValuesFitIn92To192};
-ghost use Rattle.sock_diag_values.specs.private.TcpInfo.{ValuesFitIn192To232};
+ghost use Rattle.sock_diag_values.specs.private.TcpInfo.{u64s_at_200, u32s_at_216};
 ghost use Rattle.sock_diag_values.specs.laws.TcpInfoEqual.{tcp_info_equal};
 ghost use Rattle.sock_diag_values.specs.laws.TcpInfo.{tcp_info_sound};
 
@@ -275,11 +272,27 @@ impl Record for TcpInfo {
 
     #[tactic(auto, unfolding(crate::specs::TcpInfo::tcp_info))]
     fn write_fields(&self, buffer: &mut [u8]) {
-        let (bytes_0_to_92, rest) = buffer.split_at_mut(92);
-        let (bytes_92_to_192, bytes_192_to_232) = rest.split_at_mut(192 - 92);
-        self.write_0_to_92(bytes_0_to_92);
-        self.write_92_to_192(bytes_92_to_192);
-        self.write_192_to_232(bytes_192_to_232);
+        let (u8s_at_0, rest) = buffer.split_at_mut(8);
+        let (u32s_at_8, rest) = rest.split_at_mut(36);
+        let (u32s_at_44, rest) = rest.split_at_mut(16);
+        let (u32s_at_60, rest) = rest.split_at_mut(32);
+        let (u32s_at_92, rest) = rest.split_at_mut(12);
+        let (u64s_at_104, rest) = rest.split_at_mut(32);
+        let (u32s_at_136, rest) = rest.split_at_mut(24);
+        let (u64s_at_160, rest) = rest.split_at_mut(32);
+        let (u32s_at_192, rest) = rest.split_at_mut(8);
+        let (u64s_at_200, u32s_at_216) = rest.split_at_mut(16);
+        write_bytes(&self.u8s_at_0(), u8s_at_0);
+        write_u32s(&self.u32s_at_8(), u32s_at_8);
+        write_u32s(&self.u32s_at_44(), u32s_at_44);
+        write_u32s(&self.u32s_at_60(), u32s_at_60);
+        write_u32s(&self.u32s_at_92(), u32s_at_92);
+        write_u64s(&self.u64s_at_104(), u64s_at_104);
+        write_u32s(&self.u32s_at_136(), u32s_at_136);
+        write_u64s(&self.u64s_at_160(), u64s_at_160);
+        write_u32s(&self.u32s_at_192(), u32s_at_192);
+        write_u64s(&self.u64s_at_200(), u64s_at_200);
+        write_u32s(&self.u32s_at_216(), u32s_at_216);
     }
 
     // Proof of the laws of the record.
@@ -299,63 +312,14 @@ impl TcpInfo {
     /// [`DecodeError::BufferTooSmall`].
     #[inline(always)]
     pub fn parse(payload: &[u8]) -> Result<Self, DecodeError>
-        // parse_record layout param bytes: `Ok` of the value, or `Err` of the first error. There is
-        // no parameter (`tt`).
+        // `parse_record layout param bytes`: `Ok` of the value, or `Err` of the first error. There
+        // is no parameter (`tt`).
         ensures { result ≡ parse_record tcp_info tt payload.now }
     {
         read_record(payload, ())
     }
 
-    // Writes the 92 bytes of the fields at offsets 0 to 91 (`bytes_0_to_92`) to the buffer, which
-    // has to have exactly this length.
-    fn write_0_to_92(&self, buffer: &mut [u8])
-        requires { length buffer.old ≡ 92 }
-        ensures written { buffer.new ≡ bytes_0_to_92 self.now }
-        // Each number fits its field, as in each Rust value; stated for the laws of the record.
-        ensures in_range { ValuesFitIn0To92 self.now }
-    {
-        let (u8s_at_0, rest) = buffer.split_at_mut(8);
-        let (u32s_at_8, rest) = rest.split_at_mut(36);
-        let (u32s_at_44, u32s_at_60) = rest.split_at_mut(16);
-        write_bytes(&self.u8s_at_0(), u8s_at_0);
-        write_u32s(&self.u32s_at_8(), u32s_at_8);
-        write_u32s(&self.u32s_at_44(), u32s_at_44);
-        write_u32s(&self.u32s_at_60(), u32s_at_60);
-    }
-
-    // Writes the 100 bytes of the fields at offsets 92 to 191 (`bytes_92_to_192`) to the buffer,
-    // which has to have exactly this length.
-    fn write_92_to_192(&self, buffer: &mut [u8])
-        requires { length buffer.old ≡ 100 }
-        ensures written { buffer.new ≡ bytes_92_to_192 self.now }
-        // Each number fits its field, as in each Rust value; stated for the laws of the record.
-        ensures in_range { ValuesFitIn92To192 self.now }
-    {
-        let (u32s_at_92, rest) = buffer.split_at_mut(12);
-        let (u64s_at_104, rest) = rest.split_at_mut(32);
-        let (u32s_at_136, u64s_at_160) = rest.split_at_mut(24);
-        write_u32s(&self.u32s_at_92(), u32s_at_92);
-        write_u64s(&self.u64s_at_104(), u64s_at_104);
-        write_u32s(&self.u32s_at_136(), u32s_at_136);
-        write_u64s(&self.u64s_at_160(), u64s_at_160);
-    }
-
-    // Writes the 40 bytes of the fields at offsets 192 to 231 (`bytes_192_to_232`) to the buffer,
-    // which has to have exactly this length.
-    fn write_192_to_232(&self, buffer: &mut [u8])
-        requires { length buffer.old ≡ 40 }
-        ensures written { buffer.new ≡ bytes_192_to_232 self.now }
-        // Each number fits its field, as in each Rust value; stated for the laws of the record.
-        ensures in_range { ValuesFitIn192To232 self.now }
-    {
-        let (u32s_at_192, rest) = buffer.split_at_mut(8);
-        let (u64s_at_200, u32s_at_216) = rest.split_at_mut(16);
-        write_u32s(&self.u32s_at_192(), u32s_at_192);
-        write_u64s(&self.u64s_at_200(), u64s_at_200);
-        write_u32s(&self.u32s_at_216(), u32s_at_216);
-    }
-
-    // Returns the eight `u8` fields from offset 0 on, as the definition of the same name does.
+    // Returns the eight `u8` fields from offset 0 on.
     fn u8s_at_0(&self) -> [u8; 8]
         ensures { result ≡ u8s_at_0 self.now }
     {
@@ -371,7 +335,7 @@ impl TcpInfo {
         ]
     }
 
-    // Returns the nine `u32` fields from offset 8 on, as the definition of the same name does.
+    // Returns the nine `u32` fields from offset 8 on.
     fn u32s_at_8(&self) -> [u32; 9]
         ensures { result ≡ u32s_at_8 self.now }
     {
@@ -388,7 +352,7 @@ impl TcpInfo {
         ]
     }
 
-    // Returns the four `u32` fields from offset 44 on, as the definition of the same name does.
+    // Returns the four `u32` fields from offset 44 on.
     fn u32s_at_44(&self) -> [u32; 4]
         ensures { result ≡ u32s_at_44 self.now }
     {
@@ -400,7 +364,7 @@ impl TcpInfo {
         ]
     }
 
-    // Returns the eight `u32` fields from offset 60 on, as the definition of the same name does.
+    // Returns the eight `u32` fields from offset 60 on.
     fn u32s_at_60(&self) -> [u32; 8]
         ensures { result ≡ u32s_at_60 self.now }
     {
@@ -416,14 +380,14 @@ impl TcpInfo {
         ]
     }
 
-    // Returns the three `u32` fields from offset 92 on, as the definition of the same name does.
+    // Returns the three `u32` fields from offset 92 on.
     fn u32s_at_92(&self) -> [u32; 3]
         ensures { result ≡ u32s_at_92 self.now }
     {
         [self.rcv_rtt, self.rcv_space, self.total_retrans]
     }
 
-    // Returns the four `u64` fields from offset 104 on, as the definition of the same name does.
+    // Returns the four `u64` fields from offset 104 on.
     fn u64s_at_104(&self) -> [u64; 4]
         ensures { result ≡ u64s_at_104 self.now }
     {
@@ -435,7 +399,7 @@ impl TcpInfo {
         ]
     }
 
-    // Returns the six `u32` fields from offset 136 on, as the definition of the same name does.
+    // Returns the six `u32` fields from offset 136 on.
     fn u32s_at_136(&self) -> [u32; 6]
         ensures { result ≡ u32s_at_136 self.now }
     {
@@ -449,7 +413,7 @@ impl TcpInfo {
         ]
     }
 
-    // Returns the four `u64` fields from offset 160 on, as the definition of the same name does.
+    // Returns the four `u64` fields from offset 160 on.
     fn u64s_at_160(&self) -> [u64; 4]
         ensures { result ≡ u64s_at_160 self.now }
     {
@@ -461,21 +425,21 @@ impl TcpInfo {
         ]
     }
 
-    // Returns the two `u32` fields from offset 192 on, as the definition of the same name does.
+    // Returns the two `u32` fields from offset 192 on.
     fn u32s_at_192(&self) -> [u32; 2]
         ensures { result ≡ u32s_at_192 self.now }
     {
         [self.delivered, self.delivered_ce]
     }
 
-    // Returns the two `u64` fields from offset 200 on, as the definition of the same name does.
+    // Returns the two `u64` fields from offset 200 on.
     fn u64s_at_200(&self) -> [u64; 2]
         ensures { result ≡ u64s_at_200 self.now }
     {
         [self.bytes_sent, self.bytes_retrans]
     }
 
-    // Returns the four `u32` fields from offset 216 on, as the definition of the same name does.
+    // Returns the four `u32` fields from offset 216 on.
     fn u32s_at_216(&self) -> [u32; 4]
         ensures { result ≡ u32s_at_216 self.now }
     {

@@ -93,8 +93,8 @@ impl MemInfo {
     /// Parses the first 36 bytes, and ignores the bytes after them. Fewer bytes are
     /// [`DecodeError::BufferTooSmall`].
     pub fn parse(payload: &[u8]) -> Result<Self, DecodeError>
-        // parse_record layout param bytes: `Ok` of the value, or `Err` of the first error. There is
-        // no parameter (`tt`).
+        // `parse_record layout param bytes`: `Ok` of the value, or `Err` of the first error. There
+        // is no parameter (`tt`).
         ensures { result ≡ parse_record unix_mem_info tt payload.now }
     {
         read_record(payload, ())

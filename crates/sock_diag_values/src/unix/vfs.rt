@@ -71,8 +71,8 @@ impl Vfs {
     /// Parses the first 8 bytes, and ignores the bytes after them. Fewer bytes are
     /// [`DecodeError::BufferTooSmall`].
     pub fn parse(payload: &[u8]) -> Result<Self, DecodeError>
-        // parse_record layout param bytes: `Ok` of the value, or `Err` of the first error. There is
-        // no parameter (`tt`).
+        // `parse_record layout param bytes`: `Ok` of the value, or `Err` of the first error. There
+        // is no parameter (`tt`).
         ensures { result ≡ parse_record vfs tt payload.now }
     {
         read_record(payload, ())
