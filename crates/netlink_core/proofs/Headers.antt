@@ -13,7 +13,8 @@ use Rattle.netlink_core.specs.declared.error.DecodeError.{DecodeError}
 use Rattle.netlink_core.specs.declared.error.DecodeError.TheVariants as errors
 use Rattle.netlink_core.specs.Bytes.{IsBytes}
 use Rattle.netlink_core.specs.Table.{FitFields, values_of}
-use Rattle.netlink_core.specs.Header.{header_fields, header_values, header_bytes}
+use Rattle.netlink_core.specs.Header.{header_fields, header_of_numbers, header_values}
+use Rattle.netlink_core.specs.Header.{header_bytes}
 use Rattle.netlink_core.specs.Header.{HasHeader, IsMessageError, message_payload}
 use Rattle.netlink_core.proofs.Numbers.{masked-all}
 use Rattle.netlink_core.proofs.TableLaws.{AreConsecutiveFields, consecutive_from_test}
@@ -26,16 +27,6 @@ AreBytes-take n bytes fits =
 -- the five fields are consecutive, and have 16 bytes
 header_table : AreConsecutiveFields 0 header_fields 16
 header_table = consecutive_from_test 0 header_fields 16 refl
-
--- the header with these numbers in its fields
-abbrev header_of_numbers : List ℕ → NetlinkHeader
-header_of_numbers vs = record {
-  length = slice_index vs 0;
-  message_type = slice_index vs 1;
-  flags = slice_index vs 2;
-  sequence_number = slice_index vs 3;
-  port_number = slice_index vs 4;
-}
 
 same_header : (h k : NetlinkHeader) → header_values h ≡ header_values k → h ≡ k
 same_header h k e = ap header_of_numbers e

@@ -1,5 +1,6 @@
 -- The header of a netlink message, and the first error of bytes that do not begin with a message.
 use Rattle.std.specs.Prelude.{◌≡◌, ℕ, ◌-◌, ◌<◌, ◌≤◌, List, [], ◌∷◌, length, take, drop}
+use Rattle.std.specs.Prelude.{slice_index}
 use Rattle.byteorder.specs.Endian.{little_number}
 use Rattle.netlink_core.specs.Table.{Field, values_of, bytes_of, FitFields}
 use Rattle.netlink_core.specs.Rows.{Row, u16, u32, fields_of, numbers_of}
@@ -25,6 +26,16 @@ header_fields = fields_of header_rows
 -- `header_values h`: the five numbers of the header `h`, in the order of the rows
 abbrev pub header_values : NetlinkHeader → List ℕ
 header_values = numbers_of header_rows
+
+-- `header_of_numbers numbers`: the header with these five numbers, in the order of the rows
+abbrev pub header_of_numbers : List ℕ → NetlinkHeader
+header_of_numbers numbers = record {
+  length = slice_index numbers 0;
+  message_type = slice_index numbers 1;
+  flags = slice_index numbers 2;
+  sequence_number = slice_index numbers 3;
+  port_number = slice_index numbers 4;
+}
 
 -- `header_bytes h`: the 16 bytes that the header `h` serializes to
 abbrev pub header_bytes : NetlinkHeader → List ℕ

@@ -9,11 +9,11 @@ use Rattle.std.proofs.lemmas.List.Folds.{list_all-append}
 use Rattle.std.proofs.lemmas.Grind.{flat_map-append}
 use Rattle.netlink_core.proofs.Datagrams.{shorter-rest}
 use Rattle.netlink_core.specs.Datagram.{SplitsIntoMessages, StartsWithMessage}
-use Rattle.netlink_core.specs.Header.{HasHeader, IsMessageError}
+use Rattle.netlink_core.specs.Header.{HasHeader, IsMessageError, header_of_numbers}
 use Rattle.netlink_core.specs.declared.error.DecodeError.{DecodeError}
 use Rattle.netlink_core.specs.declared.header.NetlinkHeader.{NetlinkHeader}
 use Rattle.sslist_lister.specs.Diagnostics.{line_start, lines_about, lines_about_message}
-use Rattle.sslist_lister.specs.Messages.{begins_with_message, leading_header, header_with}
+use Rattle.sslist_lister.specs.Messages.{begins_with_message, leading_header}
 use Rattle.netlink_core.specs.declared.message.TheConstants.{NLM_F_REQUEST}
 use Rattle.sslist_lister.specs.Messages.{MessageParts, message_in, request_in}
 
@@ -21,7 +21,7 @@ use Rattle.sslist_lister.specs.Messages.{MessageParts, message_in, request_in}
 pub header_found : (bytes : List ℕ) (h : NetlinkHeader) → HasHeader bytes h
     → leading_header bytes ≡ h
 unfolding leading_header
-header_found bytes h has = ap header_with has.0
+header_found bytes h has = ap header_of_numbers has.0
 
 -- Bytes with a header begin with a message.
 pub message_begins : (bytes : List ℕ) (h : NetlinkHeader) → HasHeader bytes h

@@ -3,6 +3,7 @@
 use Rattle.std.specs.Prelude.{◌≡◌, ℕ, ◌==◌, ◌/◌, ◌%◌, ◌||◌, if◌then◌else◌, Bool, List, [], ◌∷◌}
 use Rattle.std.specs.Prelude.{◌++◌, bit_and, codes, decimal, false, flat_map, is_some}
 use Rattle.std.specs.Prelude.{length, nat_le, Option, None, Some, option_map, Result, Ok, Err}
+use Rattle.std.specs.Prelude.{unwrap_or}
 use Rattle.std.specs.Borrow.{Bor}
 use Rattle.std.specs.Fmt.{digits}
 use Rattle.std.specs.Option.{option_map_or}
@@ -18,7 +19,7 @@ use Rattle.sslist_lister.specs.texts.JsonData.{JsonMember, flag_member, numbers_
 use Rattle.sslist_lister.specs.texts.JsonData.{object_member, optional_member, text_member}
 use Rattle.sslist_lister.specs.texts.Parts.{directions}
 use Rattle.sslist_lister.specs.JsonNames.{name_members}
-use Rattle.sslist_lister.specs.UlpNames.{flag_letters, name_or_number, tls_cipher_name}
+use Rattle.sslist_lister.specs.UlpNames.{flag_letters, tls_cipher_name}
 use Rattle.sslist_lister.specs.UlpNames.{tls_mode_name, tls_version_name}
 use Rattle.sslist_lister.specs.declared.facts.Shown.{Shown}
 use Rattle.sslist_lister.specs.declared.facts.Shown.TheVariants.{Always, Bits, Cipher, Closed}
@@ -78,9 +79,9 @@ number_text NonzeroHex text n = if n == 0 then [] else text ++ digits 16 false n
 number_text (Bits bits) text n = if bit_and n bits == 0 then [] else text
 number_text Halves text n = text ++ decimal (n % 16) ++ 44 ∷ decimal (n / 16) ++ 41 ∷ []
 number_text Directions text n = text ++ directions n
-number_text Version text n = text ++ name_or_number (tls_version_name n) n
-number_text Cipher text n = text ++ name_or_number (tls_cipher_name n) n
-number_text Mode text n = text ++ name_or_number (tls_mode_name n) n
+number_text Version text n = text ++ unwrap_or (tls_version_name n) (decimal n)
+number_text Cipher text n = text ++ unwrap_or (tls_cipher_name n) (decimal n)
+number_text Mode text n = text ++ unwrap_or (tls_mode_name n) (decimal n)
 number_text Letters text n = if n == 0 then [] else text ++ flag_letters n
 
 -- `named_member member n`: the number `n` in JSON, under the name `member`; no member for None

@@ -1,7 +1,7 @@
 -- Netlink messages, by their header and their payload.
-use Rattle.std.specs.Prelude.{ℕ, ◌-◌, ◌==◌, ◌&&◌, not, nat_le, if◌then◌else◌, Bool, List, length}
-use Rattle.std.specs.Prelude.{bit_and, drop, take, slice_index, Option, None, Some}
-use Rattle.netlink_core.specs.Header.{header_fields}
+use Rattle.std.specs.Prelude.{ℕ, ◌==◌, ◌&&◌, not, nat_le, if◌then◌else◌, Bool, List, length}
+use Rattle.std.specs.Prelude.{bit_and, Option, None, Some}
+use Rattle.netlink_core.specs.Header.{header_fields, header_of_numbers, message_payload}
 use Rattle.netlink_core.specs.Table.{values_of}
 use Rattle.netlink_core.specs.declared.header.NetlinkHeader.{NetlinkHeader}
 use Rattle.netlink_core.specs.declared.header.TheConstants.{NETLINK_HEADER_LEN}
@@ -15,27 +15,15 @@ pub record MessageParts : Type 0 where
   -- the bytes after the header
   pub payload : List ℕ
 
--- the header with these numbers, in the order of `header_fields`
-abbrev pub header_with : List ℕ → NetlinkHeader
-header_with numbers = record {
-  length = slice_index numbers 0;
-  message_type = slice_index numbers 1;
-  flags = slice_index numbers 2;
-  sequence_number = slice_index numbers 3;
-  port_number = slice_index numbers 4;
-}
-
 -- the header that the bytes begin with
 unfoldable pub leading_header : List ℕ → NetlinkHeader
-leading_header bytes = header_with (values_of header_fields bytes)
+leading_header bytes = header_of_numbers (values_of header_fields bytes)
 
--- the message that the bytes begin with. The length in its header includes the header, so the
--- payload has NETLINK_HEADER_LEN bytes less.
+-- the message that the bytes begin with
 abbrev pub message_in : List ℕ → MessageParts
 message_in bytes = record {
   header = leading_header bytes;
-  payload =
-      take ((leading_header bytes).length - NETLINK_HEADER_LEN) (drop NETLINK_HEADER_LEN bytes);
+  payload = message_payload bytes (leading_header bytes);
 }
 
 -- the bytes begin with a message: they have at least the bytes of a header, and the length in it is

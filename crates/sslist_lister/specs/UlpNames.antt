@@ -1,11 +1,7 @@
 -- Names of what TLS in the kernel (linux/tls.h) and subflows of MPTCP connections (linux/mptcp.h)
 -- report.
-use Rattle.std.specs.Prelude.{ℕ, ◌==◌, if◌then◌else◌, List, [], ◌∷◌, bit_and, codes, decimal}
-use Rattle.std.specs.Prelude.{flat_map, Option, None, Some, unwrap_or}
-
--- `name_or_number name n`: the name, or the number `n` in decimal if there is no name (None)
-abbrev pub name_or_number : Option (List ℕ) → ℕ → List ℕ
-name_or_number name n = unwrap_or name (decimal n)
+use Rattle.std.specs.Prelude.{ℕ, ◌==◌, if◌then◌else◌, List, [], ◌∷◌, bit_and, codes}
+use Rattle.std.specs.Prelude.{flat_map, Option, None, Some}
 
 -- the name of a version of TLS (TLS_1_2_VERSION, TLS_1_3_VERSION); None for any other number
 abbrev pub tls_version_name : ℕ → Option (List ℕ)

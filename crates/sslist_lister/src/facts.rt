@@ -7,7 +7,7 @@
 //! are what the sink shows before and after the call.
 
 ghost use Rattle.std.specs.Prelude.{◌≡◌, ◌++◌, ◌∷◌, [], ℕ, List, OnOk, decimal, flat_map, map};
-ghost use Rattle.std.specs.Prelude.{option_map, refl};
+ghost use Rattle.std.specs.Prelude.{option_map, refl, unwrap_or};
 ghost use Rattle.json.specs.Token.{Token, begin_object, end_object, key};
 ghost use Rattle.sock_diag_attributes.specs.NameModel.{name_view_model};
 ghost use Rattle.sock_diag_attributes.specs.NumbersModel.{numbers_view_model};
@@ -17,7 +17,6 @@ ghost use Rattle.sslist_lister.specs.Facts.{named_member, no_facts, number_facts
 ghost use Rattle.sslist_lister.specs.Facts.{number_row_of, number_text, numbers, text_facts};
 ghost use Rattle.sslist_lister.specs.laws.FactTokens.{group_tokens, no_tokens};
 ghost use Rattle.sslist_lister.specs.Md5Keys.{md5_facts};
-ghost use Rattle.sslist_lister.specs.UlpNames.{name_or_number};
 ghost use Rattle.sslist_lister.specs.laws.MemberTokens.{tokens_append};
 ghost use Rattle.sslist_lister.specs.texts.JsonWriting.{KeepsPrefix, members_tokens};
 
@@ -542,7 +541,7 @@ fn push_named(
 ) -> Result<(), AllocError>
     // `option_map (λ n. n.now) name.entry`: the bytes of the name, if there is one.
     ensures { OnOk result (text.new.items ≡ text.old.items
-        ++ before.now ++ name_or_number (option_map (λ n. n.now) name.entry) number) }
+        ++ before.now ++ unwrap_or (option_map (λ n. n.now) name.entry) (decimal number)) }
 {
     match name {
         Some(name) => {

@@ -1,7 +1,7 @@
 -- Conditions on the sockets that are listed: on their states, ports and addresses.
 use Rattle.std.specs.Prelude.{ℕ, ◌+◌, ◌-◌, ◌^◌, ◌==◌, ◌&&◌, ◌||◌, not, nat_le, nat_lt, Bool, true}
 use Rattle.std.specs.Prelude.{if◌then◌else◌, List, [], ◌∷◌, bit_and, bytes_eq, codes, drop, is_some}
-use Rattle.std.specs.Prelude.{length, map, nat_eq, option_map, take, Option, None, Some}
+use Rattle.std.specs.Prelude.{length, map, nat_eq, option_map, sum_by, take, Option, None, Some}
 use Rattle.std.specs.Char.{to_ascii_lowercase}
 use Rattle.std.specs.List.{ends_with, starts_with}
 use Rattle.std.specs.Option.{option_map_or, option_or}
@@ -56,8 +56,7 @@ state_named name =
 
 -- the set of these states, a bit for each; no state may occur twice, because the bits are added
 abbrev pub only_states : List ℕ → ℕ
-only_states [] = 0
-only_states (state ∷ states) = state_bit state + only_states states
+only_states states = sum_by state_bit states
 
 -- the set of all states except these
 abbrev pub all_states_except : List ℕ → ℕ
