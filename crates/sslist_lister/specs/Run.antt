@@ -101,9 +101,9 @@ module _ (o : Options) (left left' held held' : Option (List ℕ)) (heading fron
 
   -- The state after a failed write or flush: packets were read and diagnosed, and a prefix of the
   -- heading and of their lines was written: `sent`, without `rest`. The last of them is the packet
-  -- whose lines could not be written, if it was not the heading or the flush that failed. `more` are
-  -- the bytes that were read after them, which contain no packet: none, or before the flush those
-  -- at the end of a pcapng file.
+  -- whose lines could not be written, if it was not the heading or the flush that failed. `more`
+  -- are the bytes that were read after them, which contain no packet: none, or before the flush
+  -- those at the end of a pcapng file.
   abbrev pub FailsAtWrite : Type 0
   FailsAtWrite =
       (bytes lines diagnostics : List ℕ) × (is_whole : Bool)
@@ -177,8 +177,8 @@ pub record ListingRun : Type 1 where
   -- this text was reported on standard error
   pub Reported : List ℕ → Type 0
 
--- `ListingEnds run outcome`: the run ended with this outcome: it listed the capture to its end (Ok),
--- and then `outcome` is whether each packet was listed completely; or it failed (Err)
+-- `ListingEnds run outcome`: the run ended with this outcome: it listed the capture to its end
+-- (Ok), and then `outcome` is whether each packet was listed completely; or it failed (Err)
 abbrev pub ListingEnds : ListingRun → Result Bool ListError → Type 0
 ListingEnds run outcome = MatchResult outcome
     (Finishes run.options run.left_before run.left_after run.held_before run.held_after

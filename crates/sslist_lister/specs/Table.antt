@@ -127,8 +127,8 @@ unix_first_columns h queues uid = record {
 }
 
 -- `unix_columns o h s`: the columns of a UNIX socket, whose header is `h`: the first columns, the
--- cell of the name, and the peer. The name is in the attribute UNIX_DIAG_NAME, the inode of the peer
--- in UNIX_DIAG_PEER, the lengths of the queues in UNIX_DIAG_RQLEN, and the user id in
+-- cell of the name, and the peer. The name is in the attribute UNIX_DIAG_NAME, the inode of the
+-- peer in UNIX_DIAG_PEER, the lengths of the queues in UNIX_DIAG_RQLEN, and the user id in
 -- UNIX_DIAG_UID. The width of the cell, 30, is measured by `name_column`.
 abbrev pub unix_columns : Options → UnixResponseHeader → Summary → List ℕ
 unix_columns o h s =

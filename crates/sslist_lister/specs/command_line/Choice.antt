@@ -1,7 +1,7 @@
 -- The request of a command line. Arguments are lists of bytes.
-use Rattle.std.specs.Prelude.{◌≡◌, ◌≢◌, ℕ, ◌+◌, ◌-◌, ◌||◌, ◌==◌, if◌then◌else◌, not, Bool, true, false}
-use Rattle.std.specs.Prelude.{List, [], ◌∷◌, Option, Some, None, bytes_eq, codes, drop, find, fold}
-use Rattle.std.specs.Prelude.{is_some, length, nat_eq, nat_lt, option_map, slice_index, take}
+use Rattle.std.specs.Prelude.{◌≡◌, ◌≢◌, ℕ, ◌+◌, ◌-◌, ◌||◌, ◌==◌, if◌then◌else◌, not, Bool, true}
+use Rattle.std.specs.Prelude.{false, List, [], ◌∷◌, Option, Some, None, bytes_eq, codes, drop, find}
+use Rattle.std.specs.Prelude.{fold, is_some, length, nat_eq, nat_lt, option_map, slice_index, take}
 use Rattle.std.specs.Prelude.{bit_or, unwrap_or}
 use Rattle.std.specs.Borrow.{Bor}
 use Rattle.std.specs.List.{ends_with, list_any, starts_with}
@@ -222,17 +222,17 @@ letter_rejection letter =
     else rejections.UnknownLetter letter
 
 -- What letters after a hyphen are parsed as: they are rejected if one of them is
--- (`first_rejected_letter`). Else they are `Letters`, with whether they end in f. The empty argument
--- is rejected too; it is never parsed here, because it is the name of a file.
+-- (`first_rejected_letter`). Else they are `Letters`, with whether they end in f. The empty
+-- argument is rejected too; it is never parsed here, because it is the name of a file.
 abbrev pub letters_argument : List ℕ → Argument
 letters_argument argument =
     if length argument == 0 then parsed_as.Rejected rejections.UnknownOption
     else option_map_or (λ letter. parsed_as.Rejected (letter_rejection letter))
     (first_rejected_letter (drop 1 argument)) (parsed_as.Letters (ends_in_f argument))
 
--- `valued_argument option value`: what the value of an option is parsed as: the name of a family, of
--- a state or of a group of states, or a condition on the port or the address of an end; any other
--- text is rejected
+-- `valued_argument option value`: what the value of an option is parsed as: the name of a family,
+-- of a state or of a group of states, or a condition on the port or the address of an end; any
+-- other text is rejected
 abbrev pub valued_argument : Valued → List ℕ → Argument
 valued_argument valued.Family value = family_argument rejections.UnknownFamilyValue value
 valued_argument valued.State value = option_map_or parsed_as.States (states_named value)

@@ -76,8 +76,8 @@ group_named name =
     then Some (all_states_except (TCP_SYN_RECV ∷ TCP_TIME_WAIT ∷ []))
     else None
 
--- the set of the states with this name, a bit for each: one state, or else a group; None if there is
--- none
+-- the set of the states with this name, a bit for each: one state, or else a group; None if there
+-- is none
 abbrev pub states_named : List ℕ → Option ℕ
 states_named name = option_or (option_map state_bit (state_named name)) (group_named name)
 

@@ -56,8 +56,8 @@ abbrev pub closing_line : List ℕ → ListError → List ℕ
 closing_line front (errors.Write Closed) = []
 closing_line front error = front ++ list_error_text error ++ 10 ∷ []
 
--- `closing_text front outcome`: the line that names the failure of a run; nothing if the run did not
--- fail
+-- `closing_text front outcome`: the line that names the failure of a run; nothing if the run did
+-- not fail
 abbrev pub closing_text : List ℕ → Result Bool ListError → List ℕ
 closing_text front (Ok is_whole) = []
 closing_text front (Err error) = closing_line front error
