@@ -196,6 +196,7 @@ pub fn emit_views<'a, V: FamilyView<'a> + Drop>(bytes: &'a [u8], buffer: &mut [u
     let mut at = 0;
     let mut walk = NlasIterator::new(bytes);
     while let Some(view) = next_view::<V>(&mut walk) {
+        // With its padding.
         let end = at + nla_len(&view);
         emit_nla(&view, &mut buffer[at..end]);
         at = end;

@@ -192,7 +192,6 @@ impl ByteOrder {
     /// Returns the `u16` at an offset, in this byte order. Both of its bytes must be present.
     pub(crate) fn u16_at(self, bytes: &[u8], offset: usize) -> u16
         requires { offset + 2 ≤ length bytes.now }
-        // On the right is the definition of the same name.
         ensures { result ≡ u16_at self offset bytes.now }
     {
         match self {
@@ -204,7 +203,6 @@ impl ByteOrder {
     /// Returns the `u32` at an offset, in this byte order. All four bytes must be present.
     pub(crate) fn u32_at(self, bytes: &[u8], offset: usize) -> u32
         requires { offset + 4 ≤ length bytes.now }
-        // On the right is the definition of the same name.
         ensures { result ≡ u32_at self offset bytes.now }
     {
         match self {
@@ -263,7 +261,6 @@ pub enum TimeUnit {
 /// Returns the unit that belongs to a magic number: nanoseconds for `MAGIC_NANOSECONDS`, else
 /// microseconds.
 fn unit_of(magic: u32) -> TimeUnit
-    // On the right is the definition of the same name.
     ensures { result ≡ unit_of magic }
 {
     match magic {

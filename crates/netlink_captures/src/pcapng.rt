@@ -150,7 +150,7 @@ pub struct PcapngReader {
 /// Returns whether a block is a section header, by the first four of its bytes.
 pub(crate) fn is_section_header(block: &[u8]) -> bool
     requires { 4 ≤ length block.now }
-    // On the right is the definition of the same name: the type at 0 is 0x0a0d0d0a.
+    // The type at 0 is 0x0a0d0d0a.
     ensures { result ≡ is_section_header block.now }
 {
     // The type reads the same in both byte orders, so either one does.
@@ -178,7 +178,6 @@ fn find_order(section_order: ByteOrder, block: &[u8]) -> Option<ByteOrder>
 /// Returns whether a block at this offset may have this length in bytes: 12 to 16777216, a multiple
 /// of 4, and such that the offset of the block's end fits 64 bits.
 fn is_block_length(offset: u64, length: u32) -> bool
-    // On the right is the definition of the same name.
     ensures { result ≡ is_block_length offset length }
 {
     MIN_BLOCK_LEN as u32 <= length
@@ -190,7 +189,6 @@ fn is_block_length(offset: u64, length: u32) -> bool
 /// Returns the unit of timestamps by the value of the option `if_tsresol`. Fails with `Resolution`
 /// if this is neither a microsecond nor a nanosecond.
 fn unit_by_resolution(value: u8) -> Result<TimeUnit, BlockError>
-    // On the right is the definition of the same name.
     ensures { result ≡ unit_by_resolution value }
 {
     // The value `n` means a unit of 10^-n seconds.
@@ -205,7 +203,6 @@ fn unit_by_resolution(value: u8) -> Result<TimeUnit, BlockError>
 /// length of its value, and its value, padded to a multiple of four bytes.
 fn option_size(order: ByteOrder, options: &[u8]) -> usize
     requires { 4 ≤ length options.now }
-    // On the right is the definition of the same name.
     ensures { result ≡ option_size order options.now }
 {
     4 + (usize::from(order.u16_at(options, 2)) + 3) / 4 * 4
@@ -217,7 +214,6 @@ fn option_size(order: ByteOrder, options: &[u8]) -> usize
 fn unit_in_option(order: ByteOrder, options: &[u8]) -> Result<TimeUnit, BlockError>
     // `option_size`: the number of bytes of the option, with its header of 4 bytes.
     requires { option_size order options.now ≤ length options.now }
-    // On the right is the definition of the same name.
     ensures { result ≡ unit_in_option order options.now }
 {
     if order.u16_at(options, 2) == 1 {
@@ -264,7 +260,6 @@ fn find_unit(order: ByteOrder, options: &[u8]) -> Result<TimeUnit, BlockError>
 /// Returns the number of units in a second. It is not 0, so timestamps can be divided by it, and
 /// the remainder fits 32 bits.
 fn units_in_second(unit: TimeUnit) -> u64
-    // On the right is the definition of the same name.
     ensures value { result ≡ units_in_second unit }
     ensures range { (0 < result) × (result ≤ 1000000000) }
 {
@@ -277,7 +272,6 @@ fn units_in_second(unit: TimeUnit) -> u64
 /// Returns the captured length of a simple packet: the smaller of its original length and the
 /// snapshot length of its interface. The snapshot length 0 means no limit.
 fn simple_captured(snap_length: u32, original: u32) -> u32
-    // On the right is the definition of the same name.
     ensures { result ≡ simple_captured snap_length original }
 {
     if snap_length == 0 {
@@ -304,7 +298,7 @@ impl PcapngReader {
 
     /// Returns the error of the block at the reader's offset, for this reason.
     fn invalid_block(&self, reason: BlockError) -> CaptureError
-        // On the right is the definition of the same name: `Block` with the reader's offset.
+        // `Block` with the reader's offset.
         ensures { result ≡ invalid_block (position_of self.now) reason }
     {
         CaptureError::Block {

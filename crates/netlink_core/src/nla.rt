@@ -199,6 +199,7 @@ pub fn emit_nlas<T: Nla>(nlas: &[T], buffer: &mut [u8])
 {
     let mut at = 0;
     for nla in nlas {
+        // With its padding.
         let end = at + nla_len(nla);
         emit_nla(nla, &mut buffer[at..end]);
         at = end;

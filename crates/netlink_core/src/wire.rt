@@ -184,7 +184,7 @@ pub trait Wire: HasCodec + Readable + Emitable {
 /// Serializes a value to a new vector of exactly its bytes. Fails with `Unwritable` if the value is
 /// not writable, and with `Memory` only if it is.
 pub fn write_new<T: Emitable>(alloc: Global, value: &T) -> Result<Vec<u8>, CanonError>
-    // T.writable value: the value is writable. T.bytes value: the bytes that it serializes to.
+    // `T.writable value`: the value is writable. `T.bytes value`: the bytes that it serializes to.
     ensures written { IfOk result (λ written.
         T.writable value.now × (written.items ≡ T.bytes value.now)) }
     // Each number of the value fits its field. This is so for all Rust values; the codec laws

@@ -122,7 +122,7 @@ impl Error for WriteError {}
 /// `code`. For five numbers, those that reads and writes have most often, it is a colon, the
 /// meaning of the number, and the closing parenthesis. For others it is only the parenthesis.
 pub fn os_error_end(code: u32) -> &'static str
-    // On the right is the definition of the same name, which has the six texts.
+    // The definition has the six texts.
     ensures { result.now ≡ os_error_end code }
 {
     if code == EIO {
@@ -209,7 +209,7 @@ fn read_failure(kind: ErrorKind, code: Option<i32>) -> ReadError
 /// Returns the system's number of an error, if it has one (`code`) that is not negative, else
 /// `None`.
 fn error_number(code: Option<i32>) -> Option<u32>
-    // On the right is the definition of the same name, from `Option ℤ` to `Option ℕ`.
+    // The definition is from `Option ℤ` to `Option ℕ`.
     ensures { result ≡ error_number code }
 {
     match code {

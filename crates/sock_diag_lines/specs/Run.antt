@@ -22,14 +22,14 @@ WritesAllAnswers left held held' = IfSome left (λ text.
 -- `exit_status_of is_strict outcome`: the exit status of a run: 1 if it failed, 3 if it is strict
 -- and an answer is not good, else 0
 abbrev pub exit_status_of : Bool → Result Bool RunError → ℕ
-exit_status_of is_strict (Ok is_good) = if is_strict && not is_good then 3 else 0
+exit_status_of is_strict (Ok all_good) = if is_strict && not all_good then 3 else 0
 exit_status_of is_strict (Err error) = 1
 
 -- `RunEnds streams outcome`: what a run with this outcome has read and written (`AnswersInput`). It
 -- has written the answers to all lines if it succeeded, to the complete lines if a read failed, to
--- the first of these if memory ran out, and a prefix of all answers if a write failed. If it
+-- some first ones of these if memory ran out, and a prefix of all answers if a write failed. If it
 -- succeeded, the outcome is whether each answer is good (`is_good`). `answer` has the answer to
--- each line: there is exactly one such function.
+-- each line: there is exactly one such function (`each_line_has_one_answer`).
 abbrev pub RunEnds : RunStreams → Result Bool RunError → Type 0
 RunEnds streams outcome = (answer : List ℕ → List ℕ)
     → AnswersEachLine IsAnswerOf answer → AnswersInput answer streams is_good outcome

@@ -56,7 +56,6 @@ impl LineAnswers for Protocol {
 /// Returns whether an answer is good: it starts with `ok `, and it is not that of a dump that
 /// failed, the only answer that starts with `ok failed`.
 fn is_good(answer: &[u8]) -> bool
-    // On the right is the definition of the same name.
     ensures { result ≡ is_good answer.now }
 {
     answer.starts_with(OK) && !answer.starts_with(b"ok failed")
@@ -152,7 +151,6 @@ pub(crate) fn report<E: Sink>(errors: &mut E, outcome: &Result<bool, RunError>)
 
 /// Returns the line that names a failure.
 fn failure_line(error: RunError) -> &'static [u8]
-    // On the right is the definition of the same name.
     ensures { result.now ≡ failure_line error }
 {
     match error {

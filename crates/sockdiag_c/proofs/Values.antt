@@ -12,8 +12,8 @@ use Rattle.netlink_core.specs.laws.Prefix.{prefix_or_error_apart}
 use Rattle.netlink_core.proofs.Splitting.{one_first_attribute}
 use Rattle.netlink_core.proofs.Iterating.{StartsWithAttribute-nonempty, attribute_prefix_of_start}
 use Rattle.sock_diag_replies.specs.UnixGetters.{first_content_of}
-use Rattle.sockdiag_c.specs.TcpInfo.{AreAttributesIn, first_value_of_type, padded_or_truncated}
-use Rattle.sockdiag_c.specs.TcpInfo.{value_of_type}
+use Rattle.sockdiag_c.specs.TcpInfo.{AreAttributesIn, first_bytes_of_kind, padded_or_truncated}
+use Rattle.sockdiag_c.specs.TcpInfo.{bytes_of_kind}
 use Rattle.sockdiag_c.proofs.Rows.{first_attribute}
 
 -- the value, truncated to n bytes or followed by zeros
@@ -57,11 +57,11 @@ attribute_at_start_is_first bytes rest a start (b ∷ more) stand =
 pub record FoundAfter (k : ℕ) (bytes rest : List ℕ) : Type 0 where
   pub behind : (attributes : List Attribute) → AreAttributesIn bytes attributes
       → (later : List Attribute)
-      × AreAttributesIn rest later × (first_content_of (value_of_type k) attributes
-      ≡ first_content_of (value_of_type k) later)
+      × AreAttributesIn rest later × (first_content_of (bytes_of_kind k) attributes
+      ≡ first_content_of (bytes_of_kind k) later)
 
 skipped : (k : ℕ) (a : Attribute) (more : List Attribute) → attribute_kind a ≢ k
-    → first_content_of (value_of_type k) (a ∷ more) ≡ first_content_of (value_of_type k) more
+    → first_content_of (bytes_of_kind k) (a ∷ more) ≡ first_content_of (bytes_of_kind k) more
 skipped k a more other = rw (ne_eqb (attribute_kind a) k other) refl
 
 -- an attribute of another type is skipped
@@ -74,36 +74,36 @@ found_after_skipped k bytes rest after a start found other = record {
       let first = attribute_at_start_is_first rest after a start f.0 f.1 in (
         first.0,
         first.2,
-        f.2 ∙ ap (first_content_of (value_of_type k)) first.1 ∙ skipped k a first.0 other,
+        f.2 ∙ ap (first_content_of (bytes_of_kind k)) first.1 ∙ skipped k a first.0 other,
       );
 }
 
 -- the first attribute has the type, and its value is found
 first_value_is : (k : ℕ) (a : Attribute) (more : List Attribute) → attribute_kind a ≡ k
-    → a.value ≡ first_value_of_type k (a ∷ more)
+    → a.value ≡ first_bytes_of_kind k (a ∷ more)
 first_value_is k a more is = rw is (search rules)
 
 pub found_here : (k : ℕ) (bytes rest after : List ℕ) (a : Attribute)
     → StartsWithAttribute rest a after
     → FoundAfter k bytes rest → attribute_kind a ≡ k
     → (attributes : List Attribute) → AreAttributesIn bytes attributes
-    → a.value ≡ first_value_of_type k attributes
+    → a.value ≡ first_bytes_of_kind k attributes
 found_here k bytes rest after a start found is attributes stand =
     let f = found.behind attributes stand in
     let first = attribute_at_start_is_first rest after a start f.0 f.1 in
-    first_value_is k a first.0 is ∙ ap (first_value_of_type k) (sym first.1)
+    first_value_is k a first.0 is ∙ ap (first_bytes_of_kind k) (sym first.1)
     ∙ ap (λ (o : Option (List ℕ)). unwrap_or o []) (sym f.2)
 
 -- if no attribute is left, no value is found
 no_value_is_found : (k : ℕ) (bytes rest : List ℕ) → FoundAfter k bytes rest
     → ((a : Attribute) (after : List ℕ) → StartsWithAttribute rest a after → ⊥)
     → (attributes : List Attribute) → AreAttributesIn bytes attributes
-    → [] ≡ first_value_of_type k attributes
+    → [] ≡ first_bytes_of_kind k attributes
 no_value_is_found k bytes rest found alone attributes stand =
     let f = found.behind attributes stand in
     none f.0 f.1 ∙ ap (λ (o : Option (List ℕ)). unwrap_or o []) (sym f.2)
   where
-    none : (later : List Attribute) → AreAttributesIn rest later → [] ≡ first_value_of_type k later
+    none : (later : List Attribute) → AreAttributesIn rest later → [] ≡ first_bytes_of_kind k later
     none [] left = refl
     none (a ∷ more) left =
         let first = first_attribute_is_at_start rest a more left in
@@ -111,7 +111,7 @@ no_value_is_found k bytes rest found alone attributes stand =
 
 pub found_nowhere : (k : ℕ) (bytes rest : List ℕ) → FoundAfter k bytes rest → rest ≡ []
     → (attributes : List Attribute) → AreAttributesIn bytes attributes
-    → [] ≡ first_value_of_type k attributes
+    → [] ≡ first_bytes_of_kind k attributes
 found_nowhere k bytes rest found none =
     grind (arith, no_value_is_found k bytes rest found)
 
@@ -119,6 +119,6 @@ pub framing_error_is_found : (k : ℕ) (bytes rest : List ℕ) (e : DecodeError)
     → FoundAfter k bytes rest
     → IsFramingError rest e
     → (attributes : List Attribute) → AreAttributesIn bytes attributes
-    → [] ≡ first_value_of_type k attributes
+    → [] ≡ first_bytes_of_kind k attributes
 framing_error_is_found k bytes rest e found error =
     grind (arith, common_steps, no_value_is_found, prefix_or_error_apart, attribute_prefix_of_start)

@@ -57,8 +57,8 @@ pub extern "C" fn sockdiag_find_error_attributes(
     }
 }
 
-// Sets the cursor to the attributes of the acknowledgement, with which the payload ends. Returns 1;
-// or 0 if there is no acknowledgement, and then the cursor is unchanged.
+// Sets the cursor to the attributes, which end the payload of an acknowledgement. Returns 1; or 0
+// if there is no acknowledgement, and then the cursor is unchanged.
 fn point_at(found: Option<AckView<'_>>, payload: &[u8], cursor: &mut Cursor) -> u32
     // The first part is about `None`, the second about `Some(ack)`. `ack_attributes`: the bytes of
     // the attributes.

@@ -48,7 +48,8 @@ pub fn a_step_passes_the_first_message()
     // bytes from the cursor on, before and after the call. `SplitsIntoMessages b messages end`: the
     // bytes `b` are these messages, and then nothing (None), or bytes with the framing error
     // `Some e`. `StepsOverMessage step`: `step` has the arguments and the results of such a call.
-    // `StoresCheckedMessage`: the message is stored, and 1 or the code of its error returned.
+    // `StoresCheckedMessage step`: the first message of the bytes before the call, which is
+    // `message`, is stored, and 1 or the code of its error returned.
     ensures next { (step : IterationStep MessageRange)
         (message : List ℕ) (later : List (List ℕ)) (end : Option DecodeError)
         → IsBytes (bytes_before_step step)

@@ -4,7 +4,7 @@
 ghost use Rattle.std.specs.Prelude.{◌≡◌, List, length};
 ghost use Rattle.netlink_core.specs.Attribute.{Attribute};
 ghost use Rattle.sockdiag_c.specs.TcpInfo.{AreAttributesIn, AreInetReplyAttributes};
-ghost use Rattle.sockdiag_c.specs.TcpInfo.{first_value_of_type, padded_or_truncated};
+ghost use Rattle.sockdiag_c.specs.TcpInfo.{first_bytes_of_kind, padded_or_truncated};
 
 use crate::walks::bytes_from;
 use netlink_core::NlasIterator;
@@ -33,16 +33,16 @@ pub(crate) const MPTCP_INFO_LEN: usize = 96;
 /// because a value is too short. Attributes after a framing error are not found.
 #[unsafe(no_mangle)]
 pub extern "C" fn sockdiag_inet_get_tcp_info(payload: &[u8], info: &mut [u8; TCP_INFO_LEN]) -> usize
-    // `attributes`: those after the header, up to a framing error. `first_value_of_type`: the value
+    // `attributes`: those after the header, up to a framing error. `first_bytes_of_kind`: the value
     // of the first one of this type, or no bytes.
     ensures length { (attributes : List Attribute)
         → AreInetReplyAttributes payload.now attributes
-        → result ≡ length (first_value_of_type INET_DIAG_INFO attributes) }
+        → result ≡ length (first_bytes_of_kind INET_DIAG_INFO attributes) }
     // `padded_or_truncated n`: the first `n` bytes of the value, and zeros if it has fewer.
     ensures bytes { (attributes : List Attribute)
         → AreInetReplyAttributes payload.now attributes
         → info.new ≡ padded_or_truncated TCP_INFO_LEN
-        (first_value_of_type INET_DIAG_INFO attributes) }
+        (first_bytes_of_kind INET_DIAG_INFO attributes) }
 {
     copy_first_value(payload, INET_DIAG_INFO, info)
 }
@@ -60,16 +60,16 @@ pub extern "C" fn sockdiag_inet_get_long_tcp_info(
     payload: &[u8],
     info: &mut [u8; LONG_TCP_INFO_LEN],
 ) -> usize
-    // `attributes`: those after the header, up to a framing error. `first_value_of_type`: the value
+    // `attributes`: those after the header, up to a framing error. `first_bytes_of_kind`: the value
     // of the first one of this type, or no bytes.
     ensures length { (attributes : List Attribute)
         → AreInetReplyAttributes payload.now attributes
-        → result ≡ length (first_value_of_type INET_DIAG_INFO attributes) }
+        → result ≡ length (first_bytes_of_kind INET_DIAG_INFO attributes) }
     // `padded_or_truncated n`: the first `n` bytes of the value, and zeros if it has fewer.
     ensures bytes { (attributes : List Attribute)
         → AreInetReplyAttributes payload.now attributes
         → info.new ≡ padded_or_truncated LONG_TCP_INFO_LEN
-        (first_value_of_type INET_DIAG_INFO attributes) }
+        (first_bytes_of_kind INET_DIAG_INFO attributes) }
 {
     copy_first_value(payload, INET_DIAG_INFO, info)
 }
@@ -89,16 +89,16 @@ pub extern "C" fn sockdiag_inet_get_mptcp_info(
     payload: &[u8],
     info: &mut [u8; MPTCP_INFO_LEN],
 ) -> usize
-    // `attributes`: those after the header, up to a framing error. `first_value_of_type`: the value
+    // `attributes`: those after the header, up to a framing error. `first_bytes_of_kind`: the value
     // of the first one of this type, or no bytes.
     ensures length { (attributes : List Attribute)
         → AreInetReplyAttributes payload.now attributes
-        → result ≡ length (first_value_of_type INET_DIAG_INFO attributes) }
+        → result ≡ length (first_bytes_of_kind INET_DIAG_INFO attributes) }
     // `padded_or_truncated n`: the first `n` bytes of the value, and zeros if it has fewer.
     ensures bytes { (attributes : List Attribute)
         → AreInetReplyAttributes payload.now attributes
         → info.new ≡ padded_or_truncated MPTCP_INFO_LEN
-        (first_value_of_type INET_DIAG_INFO attributes) }
+        (first_bytes_of_kind INET_DIAG_INFO attributes) }
 {
     copy_first_value(payload, INET_DIAG_INFO, info)
 }
@@ -112,16 +112,16 @@ pub extern "C" fn sockdiag_inet_get_mptcp_info(
 /// because a value is too short. Attributes after a framing error are not found.
 #[unsafe(no_mangle)]
 pub extern "C" fn sockdiag_inet_get_memory(payload: &[u8], memory: &mut [u8; MEM_INFO_LEN]) -> usize
-    // `attributes`: those after the header, up to a framing error. `first_value_of_type`: the value
+    // `attributes`: those after the header, up to a framing error. `first_bytes_of_kind`: the value
     // of the first one of this type, or no bytes.
     ensures length { (attributes : List Attribute)
         → AreInetReplyAttributes payload.now attributes
-        → result ≡ length (first_value_of_type INET_DIAG_SKMEMINFO attributes) }
+        → result ≡ length (first_bytes_of_kind INET_DIAG_SKMEMINFO attributes) }
     // `padded_or_truncated n`: the first `n` bytes of the value, and zeros if it has fewer.
     ensures bytes { (attributes : List Attribute)
         → AreInetReplyAttributes payload.now attributes
         → memory.new ≡ padded_or_truncated MEM_INFO_LEN
-        (first_value_of_type INET_DIAG_SKMEMINFO attributes) }
+        (first_bytes_of_kind INET_DIAG_SKMEMINFO attributes) }
 {
     copy_first_value(payload, INET_DIAG_SKMEMINFO, memory)
 }
@@ -130,15 +130,15 @@ pub extern "C" fn sockdiag_inet_get_memory(payload: &[u8], memory: &mut [u8; MEM
 // truncated to `N` bytes or followed by zeros. Returns the length of the whole value, or 0 if there
 // is none.
 fn copy_first_value<const N: usize>(payload: &[u8], kind: u16, found: &mut [u8; N]) -> usize
-    // `attributes`: those after the header, up to a framing error. `first_value_of_type`: the value
+    // `attributes`: those after the header, up to a framing error. `first_bytes_of_kind`: the value
     // of the first one of this type, or no bytes.
     ensures length { (attributes : List Attribute)
         → AreInetReplyAttributes payload.now attributes
-        → result ≡ length (first_value_of_type kind attributes) }
+        → result ≡ length (first_bytes_of_kind kind attributes) }
     // `padded_or_truncated n`: the first `n` bytes of the value, and zeros if it has fewer.
     ensures bytes { (attributes : List Attribute)
         → AreInetReplyAttributes payload.now attributes
-        → found.new ≡ padded_or_truncated N (first_value_of_type kind attributes) }
+        → found.new ≡ padded_or_truncated N (first_bytes_of_kind kind attributes) }
 {
     let value = first_value(bytes_from(payload, INET_RESPONSE_HEADER_LEN), kind);
     let len = value.len().min(N);
@@ -153,7 +153,7 @@ fn copy_first_value<const N: usize>(payload: &[u8], kind: u16, found: &mut [u8; 
 fn first_value(bytes: &[u8], kind: u16) -> &[u8]
     // `attributes`: those at the start of the bytes, up to the end or a framing error.
     ensures { (attributes : List Attribute) → AreAttributesIn bytes.entry.now attributes
-        → result.now ≡ first_value_of_type kind attributes }
+        → result.now ≡ first_bytes_of_kind kind attributes }
 {
     for item in NlasIterator::new(bytes) {
         match item {

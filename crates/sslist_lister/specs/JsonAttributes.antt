@@ -15,13 +15,13 @@ use Rattle.sslist_lister.specs.declared.attributes.Sockets.{Sockets}
 
 -- ---- attributes without members of their own
 
--- the members of an attribute without a member of its own: its type and the length of its value in
+-- the members of an attribute without a member of its own: its kind and the length of its value in
 -- bytes
 unfoldable pub attribute_members : Attribute → List JsonMember
 attribute_members a =
     number_members ((codes "kind", attribute_kind a) ∷ (codes "length", length a.value) ∷ [])
 
--- `item_members a status`: the members of an attribute with this status: its type and the length of
+-- `item_members a status`: the members of an attribute with this status: its kind and the length of
 -- its value, and the reason in one word if the value is invalid
 unfoldable pub item_members : Attribute → Result Bool DecodeError → List JsonMember
 item_members a (Ok has_facts) = attribute_members a

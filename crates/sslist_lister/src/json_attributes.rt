@@ -216,7 +216,7 @@ fn write_item_members(
     }
 }
 
-/// Writes the type of an attribute and the length of its value.
+/// Writes the kind of an attribute and the length of its value.
 #[tactic(auto, unfolding(crate::specs::JsonAttributes::attribute_members))]
 fn write_attribute_members(writer: &mut Writer, nla: &NlaBuffer<'_>) -> Result<(), AllocError>
     ensures prefix { KeepsPrefix result writer.old writer.new }

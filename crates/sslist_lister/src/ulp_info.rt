@@ -257,7 +257,7 @@ fn list_subflow_rows() -> &'static [UlpRow]
     &SUBFLOW_ROWS
 }
 
-/// Shows the tokens of a connection and the ids of the addresses in the table, if all four are
+/// In the table, shows the tokens of a connection and the ids of the addresses, if all four are
 /// present. JSON has them among the numbers of the subflow.
 fn show_tokens<S: FactSink>(sink: &mut S, bytes: &[u8]) -> Result<(), AllocError>
     ensures { OnOk result (AddsFacts (S.content sink.old) (S.content sink.new)

@@ -133,7 +133,7 @@ socket_id
 000000806000000000000000000000e8030000a8da29000500080000000000 Err(UnsupportedFamily { \
 family: 1 })";
 
-/// Rows with payloads of messages. The first two are requests for internet sockets, which are
+/// Rows with payloads of messages. The first two have the layout of `inet_diag_req_v2`, and are
 /// parsed as replies: in the address of the first, whose family is `AF_UNIX`, is the header of an
 /// attribute.
 const MESSAGE_ROWS: &str = "\
