@@ -12,7 +12,7 @@ use Rattle.program_streams.specs.declared.streams.WriteError.TheVariants.{Closed
 use Rattle.program_streams.specs.declared.streams.WriteError.TheVariants.{Os as OsWrite}
 use Rattle.program_streams.specs.declared.streams.WriteError.TheVariants.{Other as OtherWrite}
 
--- os_error_end code: the end of the text of a failed read or write, which follows its number of
+-- `os_error_end code`: the end of the text of a failed read or write, which follows its number of
 -- errno(3), `code`. For five numbers, those that reads and writes have most often, it is a colon,
 -- the meaning of the number, and the closing parenthesis. For others it is only the parenthesis.
 abbrev pub os_error_end : ℕ → List ℕ
@@ -24,27 +24,27 @@ os_error_end code =
     else if code == c.EDQUOT then codes ": disk quota exceeded)"
     else codes ")"
 
--- read_error_text error: the text of the error of a failed read
+-- `read_error_text error`: the text of the error of a failed read
 abbrev pub read_error_text : ReadError → List ℕ
 read_error_text Directory = codes "the input is a directory; name the captures in it"
 read_error_text (OsRead code) =
     codes "reading failed (os error " ++ decimal code ++ os_error_end code
 read_error_text OtherRead = codes "reading failed"
 
--- error_number code: the errno(3) of an error, from the signed number that the system returned, if
--- it returned one; `None` if there is none, or if it is negative. (`pos n` is n, `negsuc n` is -n -
--- 1.)
+-- `error_number code`: the errno(3) of an error, from the signed number that the system returned,
+-- if it returned one; `None` if there is none, or if it is negative. (`pos n` is n, `negsuc n` is
+-- -n - 1.)
 abbrev pub error_number : Option ℤ → Option ℕ
 error_number (Some (pos code)) = Some code
 error_number (Some (negsuc n)) = None
 error_number None = None
 
--- numbered_read_error code: the error of a failed read that has this errno(3), or none
+-- `numbered_read_error code`: the error of a failed read that has this errno(3), or none
 abbrev pub numbered_read_error : Option ℕ → ReadError
 numbered_read_error (Some code) = OsRead code
 numbered_read_error None = OtherRead
 
--- numbered_write_error code: the error of a failed write or flush that has this errno(3), or none
+-- `numbered_write_error code`: the error of a failed write or flush that has this errno(3), or none
 abbrev pub numbered_write_error : Option ℕ → WriteError
 numbered_write_error (Some code) = OsWrite code
 numbered_write_error None = OtherWrite
@@ -63,7 +63,7 @@ IsWriteErrorFor is_broken_pipe number e =
     ((e ≡ Closed) ↔ is_broken_pipe)
     × (e ≢ Closed → e ≡ numbered_write_error (error_number number))
 
--- write_error_text error: the text of the error of a failed write or flush
+-- `write_error_text error`: the text of the error of a failed write or flush
 abbrev pub write_error_text : WriteError → List ℕ
 write_error_text Closed = codes "the output pipe is closed"
 write_error_text (OsWrite code) =

@@ -16,7 +16,7 @@ ghost use Rattle.netlink_core.specs.declared.error.DecodeError.TheVariants.{Memo
 ghost use Rattle.netlink_core.specs.AttributeSet.{AttributeValue, decode_attribute};
 ghost use Rattle.netlink_core.specs.AttributeSet.{IsInRangeIn};
 ghost use Rattle.netlink_core.specs.private.Response.{header_and_attributes, HasWritableLengths};
-ghost use Rattle.sock_diag_replies.specs.private.SerializedAttributes.{canonical_attributes};
+ghost use Rattle.attribute_lists.specs.AttributesIn.{encoded_attributes_in};
 ghost use Rattle.sock_diag_replies.specs.private.SerializedAttributes.{serialized_attributes};
 
 use attribute_lists::{
@@ -135,11 +135,11 @@ pub(crate) fn check_reply_len<'a, H: Emitable, V: FamilyView<'a> + Drop>(
     requires { H.writable header.now }
     ensures clean { OnOk result (HasNoAttributeError
         (decode_attribute V.attribute_set) bytes.entry.now) }
-    // `canonical_attributes set bytes`: the attributes in the bytes, each decoded by the attribute
+    // `encoded_attributes_in set bytes`: the attributes in the bytes, each decoded by the attribute
     // set and serialized again. `HasWritableLengths header attributes`: each value has at most
     // 65,531 bytes, and the whole has at most 4,294,967,295. `header_and_attributes header
     // attributes`: the bytes of the header, and then of each attribute with its padding.
-    ensures len { let attributes = canonical_attributes V.attribute_set bytes.entry.now in
+    ensures len { let attributes = encoded_attributes_in V.attribute_set bytes.entry.now in
         IfOk result (λ len. SomeIff len (HasWritableLengths (H.bytes header.now) attributes)
         (length (header_and_attributes (H.bytes header.now) attributes))) }
     ensures error { IfErr result (HasAttributeError
@@ -164,14 +164,14 @@ pub(crate) fn reply_view_len<'a, H: Emitable, V: FamilyView<'a> + Drop>(
 ) -> Option<usize>
     requires header { H.writable header.now }
     requires clean { HasNoAttributeError (decode_attribute V.attribute_set) bytes.now }
-    // `canonical_attributes set bytes`: the attributes in the bytes, each decoded by the attribute
+    // `encoded_attributes_in set bytes`: the attributes in the bytes, each decoded by the attribute
     // set and serialized again. `HasWritableLengths header attributes`: each value has at most
     // 65,531 bytes, and the whole has at most 4,294,967,295. `header_and_attributes header
     // attributes`: the bytes of the header, and then of each attribute with its padding.
     ensures fits { IsSome result ↔ HasWritableLengths (H.bytes header.now)
-        (canonical_attributes V.attribute_set bytes.entry.now) }
+        (encoded_attributes_in V.attribute_set bytes.entry.now) }
     ensures len { IfSome result (λ len. len ≡ length (header_and_attributes (H.bytes header.now)
-        (canonical_attributes V.attribute_set bytes.entry.now))) }
+        (encoded_attributes_in V.attribute_set bytes.entry.now))) }
 {
     let header_len = header.buffer_len();
     // `views_len` requires that the header by itself is not too long.
@@ -191,18 +191,18 @@ pub(crate) fn emit_reply_view<'a, H: Emitable, V: FamilyView<'a> + Drop>(
 )
     requires header { H.writable header.now }
     requires clean { HasNoAttributeError (decode_attribute V.attribute_set) bytes.now }
-    // `canonical_attributes set bytes`: the attributes in the bytes, each decoded by the attribute
+    // `encoded_attributes_in set bytes`: the attributes in the bytes, each decoded by the attribute
     // set and serialized again. `HasWritableLengths header attributes`: each value has at most
     // 65,531 bytes, and the whole has at most 4,294,967,295.
     requires fits { HasWritableLengths (H.bytes header.now)
-        (canonical_attributes V.attribute_set bytes.now) }
+        (encoded_attributes_in V.attribute_set bytes.now) }
     requires room { length (header_and_attributes (H.bytes header.now)
-        (canonical_attributes V.attribute_set bytes.now)) ≤ length buffer.old }
+        (encoded_attributes_in V.attribute_set bytes.now)) ≤ length buffer.old }
     // `HoldsAtStart serialized old new`: the buffer `new` is `serialized` and then the bytes of
     // `old` from this offset on. `header_and_attributes header attributes`: the bytes of the
     // header, and then of each attribute with its padding.
     ensures { HoldsAtStart (header_and_attributes (H.bytes header.now)
-        (canonical_attributes V.attribute_set bytes.entry.now)) buffer.old buffer.new }
+        (encoded_attributes_in V.attribute_set bytes.entry.now)) buffer.old buffer.new }
 {
     let (header_buffer, attribute_buffer) = buffer.split_at_mut(header.buffer_len());
     header.emit(header_buffer);

@@ -24,7 +24,7 @@ optional_number None = record { is_set = 0; value = 0 }
 abbrev pub text_parts : Text → Option (ℕ × List ℕ)
 text_parts text = if text.kind == 0 then None else Some (text.kind, text.bytes.now)
 
--- optional_record zero o: the contents of a field `has_..` and of the record that it is about: 1
+-- `optional_record zero o`: the contents of a field `has_..` and of the record that it is about: 1
 -- and the record `o`. If there is no record (None), 0 and `zero`, the record of zeros.
 abbrev pub optional_record : {A : Type 0} → A → Option A → ℕ × A
 optional_record zero (Some x) = (1, x)
@@ -50,7 +50,8 @@ memory_struct m = record {
 -- Rows of a table for the struct `D`. In each of them, the last argument `fields` returns the
 -- fields of a struct that have the value of the row.
 module _ {D : Type 0} where
-  -- number_row read fields: the row of a number. `read a` is the number that the attribute `a` has.
+  -- `number_row read fields`: the row of a number. `read a` is the number that the attribute `a`
+  -- has.
   abbrev pub number_row : (Attribute → Result (Option ℕ) DecodeError) → (D → Number) → StructRow D
   number_row read fields = record {
     Value = ℕ;
@@ -60,7 +61,7 @@ module _ {D : Type 0} where
     contents = optional_number;
   }
 
-  -- text_row read fields: the row of a text. `read a` is the kind and the bytes of the text that
+  -- `text_row read fields`: the row of a text. `read a` is the kind and the bytes of the text that
   -- the attribute `a` has.
   abbrev pub text_row : (Attribute → Result (Option (ℕ × List ℕ)) DecodeError) → (D → Text)
       → StructRow D
@@ -72,20 +73,20 @@ module _ {D : Type 0} where
     contents = λ o. o;
   }
 
-  -- u32_row kind fields: the row of the little-endian `__u32` of an attribute of this kind. A value
-  -- whose length is not four bytes is rejected with WrongLength, which contains the kind (`Some
-  -- kind`).
+  -- `u32_row kind fields`: the row of the little-endian `__u32` of an attribute of this kind. A
+  -- value whose length is not four bytes is rejected with WrongLength, which contains the kind
+  -- (`Some kind`).
   abbrev pub u32_row : ℕ → (D → Number) → StructRow D
   u32_row kind = number_row (value_of (number_of_width (Some kind) 4) kind)
 
-  -- bytes_row kind fields: the row of the bytes of an attribute of this kind, as a text of the kind
-  -- SOCKDIAG_BYTES. The bytes are not checked, so there is no error (`Ok`).
+  -- `bytes_row kind fields`: the row of the bytes of an attribute of this kind, as a text of the
+  -- kind SOCKDIAG_BYTES. The bytes are not checked, so there is no error (`Ok`).
   abbrev pub bytes_row : ℕ → (D → Text) → StructRow D
   bytes_row kind = text_row (value_of (λ bytes. Ok (BYTES, bytes)) kind)
 
-  -- record_row kind parse zero fields: the row of the record that `parse` returns for the bytes of
-  -- an attribute of this kind. The fields are a field `has_..` and the record. They are 1 and the
-  -- record, or 0 and the record `zero` if there is no such attribute.
+  -- `record_row kind parse zero fields`: the row of the record that `parse` returns for the bytes
+  -- of an attribute of this kind. The fields are a field `has_..` and the record. They are 1 and
+  -- the record, or 0 and the record `zero` if there is no such attribute.
   abbrev pub record_row : {A : Type 0} → ℕ → (List ℕ → Result A DecodeError) → A → (D → ℕ × A)
       → StructRow D
   record_row {A} kind parse zero fields = record {
@@ -96,8 +97,8 @@ module _ {D : Type 0} where
     contents = optional_record zero;
   }
 
-  -- memory_row kind fields: the row of the memory counters `SK_MEMINFO_..` of an attribute of this
-  -- kind: seven to nine `__u32`, little-endian. Fewer than 28 bytes are rejected with
+  -- `memory_row kind fields`: the row of the memory counters `SK_MEMINFO_..` of an attribute of
+  -- this kind: seven to nine `__u32`, little-endian. Fewer than 28 bytes are rejected with
   -- BufferTooSmall. Their parser has no parameter (`tt`).
   abbrev pub memory_row : ℕ → (D → Memory) → StructRow D
   memory_row kind fields = record {

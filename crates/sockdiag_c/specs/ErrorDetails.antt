@@ -90,7 +90,7 @@ error_fields e = no_error_details
 abbrev pub error_details_of : DecodeError → ErrorDetails
 error_details_of e = record (error_fields e) { code = error_code e }
 
--- IsExplained parses rejects call: either the bytes have a value (`parses v` holds for some `v`),
+-- `IsExplained parses rejects call`: either the bytes have a value (`parses v` holds for some `v`),
 -- the return value is 0, and nothing is stored. Or they have a first error `e` (`rejects e`), the
 -- return value is its code, and its code and its fields are stored.
 abbrev pub IsExplained : {V : Type 0} → (V → Type 0) → (DecodeError → Type 0) → Call ErrorDetails
@@ -100,7 +100,8 @@ IsExplained {V} parses rejects call =
     ⊎ ((e : DecodeError) × rejects e × (call.returned ≡ error_code e)
     × (call.new ≡ error_details_of e))
 
--- IsItemExplained F bytes call: by the first item of the bytes, for the attribute set `F`, one of:
+-- `IsItemExplained F bytes call`: by the first item of the bytes, for the attribute set `F`, one
+-- of:
 -- - There are no bytes (`[]`), or the first item is a valid attribute. The return value is 0, and
 --   nothing is stored.
 -- - The first item is a rejection, of an attribute or of the framing. The return value is the code

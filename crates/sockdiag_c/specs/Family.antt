@@ -21,31 +21,31 @@ use Rattle.sockdiag_c.specs.declared.lenient.TheConstants.{REJECTION_KINDS}
 pub record StructRow (D : Type 0) : Type 1 where
   -- the type of the value
   pub Value : Type 0
-  -- read a: `Ok (Some x)` if the attribute `a` has the value `x`, `Ok None` if it is of another
+  -- `read a`: `Ok (Some x)` if the attribute `a` has the value `x`, `Ok None` if it is of another
   -- kind, or the error of its value
   pub read : Attribute → Result (Option Value) DecodeError
   -- the type of the fields
   pub Fields : Type 0
-  -- fields d: the fields of the struct `d`
+  -- `fields d`: the fields of the struct `d`
   pub fields : D → Fields
-  -- contents o: what the fields contain if the value is `o`; zeros if there is no value (None)
+  -- `contents o`: what the fields contain if the value is `o`; zeros if there is no value (None)
   pub contents : Option Value → Fields
 
 -- How replies about the sockets of one family are read into the struct `D`.
 pub record Family (D : Type 0) : Type 1 where
   -- the type of the header in the struct
   pub Header : Type 0
-  -- parse_header payload: the header at the start of the payload, or its error
+  -- `parse_header payload`: the header at the start of the payload, or its error
   pub parse_header : List ℕ → Result Header DecodeError
   -- the number of the header's bytes, after which the attributes start
   pub header_size : ℕ
-  -- header d: the header in the struct `d`
+  -- `header d`: the header in the struct `d`
   pub header : D → Header
   -- one row for each field, or for each record with its field `has_..`. An attribute of a kind that
   -- no row reads is not checked.
   pub rows : List (StructRow D)
 
--- value_of parse kind a: what the row for this kind reads from the attribute `a`. If `a` has this
+-- `value_of parse kind a`: what the row for this kind reads from the attribute `a`. If `a` has this
 -- kind, whatever its two flag bits: the value that `parse` returns for its bytes, or the error. If
 -- `a` has another kind: `Ok None`.
 abbrev pub value_of : {A : Type 0} → (List ℕ → Result A DecodeError) → ℕ → Attribute
@@ -53,7 +53,7 @@ abbrev pub value_of : {A : Type 0} → (List ℕ → Result A DecodeError) → �
 value_of parse kind a =
     if attribute_kind a == kind then map_ok Some (parse a.value) else Ok None
 
--- part_of F kind part a: what a row reads from the attribute `a` by `F`, the set of the attribute
+-- `part_of F kind part a`: what a row reads from the attribute `a` by `F`, the set of the attribute
 -- types of the family. If `a` has this kind and the value `v`: `part v`, the part of it that the
 -- row stores. If `a` has another kind: `Ok None`. If `F` rejects `a`, whatever its kind: the error.
 abbrev pub part_of : {A : Type 0} → (F : AttributeSet) → (kind : ℕ) → (ValueOfKind F kind → A)
@@ -64,18 +64,18 @@ part_of F kind part a =
 
 -- ---- the values of attributes
 
--- value_in row a: the value of the attribute `a` for this row; None if `a` has another kind, or is
--- rejected. `option_and_then (λ o. o)` makes one option of the two.
+-- `value_in row a`: the value of the attribute `a` for this row; None if `a` has another kind, or
+-- is rejected. `option_and_then (λ o. o)` makes one option of the two.
 abbrev pub value_in : {D : Type 0} (row : StructRow D) → Attribute → Option row.Value
 value_in row a = option_and_then (λ o. o) (result_ok (row.read a))
 
--- value_error rows a: the error of the attribute `a`: the first error with which a row rejects it.
--- None if no row does.
+-- `value_error rows a`: the error of the attribute `a`: the first error with which a row rejects
+-- it. None if no row does.
 abbrev pub value_error : {D : Type 0} → List (StructRow D) → Attribute → Option DecodeError
 value_error [] a = None
 value_error (row ∷ others) a = option_or (result_err (row.read a)) (value_error others a)
 
--- HasValues rows d attributes: for each row, the struct `d` has the value of the first of these
+-- `HasValues rows d attributes`: for each row, the struct `d` has the value of the first of these
 -- attributes that has one for the row. If none of them has one, the fields of the row are zeros.
 abbrev pub HasValues : {D : Type 0} → List (StructRow D) → D → List Attribute → Type 0
 HasValues [] d attributes = ⊤
@@ -93,7 +93,7 @@ pub record ReplyParts (H : Type 0) : Type 0 where
   -- the framing error of the bytes after the attributes, if any
   pub framing_error : Option DecodeError
 
--- SplitsWithError attributes end bytes: the bytes are these attributes, each with its padding. If
+-- `SplitsWithError attributes end bytes`: the bytes are these attributes, each with its padding. If
 -- `end` is None, nothing follows them (`[]`). If it is `Some e`, bytes follow that do not begin
 -- with an attribute, and `e` is their framing error.
 abbrev pub SplitsWithError : List Attribute → Option DecodeError → List ℕ → Type 0
@@ -101,38 +101,38 @@ SplitsWithError attributes None bytes = SplitsIntoAttributes bytes attributes []
 SplitsWithError attributes (Some e) bytes = SplitsUntilError IsFramingError bytes attributes e
 
 module _ {D : Type 0} (family : Family D) where
-  -- ArePartsOf family payload parts: these are the parts of the reply in the payload: its header;
+  -- `ArePartsOf family payload parts`: these are the parts of the reply in the payload: its header;
   -- and the attributes and the framing error, if any, of the bytes after the header
   abbrev pub ArePartsOf : List ℕ → ReplyParts family.Header → Type 0
   ArePartsOf payload parts =
       (family.parse_header payload ≡ Ok parts.header)
       × SplitsWithError parts.attributes parts.framing_error (drop family.header_size payload)
 
-  -- HasHeaderAndValuesOf family d parts: the struct `d` has the header and the values of these
+  -- `HasHeaderAndValuesOf family d parts`: the struct `d` has the header and the values of these
   -- parts
   abbrev pub HasHeaderAndValuesOf : D → ReplyParts family.Header → Type 0
   HasHeaderAndValuesOf d parts =
       (family.header d ≡ parts.header) × HasValues family.rows d parts.attributes
 
-  -- first_error family parts: the first error after the header, in the order of the bytes: the
+  -- `first_error family parts`: the first error after the header, in the order of the bytes: the
   -- error of the first rejected attribute; if none is rejected, the framing error. None if there is
   -- no error.
   abbrev pub first_error : ReplyParts family.Header → Option DecodeError
   first_error parts = option_or
       (first_content_of (value_error family.rows) parts.attributes) parts.framing_error
 
-  -- AreDetailsOf family payload d: the reply in the payload has no error, and the struct `d` has
+  -- `AreDetailsOf family payload d`: the reply in the payload has no error, and the struct `d` has
   -- its header and values
   abbrev pub AreDetailsOf : List ℕ → D → Type 0
   AreDetailsOf payload d = (parts : ReplyParts family.Header) × ArePartsOf payload parts
       × (first_error parts ≡ None) × HasHeaderAndValuesOf d parts
 
-  -- IsHeaderError family payload e: the header at the start of the payload is rejected with `e`
+  -- `IsHeaderError family payload e`: the header at the start of the payload is rejected with `e`
   abbrev pub IsHeaderError : List ℕ → DecodeError → Type 0
   IsHeaderError payload e = family.parse_header payload ≡ Err e
 
-  -- IsFirstError family payload e: `e` is the first error of the reply in the payload: the error of
-  -- the header; if the header has none, the first error after it
+  -- `IsFirstError family payload e`: `e` is the first error of the reply in the payload: the error
+  -- of the header; if the header has none, the first error after it
   abbrev pub IsFirstError : List ℕ → DecodeError → Type 0
   IsFirstError payload e =
       IsHeaderError payload e
@@ -141,18 +141,18 @@ module _ {D : Type 0} (family : Family D) where
 
   -- ---- lenient
 
-  -- error_of_kind family kind a: the error of the attribute `a`, if `a` has this kind and is
+  -- `error_of_kind family kind a`: the error of the attribute `a`, if `a` has this kind and is
   -- rejected; else None
   abbrev pub error_of_kind : ℕ → Attribute → Option DecodeError
   error_of_kind kind a = if attribute_kind a == kind then value_error family.rows a else None
 
--- optional_code error: the code of the error; 0 if there is none (None). No error has the code 0.
+-- `optional_code error`: the code of the error; 0 if there is none (None). No error has the code 0.
 abbrev pub optional_code : Option DecodeError → ℕ
 optional_code None = 0
 optional_code (Some e) = error_code e
 
 module _ {D : Type 0} (family : Family D) where
-  -- HasRejections family r parts: the struct `r` has the code of the first error, the code of the
+  -- `HasRejections family r parts`: the struct `r` has the code of the first error, the code of the
   -- framing error, and for each kind below REJECTION_KINDS the code of the first error of an
   -- attribute of this kind. Each is 0 if there is no such error. The contract of
   -- `every_rejected_kind_has_a_code` in src/laws.rt states that no other kind has errors.
@@ -163,7 +163,7 @@ module _ {D : Type 0} (family : Family D) where
       × ((kind : ℕ) → kind < REJECTION_KINDS → slice_index r.errors kind
       ≡ optional_code (first_content_of (error_of_kind family kind) parts.attributes))
 
-  -- LenientDetailsAre family payload (d, r): the header of the reply in the payload is accepted.
+  -- `LenientDetailsAre family payload (d, r)`: the header of the reply in the payload is accepted.
   -- The struct `d` has the header and the first valid values, and `r` has the codes of the errors
   -- (`HasRejections`).
   abbrev pub LenientDetailsAre : List ℕ → D × Rejections → Type 0
@@ -171,14 +171,14 @@ module _ {D : Type 0} (family : Family D) where
       (parts : ReplyParts family.Header) × ArePartsOf family payload parts
       × HasHeaderAndValuesOf family d parts × HasRejections r parts
 
--- IsCodeOf rejects code: `code` is the code of an error `e` for which `rejects e` holds
+-- `IsCodeOf rejects code`: `code` is the code of an error `e` for which `rejects e` holds
 abbrev pub IsCodeOf : (DecodeError → Type 0) → ℕ → Type 0
 IsCodeOf rejects code = (e : DecodeError) × rejects e × (code ≡ error_code e)
 
 -- ---- properties of the calls
 
 module _ {D : Type 0} (family : Family D) where
-  -- CallsAgree family: for each payload, let `d` and `r` be the details and the rejections of the
+  -- `CallsAgree family`: for each payload, let `d` and `r` be the details and the rejections of the
   -- lenient call. If `r.first` is 0, `d` are also the details of the strict call. Otherwise
   -- `r.first` is the code of the first error of the reply, which the strict call returns.
   abbrev pub CallsAgree : Type 0
@@ -186,9 +186,9 @@ module _ {D : Type 0} (family : Family D) where
       → (r.first ≡ 0 → AreDetailsOf family payload d)
       × (r.first ≢ 0 → IsCodeOf (IsFirstError family payload) r.first)
 
-  -- AgreesWithCodec family R: each payload for which the strict call returns details parses by the
-  -- codec of `R`, as some value `v`; and each error of the strict call is an error by this codec.
-  -- So the call and the codec accept the same payloads. The codec has no parameter (`tt`).
+  -- `AgreesWithCodec family R`: each payload for which the strict call returns details parses by
+  -- the codec of `R`, as some value `v`; and each error of the strict call is an error by this
+  -- codec. So the call and the codec accept the same payloads. The codec has no parameter (`tt`).
   abbrev pub AgreesWithCodec : ResponseSpec → Type 0
   AgreesWithCodec R =
       ((payload : List ℕ) (d : D) → AreDetailsOf family payload d
@@ -196,8 +196,8 @@ module _ {D : Type 0} (family : Family D) where
       × ((payload : List ℕ) (e : DecodeError) → IsFirstError family payload e
       → (response_codec R).rejects payload tt e)
 
-  -- EveryRejectedKindHasCode family: if an attribute `a` is rejected with an error `e`, its kind is
-  -- below REJECTION_KINDS, so that `errors` of the rejections has an element for it
+  -- `EveryRejectedKindHasCode family`: if an attribute `a` is rejected with an error `e`, its kind
+  -- is below REJECTION_KINDS, so that `errors` of the rejections has an element for it
   abbrev pub EveryRejectedKindHasCode : Type 0
   EveryRejectedKindHasCode = (a : Attribute) (e : DecodeError)
       → value_error family.rows a ≡ Some e → attribute_kind a < REJECTION_KINDS

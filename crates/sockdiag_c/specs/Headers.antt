@@ -72,9 +72,9 @@ inet_check payload = record {
   found = λ v. inet_header_of v.header;
 }
 
--- reply_of old message: `struct sockdiag_reply` after a call that accepts the message; `old` is the
--- struct before the call. It has the kind and the header of the reply; the header of the other kind
--- is unchanged. The last two lines never apply, since a message is never parsed as a request.
+-- `reply_of old message`: `struct sockdiag_reply` after a call that accepts the message; `old` is
+-- the struct before the call. It has the kind and the header of the reply; the header of the other
+-- kind is unchanged. The last two lines never apply, since a message is never parsed as a request.
 abbrev pub reply_of : Reply → Message → Reply
 reply_of old (message_of unix_response v) =
     record old { kind = UNIX; unix_header = unix_header_of v.header }
@@ -83,9 +83,9 @@ reply_of old (message_of inet_response v) =
 reply_of old (message_of unix_request v) = old
 reply_of old (message_of inet_request v) = old
 
--- message_check payload message_type old: the check of the payload of a message of this type, which
--- stores the kind and the header of the reply in the struct `old`. Only replies are accepted, whose
--- type is SOCK_DIAG_BY_FAMILY (20).
+-- `message_check payload message_type old`: the check of the payload of a message of this type,
+-- which stores the kind and the header of the reply in the struct `old`. Only replies are accepted,
+-- whose type is SOCK_DIAG_BY_FAMILY (20).
 abbrev pub message_check : List ℕ → ℕ → Reply → Check Message Reply
 message_check payload message_type old = record {
   parses = message_codec.parses payload message_type;

@@ -19,8 +19,8 @@ use Rattle.sockdiag_c.specs.Details.{number_row, text_row}
 use Rattle.sockdiag_c.specs.Family.{Family, StructRow, part_of}
 use Rattle.sockdiag_c.specs.Headers.{inet_header_of}
 
--- inet_number kind part field: the row that stores a number in this field of the struct: `part` of
--- the value of the first attribute of this kind
+-- `inet_number kind part field`: the row that stores a number in this field of the struct: `part`
+-- of the value of the first attribute of this kind
 abbrev pub inet_number : (kind : ℕ) → (ValueOfKind inet_attribute_set kind → ℕ)
     → (InetDetails → Number) → StructRow InetDetails
 inet_number kind part field = number_row (part_of inet_attribute_set kind part) field

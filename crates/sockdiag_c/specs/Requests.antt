@@ -26,9 +26,9 @@ use Rattle.sockdiag_c.specs.declared.requests.InetRequest.{InetRequest}
 use Rattle.sockdiag_c.specs.declared.requests.RequestHeader.{RequestHeader}
 use Rattle.sockdiag_c.specs.declared.requests.UnixRequest.{UnixRequest}
 
--- request_header_of len message_type header: `struct nlmsghdr` of a message of this type, of `len`
--- bytes including its header of 16 bytes. `nlmsg_flags`, `nlmsg_seq` and `nlmsg_pid` are those of
--- the caller's struct `header`.
+-- `request_header_of len message_type header`: `struct nlmsghdr` of a message of this type, of
+-- `len` bytes including its header of 16 bytes. `nlmsg_flags`, `nlmsg_seq` and `nlmsg_pid` are
+-- those of the caller's struct `header`.
 abbrev pub request_header_of : ℕ → ℕ → RequestHeader → NetlinkHeader
 request_header_of len message_type header = record {
   length = len;
@@ -48,8 +48,8 @@ unix_request_from_c r = record {
   cookie = r.cookie;
 }
 
--- address_of_family family octets: for AF_INET, the IPv4 address of the first four octets; else the
--- IPv6 address of the sixteen octets
+-- `address_of_family family octets`: for AF_INET, the IPv4 address of the first four octets; else
+-- the IPv6 address of the sixteen octets
 abbrev pub address_of_family : ℕ → List ℕ → IpAddr
 address_of_family family octets =
     if family == AF_INET then V4 record {
@@ -110,10 +110,10 @@ inet_message message_type r =
     header_bytes (request_header_of (inet_message_length r.protocol) message_type r.header)
     ++ record_bytes inet_request (inet_request_from_c r) ++ protocol_attribute r.protocol
 
--- WritesMessage len message call: if the buffer of the caller has at least `len` bytes, the message
--- is written at its start, the bytes after it are unchanged, and the return value is `len`. If it
--- is shorter, nothing is written, and the return value is 0. `len` has to be the length of the
--- message; it is a separate argument, so that a contract shows the number itself.
+-- `WritesMessage len message call`: if the buffer of the caller has at least `len` bytes, the
+-- message is written at its start, the bytes after it are unchanged, and the return value is `len`.
+-- If it is shorter, nothing is written, and the return value is 0. `len` has to be the length of
+-- the message; it is a separate argument, so that a contract shows the number itself.
 abbrev pub WritesMessage : ℕ → List ℕ → Call (List ℕ) → Type 0
 WritesMessage len message call =
     (len ≤ length call.old
@@ -160,7 +160,7 @@ abbrev pub IsWritableInetRequest : InetRequest → List ℕ → Type 0
 IsWritableInetRequest r attributes =
     IsInetFamily r.family × (length_with_attributes r attributes ≤ 4294967295)
 
--- HasFramingError bytes e: the bytes are zero or more attributes, followed by bytes that do not
+-- `HasFramingError bytes e`: the bytes are zero or more attributes, followed by bytes that do not
 -- begin with an attribute. `e` is the framing error of these.
 abbrev pub HasFramingError : List ℕ → DecodeError → Type 0
 HasFramingError bytes e =

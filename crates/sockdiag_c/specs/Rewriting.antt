@@ -8,13 +8,13 @@ use Rattle.sockdiag_c.specs.declared.rewriting.Outcome.{Outcome}
 
 -- How bytes of the caller are converted to the bytes that are written, by a value of type `V`.
 pub record Conversion (V : Type 0) : Type 1 where
-  -- parses v: the bytes of the caller have the value `v`
+  -- `parses v`: the bytes of the caller have the value `v`
   pub parses : V → Type 0
-  -- rejects e: `e` is the first error of these bytes
+  -- `rejects e`: `e` is the first error of these bytes
   pub rejects : DecodeError → Type 0
-  -- is_writable v: the value `v` can be serialized
+  -- `is_writable v`: the value `v` can be serialized
   pub is_writable : V → Type 0
-  -- serialized v: the bytes that the value `v` serializes to
+  -- `serialized v`: the bytes that the value `v` serializes to
   pub serialized : V → List ℕ
 
 -- A call that converts bytes of the caller and writes them to a buffer.
@@ -32,12 +32,12 @@ pub record WriteCall : Type 0 where
 abbrev pub outcome_struct : ℕ → ℕ → Outcome
 outcome_struct error needed = record { error = error; needed = needed }
 
--- WritesNothing call: the return value is 0, and the buffer is unchanged
+-- `WritesNothing call`: the return value is 0, and the buffer is unchanged
 abbrev pub WritesNothing : WriteCall → Type 0
 WritesNothing call = (call.returned ≡ 0) × (call.new ≡ call.old)
 
--- WritesValue is_writable bytes call: `is_writable` states that the value is writable, and `bytes`
--- are the bytes that it serializes to. One of three holds:
+-- `WritesValue is_writable bytes call`: `is_writable` states that the value is writable, and
+-- `bytes` are the bytes that it serializes to. One of three holds:
 -- - The value is writable and the buffer is long enough. The bytes are written at its start, the
 --   bytes after them are unchanged, and the return value and `outcome.needed` are their number.
 -- - The value is writable and the buffer is too short. Nothing is written, the return value is 0,
@@ -53,7 +53,7 @@ WritesValue is_writable bytes call =
     × (call.outcome ≡ outcome_struct 0 (length bytes)) × WritesNothing call)
     ⊎ (¬ is_writable × (call.outcome ≡ outcome_struct 0 0) × WritesNothing call))
 
--- ParsesAndWrites conversion call: either the bytes of the caller have a value `v`, which is
+-- `ParsesAndWrites conversion call`: either the bytes of the caller have a value `v`, which is
 -- written if it is writable and the buffer is long enough (`WritesValue`). Or they have a first
 -- error `e`: `outcome.error` is its code, `outcome.needed` is 0, and nothing is written.
 abbrev pub ParsesAndWrites : {V : Type 0} → Conversion V → WriteCall → Type 0
@@ -63,7 +63,7 @@ ParsesAndWrites {V} conversion call =
     ⊎ ((e : DecodeError) × conversion.rejects e
     × (call.outcome ≡ outcome_struct (error_code e) 0) × WritesNothing call)
 
--- reply_conversion R payload: the payload is parsed as a reply by the codec of `R`, and the value
+-- `reply_conversion R payload`: the payload is parsed as a reply by the codec of `R`, and the value
 -- is serialized. The codec has no parameter (`tt`).
 abbrev pub reply_conversion : (R : ResponseSpec) → List ℕ → Conversion (ReplyValue R)
 reply_conversion R payload = record {
@@ -73,10 +73,10 @@ reply_conversion R payload = record {
   serialized = response_bytes R;
 }
 
--- IsCanonicalForm R payload written: `written` is the canonical form of the payload, for replies of
--- `R`. That is a statement about all replies `d` (bytes, each below 256) that parse as a writable
--- value `w`: `w` serializes to `written` if and only if `d` is equivalent to the payload. The codec
--- has no parameter (`tt`).
+-- `IsCanonicalForm R payload written`: `written` is the canonical form of the payload, for replies
+-- of `R`. That is a statement about all replies `d` (bytes, each below 256) that parse as a
+-- writable value `w`: `w` serializes to `written` if and only if `d` is equivalent to the payload.
+-- The codec has no parameter (`tt`).
 abbrev pub IsCanonicalForm : ResponseSpec → List ℕ → List ℕ → Type 0
 IsCanonicalForm R payload written =
     (d : List ℕ) (w : ReplyValue R) → IsBytes d → (response_codec R).parses d tt w

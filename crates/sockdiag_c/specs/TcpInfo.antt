@@ -20,18 +20,18 @@ abbrev pub AreInetReplyAttributes : List ℕ → List Attribute → Type 0
 AreInetReplyAttributes payload attributes =
     AreAttributesIn (drop INET_RESPONSE_HEADER_LEN payload) attributes
 
--- bytes_of_kind kind a: the value of the attribute `a` if it has this kind, whatever its two flag
+-- `bytes_of_kind kind a`: the value of the attribute `a` if it has this kind, whatever its two flag
 -- bits; else None
 abbrev pub bytes_of_kind : ℕ → Attribute → Option (List ℕ)
 bytes_of_kind kind a = if attribute_kind a == kind then Some a.value else None
 
--- first_bytes_of_kind kind attributes: the value of the first attribute of this kind; no bytes
+-- `first_bytes_of_kind kind attributes`: the value of the first attribute of this kind; no bytes
 -- (`[]`) if there is none
 abbrev pub first_bytes_of_kind : ℕ → List Attribute → List ℕ
 first_bytes_of_kind kind attributes =
     unwrap_or (first_content_of (bytes_of_kind kind) attributes) []
 
--- padded_or_truncated n value: exactly n bytes: the first n bytes of the value; or, if the value is
--- shorter, the value followed by zeros
+-- `padded_or_truncated n value`: exactly n bytes: the first n bytes of the value; or, if the value
+-- is shorter, the value followed by zeros
 abbrev pub padded_or_truncated : ℕ → List ℕ → List ℕ
 padded_or_truncated n value = take n value ++ replicate (n - length value) 0

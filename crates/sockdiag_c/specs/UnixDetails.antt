@@ -29,8 +29,8 @@ abbrev pub name_parts : SocketName (List ℕ) → ℕ × List ℕ
 name_parts (Pathname path) = (TEXT, path)
 name_parts (Abstract address) = (ABSTRACT, address)
 
--- unix_number kind part field: the row that stores a number in this field of the struct: `part` of
--- the value of an attribute of this kind
+-- `unix_number kind part field`: the row that stores a number in this field of the struct: `part`
+-- of the value of an attribute of this kind
 abbrev pub unix_number : (kind : ℕ) → (ValueOfKind unix_attribute_set kind → ℕ)
     → (UnixDetails → Number) → StructRow UnixDetails
 unix_number kind part field = number_row (part_of unix_attribute_set kind part) field

@@ -12,7 +12,7 @@ use Rattle.sockdiag_c.specs.declared.walks.AttributeRange.{AttributeRange}
 use Rattle.sockdiag_c.specs.declared.walks.Cursor.{Cursor}
 use Rattle.sockdiag_c.specs.declared.walks.MessageRange.{MessageRange}
 
--- bytes_after_cursor bytes cursor: the bytes from the offset of the cursor on; none if the offset
+-- `bytes_after_cursor bytes cursor`: the bytes from the offset of the cursor on; none if the offset
 -- is at or after the end
 abbrev pub bytes_after_cursor : List ℕ → Cursor → List ℕ
 bytes_after_cursor bytes cursor = drop cursor.offset bytes
@@ -30,22 +30,22 @@ pub record IterationStep (T : Type 0) : Type 0 where
   -- the return value
   pub returned : ℕ
 
--- bytes_before_step step: the bytes that are left before the step, from the old cursor on
+-- `bytes_before_step step`: the bytes that are left before the step, from the old cursor on
 abbrev pub bytes_before_step : {T : Type 0} → IterationStep T → List ℕ
 bytes_before_step step = bytes_after_cursor step.bytes step.old_cursor
 
--- bytes_after_step step: the bytes that are left after the step, from the new cursor on
+-- `bytes_after_step step`: the bytes that are left after the step, from the new cursor on
 abbrev pub bytes_after_step : {T : Type 0} → IterationStep T → List ℕ
 bytes_after_step step = bytes_after_cursor step.bytes step.new_cursor
 
--- IterationEnds step: no bytes are left. The return value is 0, and neither the cursor nor the
+-- `IterationEnds step`: no bytes are left. The return value is 0, and neither the cursor nor the
 -- output struct is changed.
 abbrev pub IterationEnds : {T : Type 0} → IterationStep T → Type 0
 IterationEnds step =
     (step.returned ≡ 0) × (bytes_before_step step ≡ []) × (step.new_cursor ≡ step.old_cursor)
     × (step.new_item ≡ step.old_item)
 
--- IterationFails IsDecodeError step: bytes are left that do not begin with an item:
+-- `IterationFails IsDecodeError step`: bytes are left that do not begin with an item:
 -- `IsDecodeError bytes e` states that these bytes have the error `e`. The return value is its code,
 -- the output struct is unchanged, and no bytes are left after the step.
 abbrev pub IterationFails : {T : Type 0} → (List ℕ → DecodeError → Type 0) → IterationStep T
@@ -57,13 +57,13 @@ IterationFails IsDecodeError step =
 
 -- ---- attributes
 
--- attribute_in bytes range: the attribute that the output struct `range` describes: its type field,
--- and its value, the `range.length` bytes at `range.offset`
+-- `attribute_in bytes range`: the attribute that the output struct `range` describes: its type
+-- field, and its value, the `range.length` bytes at `range.offset`
 abbrev pub attribute_in : List ℕ → AttributeRange → Attribute
 attribute_in bytes range =
     record { type_word = range.type_word; value = take range.length (drop range.offset bytes) }
 
--- StepsOverAttribute step: one of:
+-- `StepsOverAttribute step`: one of:
 -- - No bytes are left, and the return value is 0 (`IterationEnds`).
 -- - The bytes left begin with an attribute. The output struct describes it: its value starts 4
 --   bytes after the cursor. The cursor is advanced past the attribute and its padding, and the
@@ -81,8 +81,8 @@ StepsOverAttribute step =
 
 -- ---- messages
 
--- header_in range: the netlink header of the message that the output struct `range` describes. Its
--- length field counts the payload and the 16 bytes of the header.
+-- `header_in range`: the netlink header of the message that the output struct `range` describes.
+-- Its length field counts the payload and the 16 bytes of the header.
 abbrev pub header_in : MessageRange → NetlinkHeader
 header_in range = record {
   length = 16 + range.length;
@@ -92,12 +92,12 @@ header_in range = record {
   port_number = range.port_number;
 }
 
--- payload_in bytes range: the payload of the message that the output struct `range` describes: the
--- `range.length` bytes at `range.offset`
+-- `payload_in bytes range`: the payload of the message that the output struct `range` describes:
+-- the `range.length` bytes at `range.offset`
 abbrev pub payload_in : List ℕ → MessageRange → List ℕ
 payload_in bytes range = take range.length (drop range.offset bytes)
 
--- IsPayloadCheckResult payload message_type returned: one of:
+-- `IsPayloadCheckResult payload message_type returned`: one of:
 -- - The payload parses under the message type, and the return value is 1. Under the types
 --   NLMSG_NOOP, NLMSG_ERROR, NLMSG_DONE and NLMSG_OVERRUN (1 to 4) any payload parses.
 -- - The type is another one, that of an inner message. The payload is rejected, and the return
@@ -110,9 +110,9 @@ IsPayloadCheckResult payload message_type returned =
     × message_codec.rejects payload message_type e
     × (returned ≡ error_code e))
 
--- StoresMessage step: the bytes at the cursor begin with a message. The output struct describes it:
--- its header, and its payload, which starts 16 bytes after the cursor. The cursor is advanced past
--- the message and its padding.
+-- `StoresMessage step`: the bytes at the cursor begin with a message. The output struct describes
+-- it: its header, and its payload, which starts 16 bytes after the cursor. The cursor is advanced
+-- past the message and its padding.
 abbrev pub StoresMessage : IterationStep MessageRange → Type 0
 StoresMessage step =
     (message : List ℕ)
@@ -120,7 +120,7 @@ StoresMessage step =
     × HasHeader (bytes_before_step step) (header_in step.new_item)
     × (step.new_item.offset ≡ step.old_cursor.offset + 16)
 
--- StoresCheckedMessage step: StoresMessage holds, and the return value is the result of the check
+-- `StoresCheckedMessage step`: StoresMessage holds, and the return value is the result of the check
 -- of the payload: 1 if it is accepted, else the code of its first error. The message is stored in
 -- both cases.
 abbrev pub StoresCheckedMessage : IterationStep MessageRange → Type 0
@@ -129,7 +129,7 @@ StoresCheckedMessage step =
     × IsPayloadCheckResult (payload_in step.bytes step.new_item) step.new_item.message_type
     step.returned
 
--- StepsOverMessage step: one of:
+-- `StepsOverMessage step`: one of:
 -- - No bytes are left, and the return value is 0 (`IterationEnds`).
 -- - A message is stored, and the return value is 1, or the code of the first error of its payload
 --   (`StoresCheckedMessage`).
@@ -139,7 +139,7 @@ abbrev pub StepsOverMessage : IterationStep MessageRange → Type 0
 StepsOverMessage step =
     IterationEnds step ⊎ (StoresCheckedMessage step ⊎ IterationFails IsMessageError step)
 
--- StepsOverUncheckedMessage step: one of:
+-- `StepsOverUncheckedMessage step`: one of:
 -- - No bytes are left, and the return value is 0 (`IterationEnds`).
 -- - A message is stored, and the return value is 1, whatever its payload (`StoresMessage`).
 -- - The bytes left do not begin with a message, and the return value is the code of the framing

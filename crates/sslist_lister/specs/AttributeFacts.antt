@@ -123,11 +123,11 @@ queue_facts receive send =
 abbrev pub shutdown_facts : ℕ → Facts
 shutdown_facts n = number_facts Directions [] (Some (codes "shutdown")) n
 
--- `newer_unix_outcome a`: what an attribute of a UNIX socket says that the port leaves undecoded:
--- the user id of the owner, of four bytes, if its type is UNIX_DIAG_UID; or else nothing. Only JSON
--- has the user id here (Never), since the table has a column for it.
-abbrev pub newer_unix_outcome : Attribute → Outcome
-newer_unix_outcome a =
+-- `raw_unix_outcome a`: what a raw attribute of a UNIX socket says, which the port leaves
+-- undecoded: the user id of the owner, of four bytes, if its type is UNIX_DIAG_UID; or else
+-- nothing. Only JSON has the user id here (Never), since the table has a column for it.
+abbrev pub raw_unix_outcome : Attribute → Outcome
+raw_unix_outcome a =
     if attribute_kind a == UNIX_DIAG_UID
     then number_outcome 4 (number_facts Never [] (Some (codes "uid"))) a else Ok None
 
@@ -147,7 +147,7 @@ decoded_unix_outcome a (unix_nla.ReceiveQueueLength receive send) =
     Ok (Some (queue_facts receive send))
 decoded_unix_outcome a (unix_nla.MemInfo m) = memory_outcome (codes "meminfo") a
 decoded_unix_outcome a (unix_nla.Shutdown n) = Ok (Some (shutdown_facts n))
-decoded_unix_outcome a (unix_nla.Other other) = newer_unix_outcome a
+decoded_unix_outcome a (unix_nla.Other other) = raw_unix_outcome a
 
 -- what an attribute of a UNIX socket says: `decoded_unix_outcome` of its decoded value, or the
 -- decode error
@@ -206,10 +206,10 @@ bbr_facts v =
     shown_number (codes ",pacing_gain:") (codes "pacing_gain") v.pacing_gain ∷
     shown_number (codes ",cwnd_gain:") (codes "cwnd_gain") v.window_gain ∷ []))
 
--- `newer_inet_outcome a`: what an attribute of an IPv4 or IPv6 socket says that the port leaves
+-- `raw_inet_outcome a`: what a raw attribute of an IPv4 or IPv6 socket says, which the port leaves
 -- undecoded; nothing if its type is unknown here too. INET_DIAG_CGROUP_ID has eight bytes.
-abbrev pub newer_inet_outcome : Attribute → Outcome
-newer_inet_outcome a =
+abbrev pub raw_inet_outcome : Attribute → Outcome
+raw_inet_outcome a =
     if attribute_kind a == INET_DIAG_CGROUP_ID
     then number_outcome 8 (number_facts Always (codes " cgroup:") (Some (codes "cgroup_id"))) a
     else if attribute_kind a == INET_DIAG_SOCKOPT
@@ -245,7 +245,7 @@ decoded_inet_outcome utf8 a (inet_nla.Mark n) =
     Ok (Some (number_facts Hex (codes " fwmark:0x") (Some (codes "mark")) n))
 decoded_inet_outcome utf8 a (inet_nla.ClassId n) =
     Ok (Some (number_facts Hex (codes " class_id:0x") (Some (codes "class_id")) n))
-decoded_inet_outcome utf8 a (inet_nla.Other other) = newer_inet_outcome a
+decoded_inet_outcome utf8 a (inet_nla.Other other) = raw_inet_outcome a
 
 -- `port_inet_outcome utf8 a`: what an attribute of an IPv4 or IPv6 socket says, as the port decodes
 -- it: `decoded_inet_outcome` of its decoded value, or the decode error

@@ -60,8 +60,8 @@ unknown_attribute_text a = pair_detail (codes "unknown") (attribute_kind a) (len
 
 -- ---- attributes
 
--- `status_text a status`: the text of an unknown or invalid attribute, by its status (`status_of`);
--- nothing for a valid one, of which the facts are shown
+-- `status_text a status`: the text of an unknown or invalid attribute, by its status (`status_of`
+-- of `Facts`); nothing for a valid one, of which the facts are shown
 abbrev pub status_text : Attribute → Result Bool DecodeError → List ℕ
 status_text a (Ok true) = []
 status_text a (Ok false) = unknown_attribute_text a

@@ -28,7 +28,7 @@ use Rattle.sslist_lister.specs.declared.facts.Shown.TheVariants.{Letters, Mode, 
 use Rattle.sslist_lister.specs.declared.facts.Shown.TheVariants.{NonzeroHex}
 use Rattle.sslist_lister.specs.declared.facts.Shown.TheVariants.{Threshold, Version}
 
--- Facts: their text in the table, and their members in JSON. A definition says once which facts a
+-- `Facts`: their text in the table, and their members in JSON. A definition says once which facts a
 -- reply has, so the table and JSON show the same ones, in the same order.
 pub record Facts : Type 0 where
   pub text : List ℕ

@@ -49,13 +49,13 @@ offset_of f = (tcp_span_of f).0
 abbrev pub row_of : ℕ × ℕ → Shown → List ℕ → Option (List ℕ) → FieldRow
 row_of (offset, width) format text member =
     let part = if width == 1 then Byte else if width == 2 then Two
-        else if width == 4 then Four else Eight in
+    else if width == 4 then Four else Eight in
     (offset, part, format, text, member)
 
--- `shown f text member`: the row of the field `f`, which the table shows after `text` if it is
+-- `nonzero f text member`: the row of the field `f`, which the table shows after `text` if it is
 -- neither 0 nor unlimited (Nonzero), and JSON has under `member`
-abbrev pub shown : TcpField → List ℕ → List ℕ → FieldRow
-shown f text member = row_of (tcp_span_of f) Nonzero text (Some member)
+abbrev pub nonzero : TcpField → List ℕ → List ℕ → FieldRow
+nonzero f text member = row_of (tcp_span_of f) Nonzero text (Some member)
 
 -- `part_row f part format text member`: the row of some bits (`part`) of the field `f`
 abbrev pub part_row : TcpField → FieldPart → Shown → List ℕ → Option (List ℕ) → FieldRow
@@ -85,7 +85,7 @@ tcp_state_rows =
     hidden field.CaState (codes "ca_state") ∷
     hidden field.Retransmits (codes "retransmits") ∷
     hidden field.Probes (codes "probes") ∷
-    shown field.Backoff (codes " backoff:") (codes "backoff") ∷
+    nonzero field.Backoff (codes " backoff:") (codes "backoff") ∷
     hidden field.Options (codes "options") ∷
     option_row TCPI_OPT_TIMESTAMPS (codes " ts") ∷
     option_row TCPI_OPT_SACK (codes " sack") ∷
@@ -102,76 +102,77 @@ tcp_state_rows =
 -- the rows of the times and metrics, from `tcpi_rto` to `tcpi_total_retrans`
 unfoldable pub tcp_metric_rows : List FieldRow
 tcp_metric_rows =
-    shown field.Rto (codes " rto:") (codes "rto") ∷
-    shown field.Ato (codes " ato:") (codes "ato") ∷
-    shown field.SndMss (codes " mss:") (codes "snd_mss") ∷
-    shown field.RcvMss (codes " rcvmss:") (codes "rcv_mss") ∷
-    shown field.Unacked (codes " unacked:") (codes "unacked") ∷
-    shown field.Sacked (codes " sacked:") (codes "sacked") ∷
-    shown field.Lost (codes " lost:") (codes "lost") ∷
-    shown field.Retrans (codes " retrans_now:") (codes "retrans") ∷
+    nonzero field.Rto (codes " rto:") (codes "rto") ∷
+    nonzero field.Ato (codes " ato:") (codes "ato") ∷
+    nonzero field.SndMss (codes " mss:") (codes "snd_mss") ∷
+    nonzero field.RcvMss (codes " rcvmss:") (codes "rcv_mss") ∷
+    nonzero field.Unacked (codes " unacked:") (codes "unacked") ∷
+    nonzero field.Sacked (codes " sacked:") (codes "sacked") ∷
+    nonzero field.Lost (codes " lost:") (codes "lost") ∷
+    nonzero field.Retrans (codes " retrans_now:") (codes "retrans") ∷
     hidden field.Fackets (codes "fackets") ∷
-    shown field.LastDataSent (codes " lastsnd:") (codes "last_data_sent") ∷
+    nonzero field.LastDataSent (codes " lastsnd:") (codes "last_data_sent") ∷
     hidden field.LastAckSent (codes "last_ack_sent") ∷
-    shown field.LastDataRecv (codes " lastrcv:") (codes "last_data_recv") ∷
-    shown field.LastAckRecv (codes " lastack:") (codes "last_ack_recv") ∷
-    shown field.Pmtu (codes " pmtu:") (codes "pmtu") ∷
-    shown field.RcvSsthresh (codes " rcv_ssthresh:") (codes "rcv_ssthresh") ∷
-    shown field.Rtt (codes " rtt:") (codes "rtt") ∷
-    shown field.Rttvar (codes " rttvar:") (codes "rttvar") ∷
+    nonzero field.LastDataRecv (codes " lastrcv:") (codes "last_data_recv") ∷
+    nonzero field.LastAckRecv (codes " lastack:") (codes "last_ack_recv") ∷
+    nonzero field.Pmtu (codes " pmtu:") (codes "pmtu") ∷
+    nonzero field.RcvSsthresh (codes " rcv_ssthresh:") (codes "rcv_ssthresh") ∷
+    nonzero field.Rtt (codes " rtt:") (codes "rtt") ∷
+    nonzero field.Rttvar (codes " rttvar:") (codes "rttvar") ∷
     part_row field.SndSsthresh Four Threshold (codes " ssthresh:") (Some (codes "snd_ssthresh")) ∷
-    shown field.SndCwnd (codes " cwnd:") (codes "snd_cwnd") ∷
-    shown field.Advmss (codes " advmss:") (codes "advmss") ∷
-    shown field.Reordering (codes " reordering:") (codes "reordering") ∷
-    shown field.RcvRtt (codes " rcv_rtt:") (codes "rcv_rtt") ∷
-    shown field.RcvSpace (codes " rcv_space:") (codes "rcv_space") ∷
-    shown field.TotalRetrans (codes " retrans:") (codes "total_retrans") ∷ []
+    nonzero field.SndCwnd (codes " cwnd:") (codes "snd_cwnd") ∷
+    nonzero field.Advmss (codes " advmss:") (codes "advmss") ∷
+    nonzero field.Reordering (codes " reordering:") (codes "reordering") ∷
+    nonzero field.RcvRtt (codes " rcv_rtt:") (codes "rcv_rtt") ∷
+    nonzero field.RcvSpace (codes " rcv_space:") (codes "rcv_space") ∷
+    nonzero field.TotalRetrans (codes " retrans:") (codes "total_retrans") ∷ []
 
 -- the rows of the rates and counters, from `tcpi_pacing_rate` on
 unfoldable pub tcp_rate_rows : List FieldRow
 tcp_rate_rows =
-    shown field.PacingRate (codes " pacing_rate:") (codes "pacing_rate") ∷
-    shown field.MaxPacingRate (codes " max_pacing_rate:") (codes "max_pacing_rate") ∷
-    shown field.BytesAcked (codes " bytes_acked:") (codes "bytes_acked") ∷
-    shown field.BytesReceived (codes " received:") (codes "bytes_received") ∷
-    shown field.SegsOut (codes " segs_out:") (codes "segs_out") ∷
-    shown field.SegsIn (codes " segs_in:") (codes "segs_in") ∷
-    shown field.NotsentBytes (codes " notsent:") (codes "notsent_bytes") ∷
-    shown field.MinRtt (codes " minrtt:") (codes "min_rtt") ∷
-    shown field.DataSegsIn (codes " data_segs_in:") (codes "data_segs_in") ∷
-    shown field.DataSegsOut (codes " data_segs_out:") (codes "data_segs_out") ∷
-    shown field.DeliveryRate (codes " delivery_rate:") (codes "delivery_rate") ∷
-    shown field.BusyTime (codes " busy:") (codes "busy_time") ∷
-    shown field.RwndLimited (codes " rwnd_limited:") (codes "rwnd_limited") ∷
-    shown field.SndbufLimited (codes " sndbuf_limited:") (codes "sndbuf_limited") ∷
-    shown field.Delivered (codes " delivered:") (codes "delivered") ∷
-    shown field.DeliveredCe (codes " delivered_ce:") (codes "delivered_ce") ∷
-    shown field.BytesSent (codes " sent:") (codes "bytes_sent") ∷
-    shown field.BytesRetrans (codes " bytes_retrans:") (codes "bytes_retrans") ∷
-    shown field.DsackDups (codes " dsack_dups:") (codes "dsack_dups") ∷
-    shown field.ReordSeen (codes " reord_seen:") (codes "reord_seen") ∷
-    shown field.RcvOoopack (codes " rcv_ooopack:") (codes "rcv_ooopack") ∷
-    shown field.SndWnd (codes " snd_wnd:") (codes "snd_wnd") ∷
-    shown field.RcvWnd (codes " rcv_wnd:") (codes "rcv_wnd") ∷
-    shown field.Rehash (codes " rehash:") (codes "rehash") ∷
-    shown field.TotalRto (codes " total_rto:") (codes "total_rto") ∷
-    shown field.TotalRtoRecoveries (codes " total_rto_recoveries:") (codes "total_rto_recoveries") ∷
-    shown field.TotalRtoTime (codes " total_rto_time:") (codes "total_rto_time") ∷
-    shown field.ReceivedCe (codes " received_ce:") (codes "received_ce") ∷
-    shown field.DeliveredE1Bytes (codes " delivered_e1_bytes:") (codes "delivered_e1_bytes") ∷
-    shown field.DeliveredE0Bytes (codes " delivered_e0_bytes:") (codes "delivered_e0_bytes") ∷
-    shown field.DeliveredCeBytes (codes " delivered_ce_bytes:") (codes "delivered_ce_bytes") ∷
-    shown field.ReceivedE1Bytes (codes " received_e1_bytes:") (codes "received_e1_bytes") ∷
-    shown field.ReceivedE0Bytes (codes " received_e0_bytes:") (codes "received_e0_bytes") ∷
-    shown field.ReceivedCeBytes (codes " received_ce_bytes:") (codes "received_ce_bytes") ∷
-    shown field.AccecnFailMode (codes " accecn_fail_mode:") (codes "accecn_fail_mode") ∷
-    shown field.AccecnOptSeen (codes " accecn_opt_seen:") (codes "accecn_opt_seen") ∷
+    nonzero field.PacingRate (codes " pacing_rate:") (codes "pacing_rate") ∷
+    nonzero field.MaxPacingRate (codes " max_pacing_rate:") (codes "max_pacing_rate") ∷
+    nonzero field.BytesAcked (codes " bytes_acked:") (codes "bytes_acked") ∷
+    nonzero field.BytesReceived (codes " received:") (codes "bytes_received") ∷
+    nonzero field.SegsOut (codes " segs_out:") (codes "segs_out") ∷
+    nonzero field.SegsIn (codes " segs_in:") (codes "segs_in") ∷
+    nonzero field.NotsentBytes (codes " notsent:") (codes "notsent_bytes") ∷
+    nonzero field.MinRtt (codes " minrtt:") (codes "min_rtt") ∷
+    nonzero field.DataSegsIn (codes " data_segs_in:") (codes "data_segs_in") ∷
+    nonzero field.DataSegsOut (codes " data_segs_out:") (codes "data_segs_out") ∷
+    nonzero field.DeliveryRate (codes " delivery_rate:") (codes "delivery_rate") ∷
+    nonzero field.BusyTime (codes " busy:") (codes "busy_time") ∷
+    nonzero field.RwndLimited (codes " rwnd_limited:") (codes "rwnd_limited") ∷
+    nonzero field.SndbufLimited (codes " sndbuf_limited:") (codes "sndbuf_limited") ∷
+    nonzero field.Delivered (codes " delivered:") (codes "delivered") ∷
+    nonzero field.DeliveredCe (codes " delivered_ce:") (codes "delivered_ce") ∷
+    nonzero field.BytesSent (codes " sent:") (codes "bytes_sent") ∷
+    nonzero field.BytesRetrans (codes " bytes_retrans:") (codes "bytes_retrans") ∷
+    nonzero field.DsackDups (codes " dsack_dups:") (codes "dsack_dups") ∷
+    nonzero field.ReordSeen (codes " reord_seen:") (codes "reord_seen") ∷
+    nonzero field.RcvOoopack (codes " rcv_ooopack:") (codes "rcv_ooopack") ∷
+    nonzero field.SndWnd (codes " snd_wnd:") (codes "snd_wnd") ∷
+    nonzero field.RcvWnd (codes " rcv_wnd:") (codes "rcv_wnd") ∷
+    nonzero field.Rehash (codes " rehash:") (codes "rehash") ∷
+    nonzero field.TotalRto (codes " total_rto:") (codes "total_rto") ∷
+    nonzero field.TotalRtoRecoveries (codes " total_rto_recoveries:")
+    (codes "total_rto_recoveries") ∷
+    nonzero field.TotalRtoTime (codes " total_rto_time:") (codes "total_rto_time") ∷
+    nonzero field.ReceivedCe (codes " received_ce:") (codes "received_ce") ∷
+    nonzero field.DeliveredE1Bytes (codes " delivered_e1_bytes:") (codes "delivered_e1_bytes") ∷
+    nonzero field.DeliveredE0Bytes (codes " delivered_e0_bytes:") (codes "delivered_e0_bytes") ∷
+    nonzero field.DeliveredCeBytes (codes " delivered_ce_bytes:") (codes "delivered_ce_bytes") ∷
+    nonzero field.ReceivedE1Bytes (codes " received_e1_bytes:") (codes "received_e1_bytes") ∷
+    nonzero field.ReceivedE0Bytes (codes " received_e0_bytes:") (codes "received_e0_bytes") ∷
+    nonzero field.ReceivedCeBytes (codes " received_ce_bytes:") (codes "received_ce_bytes") ∷
+    nonzero field.AccecnFailMode (codes " accecn_fail_mode:") (codes "accecn_fail_mode") ∷
+    nonzero field.AccecnOptSeen (codes " accecn_opt_seen:") (codes "accecn_opt_seen") ∷
     []
 
--- `mptcp_shown f text member`: the row of the field `f` of `struct mptcp_info`, which the table
+-- `mptcp_nonzero f text member`: the row of the field `f` of `struct mptcp_info`, which the table
 -- shows after `text` if it is neither 0 nor unlimited (Nonzero), and JSON has under `member`
-abbrev pub mptcp_shown : MptcpField → List ℕ → List ℕ → FieldRow
-mptcp_shown f text member = row_of (mptcp_span_of f) Nonzero text (Some member)
+abbrev pub mptcp_nonzero : MptcpField → List ℕ → List ℕ → FieldRow
+mptcp_nonzero f text member = row_of (mptcp_span_of f) Nonzero text (Some member)
 
 -- `mptcp_hex f text member`: the row of the field `f` of `struct mptcp_info`, which the table shows
 -- after `text` in hexadecimal digits if it is not 0, and JSON has under `member`
@@ -186,13 +187,13 @@ mptcp_flag bit text = row_of (mptcp_span_of mptcp.Flags) (Bits bit) text None
 -- the rows of `struct mptcp_info`, in the order of the members
 unfoldable pub mptcp_rows : List FieldRow
 mptcp_rows =
-    mptcp_shown mptcp.Subflows (codes " subflows:") (codes "subflows") ∷
-    mptcp_shown mptcp.AddAddrSignal (codes " add_addr_signal:") (codes "add_addr_signal") ∷
-    mptcp_shown mptcp.AddAddrAccepted (codes " add_addr_accepted:") (codes "add_addr_accepted") ∷
-    mptcp_shown mptcp.SubflowsMax (codes " subflows_max:") (codes "subflows_max") ∷
-    mptcp_shown mptcp.AddAddrSignalMax (codes " add_addr_signal_max:")
+    mptcp_nonzero mptcp.Subflows (codes " subflows:") (codes "subflows") ∷
+    mptcp_nonzero mptcp.AddAddrSignal (codes " add_addr_signal:") (codes "add_addr_signal") ∷
+    mptcp_nonzero mptcp.AddAddrAccepted (codes " add_addr_accepted:") (codes "add_addr_accepted") ∷
+    mptcp_nonzero mptcp.SubflowsMax (codes " subflows_max:") (codes "subflows_max") ∷
+    mptcp_nonzero mptcp.AddAddrSignalMax (codes " add_addr_signal_max:")
     (codes "add_addr_signal_max") ∷
-    mptcp_shown mptcp.AddAddrAcceptedMax (codes " add_addr_accepted_max:")
+    mptcp_nonzero mptcp.AddAddrAcceptedMax (codes " add_addr_accepted_max:")
     (codes "add_addr_accepted_max") ∷
     row_of (mptcp_span_of mptcp.Flags) Never [] (Some (codes "flags")) ∷
     mptcp_flag MPTCP_INFO_FLAG_FALLBACK (codes " fallback") ∷
@@ -201,19 +202,19 @@ mptcp_rows =
     mptcp_hex mptcp.WriteSeq (codes " write_seq:") (codes "write_seq") ∷
     mptcp_hex mptcp.SndUna (codes " snd_una:") (codes "snd_una") ∷
     mptcp_hex mptcp.RcvNxt (codes " rcv_nxt:") (codes "rcv_nxt") ∷
-    mptcp_shown mptcp.LocalAddrUsed (codes " local_addr_used:") (codes "local_addr_used") ∷
-    mptcp_shown mptcp.LocalAddrMax (codes " local_addr_max:") (codes "local_addr_max") ∷
-    mptcp_shown mptcp.CsumEnabled (codes " csum_enabled:") (codes "csum_enabled") ∷
-    mptcp_shown mptcp.Retransmits (codes " retransmits:") (codes "retransmits") ∷
-    mptcp_shown mptcp.BytesRetrans (codes " bytes_retrans:") (codes "bytes_retrans") ∷
-    mptcp_shown mptcp.BytesSent (codes " bytes_sent:") (codes "bytes_sent") ∷
-    mptcp_shown mptcp.BytesReceived (codes " bytes_received:") (codes "bytes_received") ∷
-    mptcp_shown mptcp.BytesAcked (codes " bytes_acked:") (codes "bytes_acked") ∷
-    mptcp_shown mptcp.SubflowsTotal (codes " subflows_total:") (codes "subflows_total") ∷
-    mptcp_shown mptcp.EndpLaminarMax (codes " endp_laminar_max:") (codes "endp_laminar_max") ∷
-    mptcp_shown mptcp.LastDataSent (codes " last_data_sent:") (codes "last_data_sent") ∷
-    mptcp_shown mptcp.LastDataRecv (codes " last_data_recv:") (codes "last_data_recv") ∷
-    mptcp_shown mptcp.LastAckRecv (codes " last_ack_recv:") (codes "last_ack_recv") ∷ []
+    mptcp_nonzero mptcp.LocalAddrUsed (codes " local_addr_used:") (codes "local_addr_used") ∷
+    mptcp_nonzero mptcp.LocalAddrMax (codes " local_addr_max:") (codes "local_addr_max") ∷
+    mptcp_nonzero mptcp.CsumEnabled (codes " csum_enabled:") (codes "csum_enabled") ∷
+    mptcp_nonzero mptcp.Retransmits (codes " retransmits:") (codes "retransmits") ∷
+    mptcp_nonzero mptcp.BytesRetrans (codes " bytes_retrans:") (codes "bytes_retrans") ∷
+    mptcp_nonzero mptcp.BytesSent (codes " bytes_sent:") (codes "bytes_sent") ∷
+    mptcp_nonzero mptcp.BytesReceived (codes " bytes_received:") (codes "bytes_received") ∷
+    mptcp_nonzero mptcp.BytesAcked (codes " bytes_acked:") (codes "bytes_acked") ∷
+    mptcp_nonzero mptcp.SubflowsTotal (codes " subflows_total:") (codes "subflows_total") ∷
+    mptcp_nonzero mptcp.EndpLaminarMax (codes " endp_laminar_max:") (codes "endp_laminar_max") ∷
+    mptcp_nonzero mptcp.LastDataSent (codes " last_data_sent:") (codes "last_data_sent") ∷
+    mptcp_nonzero mptcp.LastDataRecv (codes " last_data_recv:") (codes "last_data_recv") ∷
+    mptcp_nonzero mptcp.LastAckRecv (codes " last_ack_recv:") (codes "last_ack_recv") ∷ []
 
 -- `part_bits part n`: the bits of the byte `n` that a row is about: bits 0 to 3, bits 4 to 7, bit
 -- 0, or bits 1 and 2; or else the whole byte

@@ -28,8 +28,8 @@ ghost use Rattle.sslist_lister.specs.AttributeFacts.{decoded_inet_outcome, decod
 ghost use Rattle.sslist_lister.specs.AttributeFacts.{groups_outcome, inet_attribute_outcome};
 ghost use Rattle.sslist_lister.specs.AttributeFacts.{legacy_memory_facts, memory_facts};
 ghost use Rattle.sslist_lister.specs.AttributeFacts.{memory_group, memory_kind};
-ghost use Rattle.sslist_lister.specs.AttributeFacts.{memory_outcome, newer_inet_outcome};
-ghost use Rattle.sslist_lister.specs.AttributeFacts.{newer_unix_outcome, option_facts};
+ghost use Rattle.sslist_lister.specs.AttributeFacts.{memory_outcome, raw_inet_outcome};
+ghost use Rattle.sslist_lister.specs.AttributeFacts.{raw_unix_outcome, option_facts};
 ghost use Rattle.sslist_lister.specs.AttributeFacts.{option_bits, packet_facts};
 ghost use Rattle.sslist_lister.specs.AttributeFacts.{port_inet_outcome, queue_facts};
 ghost use Rattle.sslist_lister.specs.AttributeFacts.{uid_outcome, unix_attribute_outcome};
@@ -169,7 +169,7 @@ fn show_unix_view<S: FactSink>(
 {
     match view {
         UnixView::MemInfo(_) => show_memory_value(sink, "meminfo", nla),
-        UnixView::Other(_) => show_newer_unix(sink, nla),
+        UnixView::Other(_) => show_raw_unix(sink, nla),
         UnixView::Name(name) => shown_status(sink.socket_name(alloc, *name)),
         UnixView::Vfs(file) => shown_status(show_vfs(sink, file.inode(), file.device())),
         UnixView::Peer(inode) => {
@@ -224,12 +224,13 @@ fn show_queues<S: FactSink>(sink: &mut S, first: u32, second: u32) -> Result<(),
     show_json_group(sink, "rqlen", &rows)
 }
 
-/// Shows the facts of an attribute of a UNIX socket that the port leaves undecoded, if it has any,
-/// and returns its status. Only JSON has the user id here, since the table has a column for it.
-fn show_newer_unix<S: FactSink>(sink: &mut S, nla: &NlaBuffer<'_>) -> Result<Status, AllocError>
-    // `newer_unix_outcome attribute`: the user id, or an error; nothing for any other kind.
+/// Shows the facts of a raw attribute of a UNIX socket, which the port leaves undecoded, if it has
+/// any, and returns its status. Only JSON has the user id here, since the table has a column for
+/// it.
+fn show_raw_unix<S: FactSink>(sink: &mut S, nla: &NlaBuffer<'_>) -> Result<Status, AllocError>
+    // `raw_unix_outcome attribute`: the user id, or an error; nothing for any other kind.
     ensures { IfOk result (AddsOutcome (S.content sink.old) (S.content sink.new)
-        (newer_unix_outcome (buffered_attribute nla.now))) }
+        (raw_unix_outcome (buffered_attribute nla.now))) }
 {
     if nla.kind() != UNIX_DIAG_UID {
         return Ok(Ok(false));
@@ -334,7 +335,7 @@ fn show_inet_view<S: FactSink>(
         (inet_view_model view.now)))) }
 {
     match view {
-        InetView::Other(_) => show_newer_inet(sink, alloc, nla),
+        InetView::Other(_) => show_raw_inet(sink, alloc, nla),
         InetView::LegacyMemInfo(memory) => shown_status(show_legacy_memory(sink, memory)),
         InetView::TcpInfo(_) => shown_status(show_tcp_info(sink, nla.value())),
         InetView::Congestion(name) => shown_status(sink.name(utf8, b" cong:", "cong", name)),
@@ -387,17 +388,17 @@ fn show_legacy_memory<S: FactSink>(sink: &mut S, memory: &LegacyMemInfo) -> Resu
     show_group(sink, b" mem:(", b")", "meminfo", &rows)
 }
 
-/// Shows the facts of an attribute of an IPv4 or IPv6 socket that the port leaves undecoded, if it
-/// has any, and returns its status.
-fn show_newer_inet<S: FactSink>(
+/// Shows the facts of a raw attribute of an IPv4 or IPv6 socket, which the port leaves undecoded,
+/// if it has any, and returns its status.
+fn show_raw_inet<S: FactSink>(
     sink: &mut S,
     alloc: Global,
     nla: &NlaBuffer<'_>,
 ) -> Result<Status, AllocError>
-    // `newer_inet_outcome attribute`: the facts of its value, or an error; nothing for an unknown
+    // `raw_inet_outcome attribute`: the facts of its value, or an error; nothing for an unknown
     // kind.
     ensures { IfOk result (AddsOutcome (S.content sink.old) (S.content sink.new)
-        (newer_inet_outcome (buffered_attribute nla.now))) }
+        (raw_inet_outcome (buffered_attribute nla.now))) }
 {
     match nla.kind() {
         INET_DIAG_CGROUP_ID => {

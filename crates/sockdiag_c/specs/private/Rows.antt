@@ -9,9 +9,9 @@ pub record Change (D : Type 0) : Type 0 where
   pub old : D
   pub new : D
 
--- AddsValues rows a change: the values of the attribute `a` are added to the struct. For each row:
--- if the struct had a value (`o`), it still has it. If it had none (`o` is None, the fields are
--- zeros), it has the value of `a` for this row, if there is one. `row.contents o` is what the
+-- `AddsValues rows a change`: the values of the attribute `a` are added to the struct. For each
+-- row: if the struct had a value (`o`), it still has it. If it had none (`o` is None, the fields
+-- are zeros), it has the value of `a` for this row, if there is one. `row.contents o` is what the
 -- fields contain for `o`. Fields that contain neither a value nor zeros do not occur, and nothing
 -- is stated of them.
 abbrev pub AddsValues : {D : Type 0} → List (StructRow D) → Attribute → Change D → Type 0

@@ -114,7 +114,7 @@ abbrev pub value_of : {Value : Type 0} → List (List ℕ × Value) → List ℕ
 value_of [] name = None
 value_of (row ∷ later) name = if bytes_eq name row.0 then Some row.1 else value_of later name
 
--- the model of a row in the program, whose name is borrowed
+-- a row of the program, with its name as a list of bytes
 abbrev pub named_row : {Value : Type 0} → Bor (List ℕ) × Value → List ℕ × Value
 named_row row = (row.0.now, row.1)
 

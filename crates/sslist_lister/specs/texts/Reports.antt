@@ -59,7 +59,7 @@ closing_line front error = front ++ list_error_text error ++ 10 ∷ []
 -- `closing_text front outcome`: the line that names the failure of a run; nothing if the run did
 -- not fail
 abbrev pub closing_text : List ℕ → Result Bool ListError → List ℕ
-closing_text front (Ok is_whole) = []
+closing_text front (Ok _) = []
 closing_text front (Err error) = closing_line front error
 
 -- ---- output on a writer: `held` and `held'` are the bytes written before and after, if known
