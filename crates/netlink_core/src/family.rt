@@ -47,8 +47,8 @@ pub trait FamilyView<'a>: Nla + PartialEq + Sized {
 
 /// An owned attribute in a reply of one family.
 pub trait FamilyNla: Nla + PartialEq + MadeWith<Global> + Drop + Sized {
-    /// The kind whose values are much larger than all others, if there is one. A list is built with
-    /// a separate branch for this kind; the result does not depend on it.
+    /// The kind whose values are much larger than all others, if there is one. A parser of a list
+    /// has a separate branch for it, so that the other kinds reserve no stack for its value.
     const LARGE_KIND: Option<u16> = None;
 
     // The set of attribute types of the family.

@@ -20,7 +20,7 @@ pub enum ErrorText {
 }
 
 impl fmt::Display for ErrorText {
-    // error_text_bytes text: the bytes of the text, which its parts are joined to.
+    // `error_text_bytes text`: the bytes of the text, which its parts are joined to.
     ghost output = { λ text. Some (error_text_bytes text) };
 
     fn fmt<W: fmt::Write>(&self, f: &mut fmt::Formatter<W>) -> fmt::Result {
@@ -38,8 +38,8 @@ impl fmt::Display for ErrorText {
 
 /// Returns the eight hexadecimal digits of a number, in lower case.
 pub fn hex_digits(number: u32) -> [u8; 8]
-    // encode_lower bytes: two hexadecimal digits for each byte. big_bytes width number: the number
-    // in `width` bytes, big-endian.
+    // `encode_lower bytes`: two hexadecimal digits for each byte. `big_bytes width number`: the
+    // number in `width` bytes, big-endian.
     ensures { result ≡ encode_lower (big_bytes 4 number) }
 {
     let mut bytes = [0u8; 4];

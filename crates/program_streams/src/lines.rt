@@ -37,7 +37,7 @@ pub enum RunError {
 }
 
 impl fmt::Display for RunError {
-    // run_error_text error: "reading failed", "writing failed" or "out of memory".
+    // `run_error_text error`: "reading failed", "writing failed" or "out of memory".
     ghost output = { λ error. Some (run_error_text error) };
 
     fn fmt<W: fmt::Write>(&self, f: &mut fmt::Formatter<W>) -> fmt::Result {
@@ -117,10 +117,10 @@ pub trait PromptRead {
     // The bytes that are left to read, if they are known, else `None`.
     ghost left: { Self → Option (List ℕ) };
 
-    // reads reader n: `n` reads were made. For a reader that does not count them it always holds.
+    // `reads reader n`: `n` reads were made. For a reader that does not count them it always holds.
     ghost reads: { Self → ℕ → Type 0 };
 
-    // failed reader: a read failed.
+    // `failed reader`: a read failed.
     ghost failed: { Self → Type 0 };
 
     /// Reads once into `chunk`, and returns the number of bytes that were read: 0 only at the end
@@ -185,13 +185,13 @@ pub trait LineAnswers {
     /// The request in a line, without the bytes that it is about.
     type Request: Drop;
 
-    // is_answer line text: the text is an answer to the line.
+    // `is_answer line text`: the text is an answer to the line.
     ghost is_answer: { List ℕ → List ℕ → Type 0 };
 
-    // parses_as line request bytes: the line parses as this request, about these bytes.
+    // `parses_as line request bytes`: the line parses as this request, about these bytes.
     ghost parses_as: { List ℕ → Self.Request → List ℕ → Type 0 };
 
-    // good answer: whether the answer is a good one. The protocol defines which ones are.
+    // `good answer`: whether the answer is a good one. The protocol defines which ones are.
     ghost good: { List ℕ → Bool };
 
     /// Parses the request in a line, and replaces the content of `bytes` by the bytes that it is
@@ -201,7 +201,7 @@ pub trait LineAnswers {
         bytes: &mut Vec<u8>,
         line: &[u8],
     ) -> Result<Self::Request, AllocError>
-        // parses_as line request bytes: the line parses as this request, about these bytes.
+        // `parses_as line request bytes`: the line parses as this request, about these bytes.
         ensures { IfOk result (λ request. parses_as line.now request bytes.new.items) };
 
     /// Appends the answer to a request about these bytes to the text, and returns whether it is a
@@ -271,7 +271,7 @@ pub fn serve<S: RunStart, A: LineAnswers, R: PromptRead, W: Sink>(
     ensures ended { OnOk result (IsAtEnd (R.left input.new)) }
     // If the run succeeds, the last call to the output flushed it.
     ensures flushed { OnOk result (W.flushed output.new) }
-    // AnswersInput answer streams good result: a text was read, and what has been written are the
+    // `AnswersInput answer streams good result`: a text was read, and what has been written are the
     // answers to its lines, for each result as described above. On success the result is whether
     // each answer is a good one. The record has the streams before and after the run.
     ensures answered { AnswersInput S.answer (record {
@@ -322,11 +322,11 @@ fn finish<S: RunStart, A: LineAnswers, W: Sink>(
 ) -> Result<bool, RunError>
     // AnswersEachLine: by the protocol, `S.answer line` is an answer to each line.
     requires { (buffers.old.answers.items ≡ []) × AnswersEachLine A.is_answer S.answer }
-    // WritesText held held' text result: the text was written if the step succeeded, else a prefix
-    // of it or nothing. answer_lines answer lines: each answer, followed by a line feed. all_lines
-    // whole rest: the complete lines, of which none are left (`[]`), and the last line `rest`,
-    // unless it is empty. all_answers_good good answer lines: whether each of these answers is a
-    // good one.
+    // `WritesText held held' text result`: the text was written if the step succeeded, else a
+    // prefix of it or nothing. `answer_lines answer lines`: each answer, followed by a line feed.
+    // `all_lines whole rest`: the complete lines, of which none are left (`[]`), and the last line
+    // `rest`, unless it is empty. `all_answers_good good answer lines`: whether each of these
+    // answers is a good one.
     ensures written { WritesText (W.held output.old) (W.held output.new)
         (answer_lines S.answer (all_lines [] buffers.old.line.items)) result }
     ensures judged { IfOk result (λ is_good.
@@ -351,9 +351,9 @@ fn end_last_line<S: RunStart, A: LineAnswers>(
 ) -> Result<bool, AllocError>
     // AnswersEachLine: by the protocol, `S.answer line` is an answer to each line.
     requires { (buffers.old.answers.items ≡ []) × AnswersEachLine A.is_answer S.answer }
-    // answer_lines answer lines: each answer, followed by a line feed. all_lines whole rest: the
-    // complete lines, of which none are left (`[]`), and the last line `rest`, unless it is empty.
-    // all_answers_good good answer lines: whether each of these answers is a good one.
+    // `answer_lines answer lines`: each answer, followed by a line feed. `all_lines whole rest`:
+    // the complete lines, of which none are left (`[]`), and the last line `rest`, unless it is
+    // empty. `all_answers_good good answer lines`: whether each of these answers is a good one.
     ensures added { OnOk result (buffers.new.answers.items
         ≡ answer_lines S.answer (all_lines [] buffers.old.line.items)) }
     ensures judged { IfOk result (λ is_good.
@@ -374,10 +374,10 @@ fn answer_chunk<S: RunStart, A: LineAnswers>(
     buffers: &mut LineBuffers,
     chunk: &[u8],
 ) -> Result<bool, AllocError>
-    // HasNoLineFeed line: none of its bytes is a line feed. AnswersEachLine: by the protocol,
+    // `HasNoLineFeed line`: none of its bytes is a line feed. AnswersEachLine: by the protocol,
     // `S.answer line` is an answer to each line.
     requires { HasNoLineFeed buffers.old.line.items × AnswersEachLine A.is_answer S.answer }
-    // AnswersChunk answer good before chunk after is_good: the lines that end in the chunk were
+    // `AnswersChunk answer good before chunk after is_good`: the lines that end in the chunk were
     // answered, and `is_good`, here the returned value, is whether each answer is a good one.
     ensures { IfOk result
         (AnswersChunk S.answer A.good buffers.old chunk.now buffers.new) }
@@ -403,11 +403,12 @@ fn end_line<S: RunStart, A: LineAnswers>(
 ) -> Result<bool, AllocError>
     // AnswersEachLine: by the protocol, `S.answer line` is an answer to each line.
     requires { AnswersEachLine A.is_answer S.answer }
-    // S.answer line: the answer to a line. with_line_feed text: the text followed by a line feed.
+    // `S.answer line`: the answer to a line. `with_line_feed text`: the text followed by a line
+    // feed.
     ensures added { OnOk result ((buffers.new.line.items ≡ [])
         × (buffers.new.answers.items ≡ buffers.old.answers.items
         ++ with_line_feed (S.answer (buffers.old.line.items ++ end.now)))) }
-    // A.good answer: the protocol counts this answer as a good one.
+    // `A.good answer`: the protocol counts this answer as a good one.
     ensures judged { IfOk result (λ is_good.
         is_good ≡ A.good (S.answer (buffers.old.line.items ++ end.now))) }
     // `line`, and `bytes`, which has the bytes of the request, retain at most this memory.
@@ -430,7 +431,7 @@ fn read_line<A: LineAnswers>(
     buffers: &mut LineBuffers,
     end: &[u8],
 ) -> Result<A::Request, AllocError>
-    // A.parses_as line request bytes: the line parses as this request, about these bytes.
+    // `A.parses_as line request bytes`: the line parses as this request, about these bytes.
     ensures request { IfOk result (λ request.
         A.parses_as (buffers.old.line.items ++ end.now) request buffers.new.bytes.items) }
     // The buffer of answers is unchanged.
@@ -455,7 +456,7 @@ fn add_answer_line<S: RunStart, A: LineAnswers>(
     // AnswersEachLine: by the protocol, `S.answer line` is an answer to each line.
     requires { AnswersEachLine A.is_answer S.answer }
     // The line of the request is not an argument. So this is stated for each line that parses as
-    // this request about these bytes (`A.parses_as`). with_line_feed text: the text followed by a
+    // this request about these bytes (`A.parses_as`). `with_line_feed text`: the text followed by a
     // line feed.
     ensures { IfOk result (λ is_good. (line : List ℕ) → A.parses_as line request bytes.now
         → (answers.new.items ≡ answers.old.items ++ with_line_feed (S.answer line))

@@ -46,8 +46,8 @@ pub enum ReadError {
 impl ReadError {
     /// Returns the text of the error.
     pub fn text(&self) -> ErrorText
-        // error_text_bytes text: the bytes that the parts of the text are joined to.
-        // read_error_text error: the text for each error, as in the body.
+        // `error_text_bytes text`: the bytes that the parts of the text are joined to.
+        // `read_error_text error`: the text for each error, as in the body.
         ensures { error_text_bytes result ≡ read_error_text self.now }
     {
         match self {
@@ -90,8 +90,8 @@ pub enum WriteError {
 impl WriteError {
     /// Returns the text of the error.
     pub fn text(&self) -> ErrorText
-        // error_text_bytes text: the bytes that the parts of the text are joined to.
-        // write_error_text error: the text for each error, as in the body.
+        // `error_text_bytes text`: the bytes that the parts of the text are joined to.
+        // `write_error_text error`: the text for each error, as in the body.
         ensures { error_text_bytes result ≡ write_error_text self.now }
     {
         match self {
@@ -146,7 +146,7 @@ pub trait Source {
     // The bytes that are left to read, if they are known, else `None`.
     ghost left: { Self → Option (List ℕ) };
 
-    // failed source error: a read failed with this error.
+    // `failed source error`: a read failed with this error.
     ghost failed: { Self → ReadError → Type 0 };
 
     /// Reads once, to the start of `bytes`. Returns the number of bytes that were read. It is 0
@@ -178,9 +178,9 @@ impl<R: Read> Source for R {
 /// of the error is `IsADirectory`, else the error with the system's number, if there is one that is
 /// not negative, else `Other`.
 fn read_outcome(outcome: io::Result<usize>) -> Result<usize, ReadError>
-    // error_kind and raw_os_error: the kind and the number of the error of std. IsReadErrorFor
-    // is_directory number e: `e` is `Directory` if and only if the first argument holds, else `Os`
-    // with this number, or `Other`.
+    // error_kind and raw_os_error: the kind and the number of the error of std.
+    // `IsReadErrorFor is_directory number e`: `e` is `Directory` if and only if the first argument
+    // holds, else `Os` with this number, or `Other`.
     ensures { MatchResult outcome (λ n. result ≡ Ok n)
         (λ error. (e : ReadError) × (result ≡ Err e)
         × IsReadErrorFor (error_kind error ≡ ErrorKind.IsADirectory) (raw_os_error error) e) }
@@ -195,7 +195,7 @@ fn read_outcome(outcome: io::Result<usize>) -> Result<usize, ReadError>
 /// if the kind is `IsADirectory`, else the error with the number, if there is one that is not
 /// negative, else `Other`.
 fn read_failure(kind: ErrorKind, code: Option<i32>) -> ReadError
-    // IsReadErrorFor is_directory number e: `e` is `Directory` if and only if the first argument
+    // `IsReadErrorFor is_directory number e`: `e` is `Directory` if and only if the first argument
     // holds, else `Os` with this number, or `Other`.
     ensures { IsReadErrorFor (kind ≡ ErrorKind.IsADirectory) code result }
 {
@@ -225,8 +225,8 @@ pub trait Sink {
     // The bytes that have been written, if they are known, else `None`.
     ghost held: { Self → Option (List ℕ) };
 
-    // failed sink error: a write or a flush failed with this error. A write that accepted no bytes
-    // counts as failed.
+    // `failed sink error`: a write or a flush failed with this error. A write that accepted no
+    // bytes counts as failed.
     ghost failed: { Self → WriteError → Type 0 };
 
     // The last call flushed the output.
@@ -274,9 +274,9 @@ impl<W: Write> Sink for W {
 /// kind is `BrokenPipe`, else the one with the system's number, if there is one that is not
 /// negative, else `Other`.
 fn write_outcome(outcome: io::Result<usize>) -> Result<usize, WriteError>
-    // error_kind and raw_os_error: the kind and the number of the error of std. IsWriteErrorFor
-    // is_broken_pipe number e: `e` is `Closed` if and only if the first argument holds, else `Os`
-    // with this number, or `Other`.
+    // error_kind and raw_os_error: the kind and the number of the error of std.
+    // `IsWriteErrorFor is_broken_pipe number e`: `e` is `Closed` if and only if the first argument
+    // holds, else `Os` with this number, or `Other`.
     ensures { MatchResult outcome
         (λ n. result ≡ (if n == 0 then Err WriteError.Other else Ok n))
         (λ error. (e : WriteError) × (result ≡ Err e)
@@ -293,9 +293,9 @@ fn write_outcome(outcome: io::Result<usize>) -> Result<usize, WriteError>
 /// kind is `BrokenPipe`, else the error with the system's number, if there is one that is not
 /// negative, else `Other`.
 fn flush_outcome(outcome: io::Result<()>) -> Result<(), WriteError>
-    // error_kind and raw_os_error: the kind and the number of the error of std. IsWriteErrorFor
-    // is_broken_pipe number e: `e` is `Closed` if and only if the first argument holds, else `Os`
-    // with this number, or `Other`.
+    // error_kind and raw_os_error: the kind and the number of the error of std.
+    // `IsWriteErrorFor is_broken_pipe number e`: `e` is `Closed` if and only if the first argument
+    // holds, else `Os` with this number, or `Other`.
     ensures { MatchResult outcome (λ _. result ≡ Ok tt)
         (λ error. (e : WriteError) × (result ≡ Err e)
         × IsWriteErrorFor (error_kind error ≡ ErrorKind.BrokenPipe) (raw_os_error error) e) }
@@ -310,7 +310,7 @@ fn flush_outcome(outcome: io::Result<()>) -> Result<(), WriteError>
 /// and only if the kind is `BrokenPipe`, else the error with the number, if there is one that is
 /// not negative, else `Other`.
 fn write_failure(kind: ErrorKind, code: Option<i32>) -> WriteError
-    // IsWriteErrorFor is_broken_pipe number e: `e` is `Closed` if and only if the first argument
+    // `IsWriteErrorFor is_broken_pipe number e`: `e` is `Closed` if and only if the first argument
     // holds, else `Os` with this number, or `Other`.
     ensures { IsWriteErrorFor (kind ≡ ErrorKind.BrokenPipe) code result }
 {
@@ -324,10 +324,10 @@ fn write_failure(kind: ErrorKind, code: Option<i32>) -> WriteError
 /// Writes all of `bytes`. Fails with the error of the first write that fails, which is not
 /// repeated; then a prefix of `bytes` has been written.
 pub fn send<W: Sink>(output: &mut W, bytes: &[u8]) -> Result<(), WriteError>
-    // Appends held held' bytes: the bytes were appended to what had been written (`W.held`), if
+    // `Appends held held' bytes`: the bytes were appended to what had been written (`W.held`), if
     // this was known, here all of `bytes`.
     ensures written { OnOk result (Appends (W.held output.old) (W.held output.new) bytes.now) }
-    // W.failed output e: a write failed with this error. A prefix of the bytes was written
+    // `W.failed output e`: a write failed with this error. A prefix of the bytes was written
     // (`sent`).
     ensures stopped { IfErr result (λ e. W.failed output.new e
         × (sent : List ℕ) × (unsent : List ℕ) × (bytes.now ≡ sent ++ unsent)
@@ -344,7 +344,7 @@ pub fn send<W: Sink>(output: &mut W, bytes: &[u8]) -> Result<(), WriteError>
 /// Writes the text. If a write fails, a prefix of the text has been written. The failure is not
 /// reported.
 pub fn try_send<W: Sink>(output: &mut W, text: &[u8])
-    // WritesAllOrFails held held' failed text: all of the text was written; or a prefix of it was
+    // `WritesAllOrFails held held' failed text`: all of the text was written; or a prefix of it was
     // written, and a write failed, with some error (`W.failed`).
     ensures { WritesAllOrFails (W.held output.old) (W.held output.new)
         ((e : WriteError) × W.failed output.new e) text.now }

@@ -8,7 +8,8 @@ use Rattle.netlink_core.specs.Layout.{Layout, parse_record}
 use Rattle.netlink_core.specs.Parse.{number_of_width}
 use Rattle.sock_diag_families.specs.AttributeGetters.{first_value_of_kind, parse_if_present}
 
--- `parsed_of_kind parse kind attributes`: what `parse` returns for the value
+-- `parsed_of_kind parse kind attributes`: what `parse` returns for the value of the first attribute
+-- of this kind; `Ok None` if there is none
 abbrev pub parsed_of_kind : {A : Type 0} → (List ℕ → Result A DecodeError) → ℕ → List Attribute
     → Result (Option A) DecodeError
 parsed_of_kind parse kind attributes = parse_if_present parse (first_value_of_kind kind attributes)

@@ -9,13 +9,8 @@ ghost use Rattle.sock_diag_extras.specs.RecordTable.{layout_with_name};
 use crate::record::AttributeRecord;
 use byteorder::{ByteOrder, LittleEndian};
 use netlink_core::fields::array_at;
+use sock_diag_records::constants::{AF_INET, AF_INET6};
 use std::net::{IpAddr, Ipv4Addr, Ipv6Addr};
-
-/// The address family of IPv4, `AF_INET`.
-const INET: u8 = 2;
-
-/// The address family of IPv6, `AF_INET6`.
-const INET6: u8 = 10;
 
 /// An MD5 signature key for the segments of some peers: one of the records in the value of
 /// `INET_DIAG_MD5SIG`, `struct tcp_diag_md5sig` of `linux/tcp.h`, 100 bytes. The kernel sends it
@@ -83,8 +78,8 @@ impl Md5Signature {
     {
         let [a, b, c, d, ..] = self.address;
         match self.family {
-            INET => Some(IpAddr::V4(Ipv4Addr::new(a, b, c, d))),
-            INET6 => Some(IpAddr::V6(Ipv6Addr::from_octets(self.address))),
+            AF_INET => Some(IpAddr::V4(Ipv4Addr::new(a, b, c, d))),
+            AF_INET6 => Some(IpAddr::V6(Ipv6Addr::from_octets(self.address))),
             _ => None,
         }
     }

@@ -9,9 +9,8 @@ use Rattle.sock_diag_filters.specs.AnyRequest.{of_inet, record_request_codec, re
 use Rattle.sock_diag_filters.specs.InetRequests.{IsRequestType}
 use Rattle.sock_diag_filters.specs.ReadBack.{IsParsedRequest}
 
--- `record_request_bytes r`: the bytes of the message of the request `r`, whose family has one
--- record (`RecordFamily`): its netlink header unchanged, its record, and the bytes after the
--- record.
+-- `record_request_bytes r`: the bytes of the message of the request `r`, whose family is neither
+-- IPv4 nor IPv6: its netlink header unchanged, its record, and the bytes after the record.
 abbrev pub record_request_bytes : {family : RecordFamily} → RecordRequest family → List ℕ
 record_request_bytes {family} r =
     header_bytes r.header ++ ((record_request_codec family).bytes r.request ++ r.attributes)

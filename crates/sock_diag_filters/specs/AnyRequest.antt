@@ -18,7 +18,7 @@ use Rattle.sock_diag_filters.specs.declared.any.RecordRequestView.{RecordRequest
 use Rattle.sock_diag_filters.specs.declared.view.RequestView.{RequestView}
 use Rattle.sock_diag_filters.specs.InetRequests.{ParsesAsRequest, IsRejectedRequest}
 
--- The families whose request consists of one record.
+-- The families other than IPv4 and IPv6.
 pub data RecordFamily : Type 0 where
   unix netlink packet vsock xdp : RecordFamily
 

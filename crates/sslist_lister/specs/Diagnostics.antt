@@ -139,8 +139,8 @@ explained_line start (Some diagnostic) explained =
 
 -- `lines_about_message start m`: the lines about the message `m`, each of which begins with `start`
 -- (`line_start`). The first is about an interrupted dump. The second is about any other diagnostic
--- of the message, and ends with what the kernel explains about an error. Each line is present only
--- if there is such a diagnostic.
+-- of the message, and ends with `explanation m`. Each line is present only if there is such a
+-- diagnostic.
 abbrev pub lines_about_message : List ℕ → MessageParts → List ℕ
 lines_about_message start m =
     diagnostic_line start (interrupted_diagnostic m.header.flags)

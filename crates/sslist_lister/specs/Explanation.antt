@@ -85,8 +85,8 @@ abbrev pub unknown_request : ℕ → List ℕ
 unknown_request t =
     if (t == NLMSG_ERROR) || (t == NLMSG_DONE) then codes " (request: in an earlier packet)" else []
 
--- what the message `m` explains: which request it answers, and then the kernel's text and the
--- offset in its attributes
+-- what follows the diagnostic of the message `m`: a note of the request that it answers, and then
+-- the kernel's text and the offset in its attributes
 abbrev pub explanation : MessageParts → List ℕ
 explanation m =
     let h = m.header in

@@ -258,7 +258,7 @@ unfoldable pub row_facts : List ℕ → FieldRow → Facts
 row_facts bytes row =
     option_map_or (number_facts row.2 row.3 row.4) (number_in row.1 row.0 bytes) no_facts
 
--- `field_facts bytes rows`: the facts of those rows whose fields the bytes contain
+-- `field_facts bytes rows`: the facts of those rows whose number the bytes have
 unfoldable pub field_facts : List ℕ → List FieldRow → Facts
 field_facts bytes rows = facts_of_each (row_facts bytes) rows
 

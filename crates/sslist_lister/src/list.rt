@@ -430,7 +430,7 @@ fn diagnostic_of_errno(errno: u32) -> Diagnostic
     }
 }
 
-/// Appends the line of a diagnostic. Appends nothing if there is none (`None`).
+/// Appends a diagnostic. Appends nothing if there is none (`None`).
 fn push_optional_diagnostic(
     written: &mut PacketOutput<'_>,
     position: Position,
@@ -448,9 +448,9 @@ fn push_optional_diagnostic(
     }
 }
 
-/// Appends the line of the diagnostic of a message. After the text of the diagnostic it has the
-/// request that the message answers, and the kernel's text and offset (`push_explanation`). Appends
-/// nothing if there is no diagnostic (`None`).
+/// Appends the diagnostic of a message, with a note of the request that the message answers, and
+/// with the kernel's text and offset (`push_explanation`). Appends nothing if there is no
+/// diagnostic (`None`).
 fn push_explained_diagnostic(
     written: &mut PacketOutput<'_>,
     position: Position,

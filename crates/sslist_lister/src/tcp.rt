@@ -290,10 +290,9 @@ fn mptcp_rows() -> &'static [FieldRow]
     &MPTCP_ROWS
 }
 
-/// Shows the facts of these rows, in the order of the rows, as far as the bytes contain their
-/// fields.
+/// Shows the facts of those of these rows whose number the bytes have, in the order of the rows.
 fn show_fields<S: FactSink>(sink: &mut S, bytes: &[u8], rows: &[FieldRow]) -> Result<(), AllocError>
-    // `field_facts bytes rows`: the facts of those rows whose fields the bytes contain.
+    // `field_facts bytes rows`: the facts of those rows whose number the bytes have.
     // `field_row_of`: a row, with its texts as lists of bytes.
     ensures { OnOk result (AddsFacts (S.content sink.old) (S.content sink.new)
         (field_facts bytes.now (map field_row_of rows.now))) }
@@ -301,11 +300,10 @@ fn show_fields<S: FactSink>(sink: &mut S, bytes: &[u8], rows: &[FieldRow]) -> Re
     show_rows(sink, bytes, rows)
 }
 
-/// Shows the facts of these rows, as far as the bytes contain their fields. The contract states
-/// this of items, as the loop appends them.
+/// Does what [`show_fields`] does. The contract states it of items, as the loop appends them.
 #[tactic(auto, unfolding(crate::specs::Tcp::row_facts))]
 fn show_rows<S: FactSink>(sink: &mut S, bytes: &[u8], rows: &[FieldRow]) -> Result<(), AllocError>
-    // For each row the items of its fact; none if the bytes do not contain its field.
+    // For each row the items of its fact; none if the bytes do not have its number.
     // `field_row_of`: the row, with its texts as lists of bytes.
     ensures { OnOk result (AddsItems (S.content sink.old) (S.content sink.new)
         (flat_map (λ row. S.items (row_facts bytes.now (field_row_of row))) rows.now)) }

@@ -1,6 +1,6 @@
 //! Two requests and four replies with each byte changed, and truncated at each byte.
 
-use super::parsers::{Report, Subject, parse_all};
+use super::parsers::{Report, Subject, parse_all, parse_all_and_compare};
 use super::{ABSTRACT, INET, PATH, PEER, SHUTDOWN, UNIX_REQUEST, ZEROS, bytes};
 use std::alloc::Global;
 use std::process::Abort;
@@ -49,13 +49,13 @@ fn assert_changes(
     counts: &[u32],
 ) {
     let whole = bytes(rt, alloc, parts);
-    let original = parse_all(rt, alloc, subject, &whole, None, false);
+    let original = parse_all(rt, alloc, subject, &whole);
     assert!(rt; original.form.is_ok(), "refused");
     let mut tally = [0; 11];
     for offset in 0..whole.len() {
         for change in 1..=u8::MAX {
             let changed = changed(rt, alloc, &whole, offset, change);
-            let report = parse_all(rt, alloc, subject, &changed, Some(&whole), false);
+            let report = parse_all_and_compare(rt, alloc, subject, &changed, &whole);
             add_to_tally(rt, &mut tally, &original, &report);
         }
     }
@@ -101,11 +101,11 @@ fn assert_prefixes(
     counts: [u32; 11],
 ) {
     let whole = bytes(rt, alloc, parts);
-    let original = parse_all(rt, alloc, subject, &whole, None, false);
+    let original = parse_all(rt, alloc, subject, &whole);
     let mut tally = [0; 11];
     for len in 0..whole.len() {
         let prefix = whole.get(..len).expect(rt, "no prefix");
-        let report = parse_all(rt, alloc, subject, prefix, Some(&whole), false);
+        let report = parse_all_and_compare(rt, alloc, subject, prefix, &whole);
         add_to_tally(rt, &mut tally, &original, &report);
     }
     assert!(rt; tally == counts, "{tally:?}");

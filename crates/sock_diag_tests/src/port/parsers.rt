@@ -148,17 +148,39 @@ pub(crate) fn examine(
     }
 }
 
-/// Returns the report on the bytes. Asserts that all parsers return equal results, and that all
-/// serializers return the same bytes or the same error.
-pub(crate) fn parse_all(
+/// Returns the report on the bytes, without the `Debug` output. Asserts that all parsers return
+/// equal results, and that all serializers return the same bytes or the same error.
+pub(crate) fn parse_all(rt: &impl Abort, alloc: Global, subject: Subject, bytes: &[u8]) -> Report {
+    checked_report(rt, bytes, examine(alloc, subject, bytes, None, false))
+}
+
+/// Does what [`parse_all`] does, and compares the value with that of the bytes `original`.
+pub(crate) fn parse_all_and_compare(
     rt: &impl Abort,
     alloc: Global,
     subject: Subject,
     bytes: &[u8],
-    original: Option<&[u8]>,
-    with_text: bool,
+    original: &[u8],
 ) -> Report {
-    let report = examine(alloc, subject, bytes, original, with_text);
+    checked_report(
+        rt,
+        bytes,
+        examine(alloc, subject, bytes, Some(original), false),
+    )
+}
+
+/// Does what [`parse_all`] does. The report has the `Debug` output.
+pub(crate) fn parse_all_and_print(
+    rt: &impl Abort,
+    alloc: Global,
+    subject: Subject,
+    bytes: &[u8],
+) -> Report {
+    checked_report(rt, bytes, examine(alloc, subject, bytes, None, true))
+}
+
+/// Returns the report. Asserts what [`parse_all`] says of it.
+fn checked_report(rt: &impl Abort, bytes: &[u8], report: Report) -> Report {
     assert!(rt; report.are_equal, "{bytes:?}");
     assert!(rt;
         report.form == report.owned_form && report.form == report.view_form,

@@ -1,7 +1,7 @@
 //! What `Debug` prints for replies and messages, or a part of it. A row has the digits that follow
 //! a given start, possibly none, a space, and that part.
 
-use super::parsers::{Subject, parse_all};
+use super::parsers::{Subject, parse_all_and_print};
 use super::{
     ABSTRACT, CONNECTED, INET, LISTENING, PATH, PEER, SHUTDOWN, assert_contains, assert_debug,
     assert_debug_contains, assert_debug_lines, bytes, cells,
@@ -22,7 +22,7 @@ fn assert_report_contains(
     reply: &[u8],
     part: &str,
 ) {
-    let report = parse_all(rt, alloc, subject, reply, None, true);
+    let report = parse_all_and_print(rt, alloc, subject, reply);
     let text = report.text.as_deref().expect(rt, "memory");
     assert_contains(rt, text, part);
 }

@@ -17,7 +17,7 @@ const COUNTS: [usize; 7] = [512, 1_000, 1_024, 2_048, 4_096, 8_192, 10_000];
 
 /// Asserts that all parsers accept the bytes, and that the bytes have a canonical form.
 fn assert_accepted(rt: &impl Abort, alloc: Global, subject: Subject, bytes: &[u8]) {
-    let report = parse_all(rt, alloc, subject, bytes, None, false);
+    let report = parse_all(rt, alloc, subject, bytes);
     assert!(rt; report.error.is_none() && report.form.is_ok());
 }
 
@@ -280,7 +280,7 @@ const LONG: [Long; 8] = [
 
 /// Returns the length of the canonical form of the bytes as a message, or why there is none.
 fn written_len(rt: &impl Abort, alloc: Global, bytes: &[u8]) -> Result<usize, CanonError> {
-    match &parse_all(rt, alloc, Subject::Message, bytes, None, false).form {
+    match &parse_all(rt, alloc, Subject::Message, bytes).form {
         Ok(form) => Ok(form.len()),
         Err(error) => Err(*error),
     }

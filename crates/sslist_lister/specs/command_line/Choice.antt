@@ -123,8 +123,8 @@ named_row row = (row.0.now, row.1)
 abbrev pub long_name : List ℕ → List ℕ → List ℕ × Argument
 long_name name letter = (name, parsed_as.Letter (letter_of letter))
 
--- The options without a value, except for letters, and what they are parsed as. The long names of
--- letters are those of ss(8).
+-- The options without a value that are a whole argument, and what they are parsed as: `-h` and
+-- `-V`, which are options only alone, and long names. Those of letters are as in ss(8).
 abbrev pub flags : List (List ℕ × Argument)
 flags =
     (codes "-h", parsed_as.Help) ∷
@@ -153,7 +153,7 @@ flags =
     long_name (codes "--no-header") (codes "H") ∷
     long_name (codes "--oneline") (codes "O") ∷ []
 
--- what an option without a value is parsed as, except for letters; None for any other argument
+-- what an option without a value that is a whole argument is parsed as; None for any other argument
 unfoldable pub flag_argument : List ℕ → Option Argument
 flag_argument argument = value_of flags argument
 
@@ -251,8 +251,8 @@ named_value name value =
     (parsed_as.Rejected (if is_some (flag_argument name) then rejections.UnexpectedValue
     else rejections.UnknownOption))
 
--- what an argument is parsed as that begins with two hyphens and is not an option without a value:
--- the name of an option, an equals sign (61) and its value; any other one is rejected
+-- what an argument is parsed as that begins with two hyphens and is not in `flags`: the name of an
+-- option, an equals sign (61) and its value; any other one is rejected
 abbrev pub long_argument : List ℕ → Argument
 long_argument argument =
     option_map_or (λ index. named_value (take index argument) (drop (index + 1) argument))

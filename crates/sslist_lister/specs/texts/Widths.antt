@@ -11,8 +11,8 @@ abbrev pub cell_width : Bool → List ℕ → ℕ
 cell_width utf8 cell =
     if utf8 && is_utf8 cell then str_width false (chars cell) else length cell
 
--- `column_padding width used`: the spaces (32) after the content of a column, which takes `used` of
--- its columns: up to the width, and one more
+-- `column_padding width used`: the spaces (32) after the content of a column, which is `used` wide:
+-- up to the width, and one more
 abbrev pub column_padding : ℕ → ℕ → List ℕ
 column_padding width used = replicate (width - used) 32 ++ 32 ∷ []
 
@@ -20,7 +20,7 @@ column_padding width used = replicate (width - used) 32 ++ 32 ∷ []
 abbrev pub spaces_after : Bool → ℕ → List ℕ → List ℕ
 spaces_after utf8 width cell = column_padding width (cell_width utf8 cell)
 
--- `name_column utf8 width cell`: a column with a name: the cell, padded with spaces up to a width,
--- and one more space
+-- `name_column utf8 width cell`: the column of a socket's name: the cell, padded with spaces up to
+-- a width, and one more space
 abbrev pub name_column : Bool → ℕ → List ℕ → List ℕ
 name_column utf8 width cell = cell ++ spaces_after utf8 width cell

@@ -25,8 +25,8 @@ use crate::command_line::text::index_of;
 /// Letters that are options. The letter `f`, which needs the name of a family, is not in this list.
 const LETTERS: &[u8] = b"tuxM046oemiOHlna";
 
-/// The options without a value, except for letters, and what they are parsed as. The long names of
-/// letters are those of ss(8).
+/// The options without a value that are a whole argument, and what they are parsed as: `-h` and
+/// `-V`, which are options only alone, and long names. Those of letters are as in ss(8).
 const FLAGS: [(&str, Argument); 25] = [
     ("-h", Argument::Help),
     ("--help", Argument::Help),
@@ -181,7 +181,8 @@ fn option_argument(argument: &[u8]) -> Argument
     }
 }
 
-/// Parses an option without a value, except for letters. Returns `None` for any other argument.
+/// Parses an option without a value that is a whole argument (`FLAGS`). Returns `None` for any
+/// other argument.
 #[tactic(auto, unfolding(crate::specs::command_line::Choice::flag_argument))]
 fn flag_argument(argument: &[u8]) -> Option<Argument>
     ensures { result ≡ flag_argument argument.now }
@@ -202,8 +203,8 @@ fn value_of<T: Copy>(rows: &[(&str, T)], name: &[u8]) -> Option<T>
     None
 }
 
-/// Parses an argument that begins with two hyphens and is not an option without a value: an option
-/// with an equals sign and a value. Any other one is rejected.
+/// Parses an argument that begins with two hyphens and is not in `FLAGS`: an option with an equals
+/// sign and a value. Any other one is rejected.
 fn long_argument(argument: &[u8]) -> Argument
     ensures { result ≡ long_argument argument.now }
 {

@@ -51,7 +51,7 @@ pub(crate) fn report_failure<E: Sink>(
 
 /// Writes a line, by [`report`]: the prefix `front`, the text of the failure and a line feed.
 fn report_line<E: Sink>(errors: &mut E, is_open: &mut bool, front: &str, failure: &ListError)
-    // `Reports`: the last line is the text that was reported. 10 is a line feed.
+    // 10 is a line feed.
     ensures { Reports (error_output (E.held errors.old) (E.failed errors.old) is_open.old)
         (error_output (E.held errors.new) (E.failed errors.new) is_open.new)
         (front.now ++ list_error_text failure.now ++ 10 ∷ []) }
@@ -77,7 +77,6 @@ fn report_subject<E: Sink>(errors: &mut E, is_open: &mut bool, failure: &ListErr
 
 /// Writes the number of a packet as the prefix of an error, `packet N: `, by [`report`].
 fn report_packet<E: Sink>(errors: &mut E, is_open: &mut bool, number: u64)
-    // `Reports`: the last line is the text that was reported.
     ensures { Reports (error_output (E.held errors.old) (E.failed errors.old) is_open.old)
         (error_output (E.held errors.new) (E.failed errors.new) is_open.new)
         (codes "packet " ++ decimal number ++ codes ": ") }
