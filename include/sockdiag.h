@@ -2220,7 +2220,7 @@ struct sockdiag_outcome {
  * Writes a request for IPv4 or IPv6 sockets, followed by attributes, at the start of the buffer;
  * bytes after them are unchanged. The request has 72 bytes, or 80 if the protocol is above 255. The
  * attributes are followed by zeros up to a multiple of 4. The length field of the message counts
- * all of these bytes. Such an attribute is the bytecode of a filter, INET_DIAG_REQ_BYTECODE of
+ * all of these bytes. One such attribute is the bytecode of a filter, INET_DIAG_REQ_BYTECODE of
  * linux/inet_diag.h, which the kernel runs on each socket. The bytes have to be a sequence of
  * complete attributes. Their values are not checked. A kernel answers with -EINVAL if a jump of the
  * filter leads into the middle of an operation, or more than 4 bytes past the end, and with -EPERM

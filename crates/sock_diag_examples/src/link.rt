@@ -74,7 +74,8 @@ pub fn parse_link(alloc: Global, payload: &[u8]) -> Result<Link, LinkError>
         × DecodeTo decodes_link (drop 16 payload.now) found
         × (string_content link.name ≡ last_or None (filter_map name_in found))
         × (link.mtu ≡ last_or None (filter_map mtu_in found))) }
-    // `LinkFails payload error`: what the list above says of this error.
+    // `LinkFails payload error`: what the list above says of this error; of `Memory` only that
+    // there is a name to allocate.
     ensures error { IfErr result (LinkFails payload.now) }
 {
     if payload.len() < IFINFOMSG_LEN {

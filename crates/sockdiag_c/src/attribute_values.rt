@@ -173,7 +173,7 @@ pub extern "C" fn sockdiag_next_pending(value: &[u8], cursor: &mut Cursor, inode
       returned = result;
     } }
 {
-    let left = next_bytes(value, cursor, 4);
+    let left = bytes_at_cursor(value, cursor, 4);
     store(left.map(|bytes| LittleEndian::read_u32(bytes)), inode)
 }
 
@@ -192,13 +192,13 @@ fn next_record<T: AttributeRecord + Copy>(value: &[u8], cursor: &mut Cursor, fou
       returned = result;
     } }
 {
-    let left = next_bytes(value, cursor, T::size());
+    let left = bytes_at_cursor(value, cursor, T::size());
     store(left.map(|bytes| T::from_fields(bytes)), found)
 }
 
 // Returns all bytes from the cursor on, and advances the cursor by `size` bytes. Returns `None` if
 // fewer bytes are left; then the cursor is unchanged.
-fn next_bytes<'a>(value: &'a [u8], cursor: &mut Cursor, size: usize) -> Option<&'a [u8]>
+fn bytes_at_cursor<'a>(value: &'a [u8], cursor: &mut Cursor, size: usize) -> Option<&'a [u8]>
     // `left`: the bytes from the cursor on. The first part of `MatchOption` is about `None`, the
     // second about `Some(bytes)`.
     ensures { let left = bytes_after_cursor value.entry.now cursor.old in

@@ -31,8 +31,8 @@ use Rattle.sslist_lister.specs.declared.tcp.FieldPart.TheVariants.{Byte, Eight, 
 use Rattle.sslist_lister.specs.declared.tcp.FieldPart.TheVariants.{HighFour, LowFour}
 use Rattle.sslist_lister.specs.declared.tcp.FieldPart.TheVariants.{Negotiated, NextTwo, Two}
 
--- a row: the offset of a field (`.0`), the number there (`.1`), how the table shows it (`.2`), its
--- text there (`.3`), and its name in JSON (`.4`)
+-- a row: the offset of a field (`.0`), which number or bits of it the row is about (`.1`), how the
+-- table shows them (`.2`), their text in the table (`.3`), and their name in JSON (`.4`)
 abbrev pub FieldRow : Type 0
 FieldRow = ℕ × FieldPart × Shown × List ℕ × Option (List ℕ)
 

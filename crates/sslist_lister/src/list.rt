@@ -128,8 +128,9 @@ pub fn list_packet(
 }
 
 /// Appends the lines and the diagnostics of the captured bytes of the packet with this number and
-/// this header, and stores its request, if there is one. Returns whether the bytes have no error.
-/// `is_whole` is false if the packet was truncated, which is reported already.
+/// this header, and stores its request, if there is one. Returns whether they are clean: a packet
+/// of another protocol, or a clean datagram ([`list_sock_diag`]). `is_whole` is false if the packet
+/// was truncated, which is reported already.
 #[tactic(auto, using(crate::proofs::RequestsAfterPacket::requests_rules))]
 fn list_content(
     written: &mut PacketOutput<'_>,
@@ -184,8 +185,9 @@ fn push_short_if_whole(
 }
 
 /// Appends the lines and the diagnostics of a datagram of sock_diag(7), and stores the request that
-/// it begins with, if there is one. Returns whether it was listed completely. `number` and `header`
-/// are those of its packet. `is_whole` is false if the packet was truncated.
+/// it begins with, if there is one. Returns whether the datagram is clean: it begins with a
+/// request, or is as [`list_datagram`] says. `number` and `header` are those of its packet.
+/// `is_whole` is false if the packet was truncated.
 fn list_sock_diag(
     written: &mut PacketOutput<'_>,
     requests: &mut Requests,
@@ -220,9 +222,9 @@ fn list_sock_diag(
 }
 
 /// Appends the lines and the diagnostics of the messages of a datagram, which may answer one of
-/// `requests`. Stops at bytes that are not a message. Returns whether the datagram was listed
-/// completely. `number` is the number of its packet. `is_whole` is false if the packet was
-/// truncated.
+/// `requests`. Stops at bytes that are not a message. Returns whether the datagram is clean: each
+/// message is ([`list_message`]), and nothing follows the last one. `number` is the number of its
+/// packet. `is_whole` is false if the packet was truncated.
 fn list_datagram(
     written: &mut PacketOutput<'_>,
     requests: &Requests,
@@ -306,7 +308,7 @@ fn next_number(count: u64, limit: usize) -> u64
 }
 
 /// Appends the lines and the diagnostics of the message at this position, which may answer one of
-/// `requests`. Returns whether it has no diagnostic, or only a note.
+/// `requests`. Returns whether the message is clean: it has no diagnostic, or only a note.
 fn list_message(
     written: &mut PacketOutput<'_>,
     requests: &Requests,

@@ -44,8 +44,8 @@ pub(crate) enum FieldPart {
     NextTwo,
 }
 
-/// A row: the offset of a field in bytes, the number there, how the table shows it, its text there,
-/// and its name in JSON.
+/// A row: the offset of a field in bytes, which number or bits of it the row is about, how the
+/// table shows them, their text in the table, and their name in JSON.
 type FieldRow = (usize, FieldPart, Shown, &'static [u8], Option<&'static str>);
 
 /// A row.

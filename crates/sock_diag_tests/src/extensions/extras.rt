@@ -401,7 +401,7 @@ fn assert_tcp_fields(rt: &impl Abort, alloc: Global, bytes: &[u8], text: &str) {
 #[test]
 fn as_far_as_the_bytes_go(rt: HostRuntime) {
     // `tcpi_total_retrans` is the `u32` at offset 100. The `u32` at 272 with the bytes 0, 1 is 256.
-    let mut value = [0; 281];
+    let mut value = [0; 280];
     value[100] = 7;
     value[273] = 1;
     assert_tcp_fields(&rt, rt.alloc(), &value[..103], "(None, None, false)");

@@ -40,16 +40,16 @@ abbrev pub selects_sockets : Options → Bool
 selects_sockets options =
     selects_inet_protocol options || options.inet || options.inet6 || selects_other_family options
 
--- `lists_state options state`: sockets in this state are listed. If there is an option `--state`
--- (`states` is not 0), its states are listed. Else all states are, or with `-l` only TCP_LISTEN and
--- TCP_CLOSE, as in ss(8).
+-- `lists_state options state`: no socket is left out because it is in this state. If there is an
+-- option `--state` (`states` is not 0), these are its states. Else they are all, or with `-l` only
+-- TCP_LISTEN and TCP_CLOSE, as in ss(8).
 abbrev pub lists_state : Options → ℕ → Bool
 lists_state options state =
     if not (options.filter.states == 0) then has_state options.filter.states state
     else not options.listening || state == TCP_LISTEN || state == TCP_CLOSE
 
 -- `lists_unix options state`: a UNIX socket in this state is listed. Three conditions must hold:
--- `-x` is set, or no option that selects sockets is; sockets in this state are listed; and there is
+-- `-x` is set, or no option that selects sockets is; the state leaves no socket out; and there is
 -- no condition on a port or an address of an IPv4 or IPv6 socket.
 abbrev pub lists_unix : Options → ℕ → Bool
 lists_unix options state =
@@ -64,16 +64,16 @@ selects_protocol options (Some protocol) =
     if protocol == IPPROTO_TCP then options.tcp else if protocol == IPPROTO_UDP then options.udp
     else if protocol == IPPROTO_MPTCP then options.mptcp else false
 
--- `lists_protocol options protocol`: IPv4 and IPv6 sockets of this protocol are listed. They are if
--- the option of the protocol is set. If the option of no protocol is set, they also are if `-4` or
--- `-6` is set, or if the option of no other family is.
+-- `lists_protocol options protocol`: no IPv4 or IPv6 socket is left out because of this protocol.
+-- So it is if the option of the protocol is set; or if the option of no protocol is, and `-4` or
+-- `-6` is set, or the option of no other family is.
 abbrev pub lists_protocol : Options → Option ℕ → Bool
 lists_protocol options protocol = selects_protocol options protocol
     || (not (selects_inet_protocol options)
     && (options.inet || options.inet6 || not (selects_other_family options)))
 
--- `lists_version options is_ipv6`: IPv6 sockets are listed, or IPv4 sockets if `is_ipv6` is false:
--- the option of this version is set, or the option of the other one is not
+-- `lists_version options is_ipv6`: no IPv6 socket, or no IPv4 socket if `is_ipv6` is false, is left
+-- out because of its version: the option of this version is set, or that of the other one is not
 abbrev pub lists_version : Options → Bool → Bool
 lists_version options is_ipv6 =
     if is_ipv6 then options.inet6 || not options.inet else options.inet || not options.inet6
@@ -86,9 +86,9 @@ selects_family options Vsock = options.vsock
 selects_family options Xdp = options.xdp
 
 -- `lists_family options family state`: a socket of this family in this state is listed. Three
--- conditions must hold: the option of the family is set, or no option that selects sockets is;
--- sockets in this state are listed; and there is no condition on a port or an address of an IPv4 or
--- IPv6 socket.
+-- conditions must hold: the option of the family is set, or no option that selects sockets is; the
+-- state leaves no socket out; and there is no condition on a port or an address of an IPv4 or IPv6
+-- socket.
 abbrev pub lists_family : Options → Family → ℕ → Bool
 lists_family options family state =
     (selects_family options family || not (selects_sockets options)) && lists_state options state

@@ -145,10 +145,10 @@ impl Options {
             && !self.filter.has_endpoint_condition()
     }
 
-    /// Returns whether IPv4 and IPv6 sockets of a protocol, a number `IPPROTO_..`, are listed. They
-    /// are if the option of this protocol is set. If the option of no protocol is set, they also
-    /// are if `-4` or `-6` is set, or if the option of no other family is. If the protocol is not
-    /// known (`None`), any of the options of TCP, UDP and MPTCP counts.
+    /// Returns whether no IPv4 or IPv6 socket is left out because of its protocol, a number
+    /// `IPPROTO_..`: the option of this protocol is set; or the option of no protocol is, and `-4`
+    /// or `-6` is set, or the option of no other family is. If the protocol is not known (`None`),
+    /// any of the options of TCP, UDP and MPTCP counts.
     pub fn lists_protocol(self, protocol: Option<u32>) -> bool
         ensures { result ≡ lists_protocol self protocol }
     {
@@ -171,8 +171,8 @@ impl Options {
         }
     }
 
-    /// Returns whether IPv6 sockets are listed, or IPv4 sockets if `is_ipv6` is false. They are if
-    /// the option of this version is set, or if the option of the other one is not.
+    /// Returns whether no IPv6 socket, or no IPv4 socket if `is_ipv6` is false, is left out because
+    /// of its version: the option of this version is set, or that of the other one is not.
     pub fn lists_version(self, is_ipv6: bool) -> bool
         ensures { result ≡ lists_version self is_ipv6 }
     {
@@ -183,8 +183,9 @@ impl Options {
         }
     }
 
-    /// Returns whether sockets in a state are listed. If there is an option `--state`, its states
-    /// are listed. Else all states are, or with `-l` only `TCP_LISTEN` and `TCP_CLOSE` (`UNCONN`).
+    /// Returns whether no socket is left out because of its state. If there is an option `--state`,
+    /// the state has to be one of its states; else with `-l` `TCP_LISTEN` or `TCP_CLOSE`
+    /// (`UNCONN`).
     pub fn lists_state(self, state: u8) -> bool
         ensures { result ≡ lists_state self state }
     {
