@@ -1,2 +1,3 @@
 -- Lemmas about the definitions.
+pub mod Constants
 pub mod EqualTcpField
