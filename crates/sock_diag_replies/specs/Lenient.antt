@@ -33,8 +33,7 @@ rejection_model (lenient_error.Framing e) = framing_rejection e
 
 -- `lenient_item_by decode a`: the item for the attribute `a`. It is `Ok` of the value that the
 -- function `decode` decodes `a` to, or `Err` of the attribute and of the error with which `decode`
--- rejects it. `result_map_both f g r`: `Ok (f v)` if `r` is `Ok v`, and `Err (g e)` if `r` is `Err
--- e`.
+-- rejects it.
 abbrev pub lenient_item_by : {V : Type 0} → (Attribute → Result V DecodeError) → Attribute
     → Result V RejectionModel
 lenient_item_by decode a = result_map_both (λ value. value) (attribute_rejection a) (decode a)

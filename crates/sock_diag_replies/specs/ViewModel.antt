@@ -18,9 +18,7 @@ abbrev pub bytes_after_header : {H : Type 0} {of : Ghosts H} → ReplyView H of 
 bytes_after_header {of = of} view = drop of.reply.size (view_bytes view)
 
 -- `view_model view`: the header that the bytes start with, and what each attribute after it decodes
--- to, in order. `view.head.0` is the header by the invariant `head` of `ReplyView`. `reply_after
--- format header bytes`: the reply with this header and what the attributes in these bytes decode
--- to.
+-- to, in order. `view.head.0` is the header by the invariant `head` of `ReplyView`.
 abbrev pub view_model : {H : Type 0} {of : Ghosts H} → ReplyView H of → ReplyValue of.reply
 view_model {of = of} view = reply_after of.reply view.head.0 (bytes_after_header view)
 

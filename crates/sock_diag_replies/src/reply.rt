@@ -1,9 +1,10 @@
 //! Comparing, measuring and serializing replies of every family: a header followed by attributes.
 //!
-//! In the contracts `decode_attribute set` decodes an attribute by a set of attribute types.
-//! `HasNoAttributeError decode bytes`: the bytes split into attributes, and none of them has an
-//! error. `HasAttributeError decode bytes e`: `e` is their first error. `H.bytes header` are the
-//! bytes that the header serializes to, and `H.writable header` states that it is writable.
+//! In the contracts `serialized_attributes set values` are the attributes that owned values
+//! serialize as, and `encoded_attributes_in set bytes` those that the attributes in bytes serialize
+//! as. `header_and_attributes header attributes` are the bytes of a header and of such attributes.
+//! `HasWritableLengths header attributes` states that their lengths are writable: each value has at
+//! most 65,531 bytes, and the whole has at most 4,294,967,295.
 
 ghost use Rattle.std.specs.Prelude.{◌≡◌, ◌≤◌, ◌↔◌, length, map, Bool, IsSome, IfSome, IfErr, IfOk};
 ghost use Rattle.std.specs.Prelude.{OnOk, SomeIff};
@@ -42,7 +43,6 @@ pub fn same_views<'a, V: FamilyView<'a> + Drop>(left: &'a [u8], right: &'a [u8])
     requires right { HasNoAttributeError (decode_attribute V.attribute_set) right.now }
     // `test` is any function that computes `==` of two views from their models. `pointwise test xs
     // ys`: the lists have the same length, and `test` is true of the elements at each index.
-    // `decoded_in decode bytes`: what the attributes in the bytes decode to, in order.
     ensures { (test : AttributeValue V.attribute_set → AttributeValue V.attribute_set → Bool)
         → ((v w : V) → V.PartialEq.eq v w ≡ test (V.model v) (V.model w))
         → result ≡ pointwise test (decoded_in (decode_attribute V.attribute_set) left.entry.now)
@@ -66,11 +66,6 @@ pub fn same_views<'a, V: FamilyView<'a> + Drop>(left: &'a [u8], right: &'a [u8])
 /// header must be writable.
 pub(crate) fn reply_len<H: Emitable, T: FamilyNla>(header: &H, nlas: &[T]) -> Option<usize>
     requires { H.writable header.now }
-    // `serialized_attributes set values`: what the values of the attribute set serialize as.
-    // `HasWritableLengths header attributes`: each value has at most 65,531 bytes, and the whole
-    // has at most 4,294,967,295. `header_and_attributes header attributes`: the bytes of the
-    // header, and then of each attribute with its padding. `SomeIff result p n`: `Some n` if `p`
-    // holds, else `None`.
     ensures { let attributes = serialized_attributes T.attribute_set (map T.model nlas.now) in
         SomeIff result (HasWritableLengths (H.bytes header.now) attributes)
         (length (header_and_attributes (H.bytes header.now) attributes)) }
@@ -84,10 +79,6 @@ pub(crate) fn reply_len<H: Emitable, T: FamilyNla>(header: &H, nlas: &[T]) -> Op
 /// Returns the length of the serialized header and attributes, which must be writable.
 pub(crate) fn fitting_reply_len<H: Emitable, T: FamilyNla>(header: &H, nlas: &[T]) -> usize
     requires header { H.writable header.now }
-    // `serialized_attributes set values`: what the values of the attribute set serialize as.
-    // `HasWritableLengths header attributes`: each value has at most 65,531 bytes, and the whole
-    // has at most 4,294,967,295. `header_and_attributes header attributes`: the bytes of the
-    // header, and then of each attribute with its padding.
     requires fits { HasWritableLengths (H.bytes header.now)
         (serialized_attributes T.attribute_set (map T.model nlas.now)) }
     ensures { result ≡ length (header_and_attributes (H.bytes header.now)
@@ -100,16 +91,10 @@ pub(crate) fn fitting_reply_len<H: Emitable, T: FamilyNla>(header: &H, nlas: &[T
 /// unchanged. Both must be writable, and the buffer must have at least their length.
 pub(crate) fn emit_reply<H: Emitable, T: FamilyNla>(header: &H, nlas: &[T], buffer: &mut [u8])
     requires header { H.writable header.now }
-    // `serialized_attributes set values`: what the values of the attribute set serialize as.
-    // `HasWritableLengths header attributes`: each value has at most 65,531 bytes, and the whole
-    // has at most 4,294,967,295. `header_and_attributes header attributes`: the bytes of the
-    // header, and then of each attribute with its padding.
     requires fits { HasWritableLengths (H.bytes header.now)
         (serialized_attributes T.attribute_set (map T.model nlas.now)) }
     requires room { length (header_and_attributes (H.bytes header.now)
         (serialized_attributes T.attribute_set (map T.model nlas.now))) ≤ length buffer.old }
-    // `HoldsAtStart serialized old new`: the buffer `new` is `serialized` and then the bytes of
-    // `old` from this offset on.
     ensures written { HoldsAtStart (header_and_attributes (H.bytes header.now)
         (serialized_attributes T.attribute_set (map T.model nlas.now))) buffer.old buffer.new }
     // Each number of the header and of the attributes fits its field, which follows from their Rust
@@ -135,10 +120,6 @@ pub(crate) fn check_reply_len<'a, H: Emitable, V: FamilyView<'a> + Drop>(
     requires { H.writable header.now }
     ensures clean { OnOk result (HasNoAttributeError
         (decode_attribute V.attribute_set) bytes.entry.now) }
-    // `encoded_attributes_in set bytes`: the attributes in the bytes, each decoded by the attribute
-    // set and serialized again. `HasWritableLengths header attributes`: each value has at most
-    // 65,531 bytes, and the whole has at most 4,294,967,295. `header_and_attributes header
-    // attributes`: the bytes of the header, and then of each attribute with its padding.
     ensures len { let attributes = encoded_attributes_in V.attribute_set bytes.entry.now in
         IfOk result (λ len. SomeIff len (HasWritableLengths (H.bytes header.now) attributes)
         (length (header_and_attributes (H.bytes header.now) attributes))) }
@@ -164,10 +145,6 @@ pub(crate) fn reply_view_len<'a, H: Emitable, V: FamilyView<'a> + Drop>(
 ) -> Option<usize>
     requires header { H.writable header.now }
     requires clean { HasNoAttributeError (decode_attribute V.attribute_set) bytes.now }
-    // `encoded_attributes_in set bytes`: the attributes in the bytes, each decoded by the attribute
-    // set and serialized again. `HasWritableLengths header attributes`: each value has at most
-    // 65,531 bytes, and the whole has at most 4,294,967,295. `header_and_attributes header
-    // attributes`: the bytes of the header, and then of each attribute with its padding.
     ensures fits { IsSome result ↔ HasWritableLengths (H.bytes header.now)
         (encoded_attributes_in V.attribute_set bytes.entry.now) }
     ensures len { IfSome result (λ len. len ≡ length (header_and_attributes (H.bytes header.now)
@@ -191,16 +168,10 @@ pub(crate) fn emit_reply_view<'a, H: Emitable, V: FamilyView<'a> + Drop>(
 )
     requires header { H.writable header.now }
     requires clean { HasNoAttributeError (decode_attribute V.attribute_set) bytes.now }
-    // `encoded_attributes_in set bytes`: the attributes in the bytes, each decoded by the attribute
-    // set and serialized again. `HasWritableLengths header attributes`: each value has at most
-    // 65,531 bytes, and the whole has at most 4,294,967,295.
     requires fits { HasWritableLengths (H.bytes header.now)
         (encoded_attributes_in V.attribute_set bytes.now) }
     requires room { length (header_and_attributes (H.bytes header.now)
         (encoded_attributes_in V.attribute_set bytes.now)) ≤ length buffer.old }
-    // `HoldsAtStart serialized old new`: the buffer `new` is `serialized` and then the bytes of
-    // `old` from this offset on. `header_and_attributes header attributes`: the bytes of the
-    // header, and then of each attribute with its padding.
     ensures { HoldsAtStart (header_and_attributes (H.bytes header.now)
         (encoded_attributes_in V.attribute_set bytes.entry.now)) buffer.old buffer.new }
 {

@@ -1,10 +1,9 @@
 //! Owned replies of any family.
 //!
-//! In the contracts `H.reply` is the format of the replies with the header `H`: the codec of the
-//! header, and the set of the attribute types. `H.Nla` is the type of the owned attributes.
-//! `with_attribute_set H.reply set` is this format with their set. `response_codec format` is the
-//! codec of the replies of a format. `response_model of_header of reply` is the model of a reply:
-//! the model `of_header` of its header, and the model `of` of each attribute, in order.
+//! In the contracts `H.reply` is the format of the replies with the header `H`, and
+//! `with_attribute_set H.reply set` is this format with the set of the owned attributes, `H.Nla`.
+//! `response_model H.header_model H.Nla.FamilyNla.model reply` is the model of a reply: the models
+//! of its header and of its attributes.
 
 ghost use Rattle.std.specs.Prelude.{◌≡◌, ◌≤◌, ◌↔◌, ℕ, List, [], length, map, IfOk, IsOk, OnOk};
 ghost use Rattle.std.specs.Prelude.{IsTrue, true, refl};
@@ -45,12 +44,9 @@ pub trait ReplyOwned: ReplyHeader + Exact + Emitable {
     /// The name of the owned reply, as `Debug` prints it.
     const REPLY: &'static str;
 
-    // `==` is true if and only if the models of the headers are equal.
     ghost eq_is_model: { (v w : Self) → IsTrue (Self.PartialEq.eq v w)
         ↔ (Self.ReplyHeader.header_model v ≡ Self.ReplyHeader.header_model w) };
 
-    // A header serializes to the bytes of its model, is always writable, and has a model in range
-    // if it is in range.
     ghost bytes_by_codec: { (header : Self) → Self.Emitable.bytes header
         ≡ Self.ReplyHeader.reply.header.bytes (Self.ReplyHeader.header_model header) };
 
@@ -60,21 +56,18 @@ pub trait ReplyOwned: ReplyHeader + Exact + Emitable {
         → Self.ReplyHeader.reply.header.is_in_range (Self.ReplyHeader.header_model header) };
 
     // The next four members relate the attribute set of the borrowed attributes (`view_set`) to
-    // that of the owned attributes (`set`). An error of bytes by `view_set` is their error by
-    // `set`.
+    // that of the owned attributes (`set`).
     ghost same_errors: { let set = Self.Nla.FamilyNla.attribute_set in
         let view_set = Self.ReplyHeader.reply.attribute_set in
         (bytes : List ℕ) (error : DecodeError)
         → HasAttributeError (decode_attribute view_set) bytes error
         → HasAttributeError (decode_attribute set) bytes error };
 
-    // Bytes that have no error by `view_set` have none by `set`.
     ghost both_accept: { let set = Self.Nla.FamilyNla.attribute_set in
         let view_set = Self.ReplyHeader.reply.attribute_set in
         (bytes : List ℕ) → HasNoAttributeError (decode_attribute view_set) bytes
         → HasNoAttributeError (decode_attribute set) bytes };
 
-    // Both find the same number of values in any bytes.
     ghost same_count: { let set = Self.Nla.FamilyNla.attribute_set in
         let view_set = Self.ReplyHeader.reply.attribute_set in
         (bytes : List ℕ) → length (decoded_in (decode_attribute view_set) bytes)
@@ -87,7 +80,6 @@ pub trait ReplyOwned: ReplyHeader + Exact + Emitable {
         → map (encode_attribute view_set) (decoded_in (decode_attribute view_set) bytes)
         ≡ map (encode_attribute set) (decoded_in (decode_attribute set) bytes) };
 
-    // The codec over the owned attributes satisfies the codec laws.
     ghost keeps: { KeepsCodecLaws (response_codec
         (with_attribute_set Self.ReplyHeader.reply Self.Nla.FamilyNla.attribute_set)) };
 }
@@ -107,11 +99,9 @@ impl<H: ReplyOwned> Reply<H, H::Nla> {
     /// Returns an equal reply. Fails only if an allocation fails. Cloning a reply of at most eight
     /// attributes that need no memory never fails. A raw attribute counts as one that needs memory.
     pub fn clone(&self, alloc: Global) -> Result<Self, AllocError>
-        // Both replies have the same model.
         ensures equal { IfOk result (λ copy.
             response_model H.header_model H.Nla.FamilyNla.model copy
             ≡ response_model H.header_model H.Nla.FamilyNla.model self.now) }
-        // `needs_no_memory`: the reply has at most eight attributes, and none of them needs memory.
         ensures needs_no_memory { let set = H.Nla.FamilyNla.attribute_set in
             let format = with_attribute_set H.reply set in
             (response_codec format).needs_no_memory
@@ -173,8 +163,7 @@ impl<H: ReplyOwned> ReplyView<'_, H> {
     // Returns whether there is no attribute.
     #[inline(always)]
     fn is_empty(&self) -> bool
-        // Only this direction, since callers need no other. `decoded_in decode bytes`: what the
-        // attributes in the bytes decode to. `bytes_after_header view`: the bytes after the header.
+        // Only this direction, since callers need no other.
         ensures { IsTrue result → decoded_in (decode_attribute H.Nla.FamilyNla.attribute_set)
             (bytes_after_header self.now) ≡ [] }
     {
@@ -186,12 +175,9 @@ impl<H: ReplyOwned> ReplyView<'_, H> {
     // room for eight, and there are at most eight attributes, none of which needs memory.
     fn own_into(&self, alloc: Global, nlas: &mut SmallVec<H::Nla, 8>) -> Result<(), AllocError>
         requires { nlas.old.items ≡ [] }
-        // `decoded_in decode bytes`: what the attributes in the bytes decode to, in order.
-        // `bytes_after_header view`: the bytes after the header.
         ensures equal { OnOk result (map H.Nla.FamilyNla.model nlas.new.items
             ≡ decoded_in (decode_attribute H.Nla.FamilyNla.attribute_set)
             (bytes_after_header self.now)) }
-        // `NeedsNoMemoryIn set v`: the value `v` needs no memory.
         ensures needs_no_memory { let set = H.Nla.FamilyNla.attribute_set in
             let values = decoded_in (decode_attribute set) (bytes_after_header self.now) in
             nlas.old.capacity ≡ 8
@@ -208,13 +194,9 @@ impl<H: ReplyOwned> ReplyView<'_, H> {
     /// attribute. Fails only if an allocation fails. Never fails for at most eight attributes that
     /// need no memory. A raw attribute counts as one that needs memory.
     pub fn to_owned(&self, alloc: Global) -> Result<Reply<H, H::Nla>, AllocError>
-        // `reply_after format header bytes`: the reply with this header and what the attributes in
-        // these bytes decode to. Here they are those of the view: `(view_model self.now).header`
-        // and `bytes_after_header self.now`.
         ensures equal { let format = with_attribute_set H.reply H.Nla.FamilyNla.attribute_set in
             IfOk result (λ reply. response_model H.header_model H.Nla.FamilyNla.model reply
             ≡ reply_after format (view_model self.now).header (bytes_after_header self.now)) }
-        // `needs_no_memory`: the reply has at most eight attributes, and none of them needs memory.
         ensures needs_no_memory { let set = H.Nla.FamilyNla.attribute_set in
             let format = with_attribute_set H.reply set in
             (response_codec format).needs_no_memory
@@ -234,9 +216,7 @@ impl<H: ReplyOwned> ReplyView<'_, H> {
     /// not moved there.
     #[inline(always)]
     pub fn to_boxed(&self, alloc: Global) -> Result<Box<Reply<H, H::Nla>>, AllocError>
-        // `reply.value`: the reply in the box. `reply_after format header bytes`: the reply with
-        // this header and what the attributes in these bytes decode to. Here they are those of the
-        // view: `(view_model self.now).header` and `bytes_after_header self.now`.
+        // `reply.value`: the reply in the box.
         ensures { let format = with_attribute_set H.reply H.Nla.FamilyNla.attribute_set in
             IfOk result (λ reply. response_model H.header_model H.Nla.FamilyNla.model reply.value
             ≡ reply_after format (view_model self.now).header (bytes_after_header self.now)) }
@@ -254,8 +234,6 @@ impl<H: ReplyOwned> ReplyView<'_, H> {
 impl<H: ReplyOwned> Emitable for Reply<H, H::Nla> {
     ghost use Rattle.sock_diag_replies.specs.ResponseModel.{response_model};
 
-    // `response_bytes reply v`: the bytes of the reply `v`, its header and its attributes with
-    // their padding. `is_writable v`: it is writable. `is_in_range v`: each number fits its field.
     ghost bytes = { λ v. response_bytes
         (with_attribute_set H.reply H.Nla.FamilyNla.attribute_set)
         (response_model H.header_model H.Nla.FamilyNla.model v) };
@@ -299,8 +277,6 @@ impl<H: ReplyOwned> HasCodec for Reply<H, H::Nla> {
     // A reply is not a message.
     ghost serialized_type = { λ _. 0 };
 
-    // `==` of two replies is true if and only if their models are equal, since this holds of their
-    // headers and of their attributes.
     ghost eq_is_model = { responses_equal H.header_model H.Nla.FamilyNla.model
         H.ReplyOwned.eq_is_model
         H.Nla.FamilyNla.eq_is_model };
@@ -347,8 +323,6 @@ fn write_reply<H: ReplyHeader>(
     len: usize,
 ) -> Result<Vec<u8>, AllocError>
     requires clean { HasNoAttributeError (decode_attribute H.reply.attribute_set) bytes.now }
-    // `reply_after format header bytes`: the reply with this header and what the attributes in the
-    // bytes decode to. `response_bytes format v`: the bytes that the reply `v` serializes to.
     requires fits { (response_codec H.reply).is_writable
         (reply_after H.reply (H.header_model header.now) bytes.now) }
     requires len { len ≡ length (response_bytes H.reply

@@ -1,10 +1,8 @@
 //! Borrowed replies of any family.
 //!
 //! In the contracts `reply`, or `H.reply`, is the format of the replies with the header `H`.
-//! `decode_attribute set` decodes an attribute by a set of attribute types. `HasNoAttributeError
-//! decode bytes`: the bytes split into attributes, and none of them has an error.
-//! `HasAttributeError decode bytes e`: `e` is their first error. `decoded_in decode bytes`: what
-//! they decode to, in order. `response_codec format` is the codec of the replies of a format.
+//! `response_codec reply` is the codec of these replies, and `reply_after reply header bytes` the
+//! reply with this header and the attributes in these bytes, decoded.
 
 ghost use Rattle.std.specs.Prelude.{◌≡◌, ◌≢◌, ◌≤◌, ◌↔◌, ⊤, ℕ, List, Bool, length, drop, map, Ok};
 ghost use Rattle.std.specs.Prelude.{Err, OnOk, IfOk, IfErr, IsTrue, Some, IfSome, SomeIff};
@@ -39,8 +37,6 @@ pub trait ReplyHeader: Drop + Sized {
     // `reply`: the format of the replies, as the codec of the header, its size, and the set of the
     // attributes after it. `header_model`: the model of a header. `test`: the comparison of two
     // replies, which is true if and only if they are equal (`test_decides`, below).
-    // `reply.header.parses tt bytes`: the model of the header at the start of the bytes, or the
-    // error that rejects it.
     ghost reply: { ResponseSpec };
 
     ghost header_model: { Self → reply.header.Value };
@@ -60,7 +56,6 @@ pub trait ReplyHeader: Drop + Sized {
     /// Checks each attribute in `bytes`, the bytes after a header, and returns their number, or
     /// returns the first error. Does not allocate.
     fn check(bytes: &[u8]) -> Result<usize, DecodeError>
-        // `reply.attribute_set`: the attribute types of these replies.
         ensures clean { OnOk result (HasNoAttributeError (decode_attribute reply.attribute_set)
             bytes.now) }
         ensures count { IfOk result (λ count.
@@ -73,9 +68,6 @@ pub trait ReplyHeader: Drop + Sized {
     /// the value of an attribute then has more than 65,531 bytes, or if the whole has more than
     /// 4,294,967,295 bytes. Does not allocate.
     fn check_len(&self, bytes: &[u8]) -> Result<Option<usize>, DecodeError>
-        // `reply_after reply header bytes`: the reply `v` with this header and the attributes in
-        // these bytes. `is_writable v`: it is writable. `response_bytes reply v`: what it
-        // serializes to.
         ensures clean { OnOk result (HasNoAttributeError (decode_attribute reply.attribute_set)
             bytes.now) }
         ensures len { let v = reply_after reply (header_model self.now) bytes.now in
@@ -89,8 +81,6 @@ pub trait ReplyHeader: Drop + Sized {
     fn is_same(&self, left: &[u8], other: &Self, right: &[u8]) -> bool
         requires left { HasNoAttributeError (decode_attribute reply.attribute_set) left.now }
         requires right { HasNoAttributeError (decode_attribute reply.attribute_set) right.now }
-        // `test v w`: whether the replies `v` and `w` are equal. `reply_after reply header bytes`:
-        // the reply with this header and the attributes in these bytes.
         ensures { result ≡ test
             (reply_after reply (header_model self.now) left.now)
             (reply_after reply (header_model other.now) right.now) };
@@ -99,8 +89,6 @@ pub trait ReplyHeader: Drop + Sized {
     /// Returns `None` if the reply is not writable. `bytes` must not contain a decode error.
     fn len_with(&self, bytes: &[u8]) -> Option<usize>
         requires { HasNoAttributeError (decode_attribute reply.attribute_set) bytes.now }
-        // `v`: the reply with this header and the attributes in `bytes`. The result is `Some` of
-        // the length of its bytes if it is writable, else `None`.
         ensures { let v = reply_after reply (header_model self.now) bytes.now in
             SomeIff result ((response_codec reply).is_writable v)
             (length (response_bytes reply v)) };
@@ -110,15 +98,11 @@ pub trait ReplyHeader: Drop + Sized {
     /// reply must be writable, and the buffer must have at least its length.
     fn emit_with(&self, bytes: &[u8], buffer: &mut [u8])
         requires clean { HasNoAttributeError (decode_attribute reply.attribute_set) bytes.now }
-        // `reply_after reply header bytes`: the reply with this header and the attributes in these
-        // bytes. `response_bytes reply v`: what the reply `v` serializes to.
         requires fits { (response_codec reply).is_writable
             (reply_after reply (header_model self.now) bytes.now) }
         requires room { length (response_bytes reply
             (reply_after reply (header_model self.now) bytes.now))
             ≤ length buffer.old }
-        // `HoldsAtStart serialized old new`: the buffer `new` is `serialized` and then the bytes of
-        // `old` from this offset on.
         ensures { HoldsAtStart (response_bytes reply (reply_after reply
             (header_model self.now) bytes.now)) buffer.old buffer.new };
 
@@ -126,10 +110,8 @@ pub trait ReplyHeader: Drop + Sized {
     ghost complete_header: { (bytes : List ℕ) (header : reply.header.Value)
         → reply.header.parses tt bytes ≡ Ok header → reply.size ≤ length bytes };
 
-    // The codec of the replies satisfies the codec laws.
     ghost keeps: { KeepsCodecLaws (response_codec reply) };
 
-    // The comparison is true if and only if the replies are equal.
     ghost test_decides: { (v w : ReplyValue reply) → IsTrue (test v w) ↔ (v ≡ w) };
 }
 
@@ -157,14 +139,12 @@ pub struct ReplyView<'a, H: ReplyHeader> {
     // The number of attributes.
     count: usize,
     header: PhantomData<H>,
-    // The bytes are at least as long as a header.
     ghost long: { H.reply.size ≤ length bytes.now },
     // The model of the header at the start of the bytes, and that they parse as it. `by`: there is
     // at most one such model.
     ghost head: { (h : H.reply.header.Value)
         × (H.reply.header.parses tt bytes.now ≡ Ok h) } by { result_has_one_value
             (H.reply.header.parses tt bytes.now) },
-    // The attributes after the header have no error, and `count` is their number.
     ghost clean: { HasNoAttributeError (decode_attribute H.reply.attribute_set)
         (drop H.reply.size bytes.now) },
     ghost counted: { count
@@ -175,7 +155,6 @@ pub struct ReplyView<'a, H: ReplyHeader> {
 impl<H: ReplyHeader> Copy for ReplyView<'_, H> {}
 
 impl<H: ReplyHeader> Clone for ReplyView<'_, H> {
-    // A clone is the same view. Cloning never fails.
     ghost is_clone = { λ view copy. copy ≡ view };
 
     ghost is_infallible = { λ _. ⊤ };
@@ -203,8 +182,6 @@ impl<'a, H: ReplyHeader> ReplyView<'a, H> {
     /// error is never `Memory`. Does not allocate.
     #[inline(always)]
     pub fn parse(bytes: &'a [u8]) -> Result<ReplyView<'a, H>, DecodeError>
-        // `view_model view`: the header and the decoded attributes of the view. `view_bytes view`:
-        // all of its bytes.
         ensures value { IfOk result (λ view.
             (response_codec H.reply).parses bytes.entry.now tt (view_model view)) }
         ensures kept { IfOk result (λ view. view_bytes view ≡ bytes.entry.now) }
@@ -264,19 +241,14 @@ impl<'a, H: ReplyViews<'a>> ReplyView<'a, H> {
     /// [`ReplyView::parse`] rejects the bytes with the same error.
     #[inline(always)]
     pub fn walk(bytes: &'a [u8]) -> Result<(H, CheckedNlas<'a, H::View>), DecodeError>
-        // `found.0` is the header, `found.1` the iterator. `H.reply.header`: the codec of the
-        // header.
+        // `found.0` is the header, `found.1` the iterator.
         ensures header { IfOk result (λ found.
             H.reply.header.parses tt bytes.entry.now ≡ Ok (H.header_model found.0)) }
-        // The iterator starts at the bytes after the header: these are `unchecked_bytes`, the bytes
-        // that it has neither read nor checked yet.
         ensures left { IfOk result (λ found.
             unchecked_bytes found.1 ≡ drop H.reply.size bytes.entry.now) }
-        // `reply`: the codec of these replies, with the attributes as `H::View` decodes them.
-        // If the iterator yields exactly the attributes `nlas`, without an error, and then `None`,
-        // the bytes parse as the header and these attributes. `gives`: what one call of `next`
-        // does. `Drains gives iterator items`: calling `next` until it returns `None` yields
-        // exactly these items.
+        // `reply`: the codec of these replies, with the attributes as `H::View` decodes them. If
+        // the iterator yields exactly the attributes `nlas`, without an error, and then `None`, the
+        // bytes parse as the header and these attributes.
         ensures value { let reply = response_codec
             (with_attribute_set H.reply H.View.FamilyView.attribute_set) in
             let gives = ⟦<CheckedNlas<'a, H::View> as Iterator>⟧.next_gives in
@@ -287,8 +259,7 @@ impl<'a, H: ReplyViews<'a>> ReplyView<'a, H> {
               nlas = map H.View.FamilyView.model nlas;
             })) }
         // If the iterator yields the attributes `nlas`, and then the error `e`, the bytes are
-        // rejected with `e`. `YieldsThen gives iterator items item last`: `next` yields these items
-        // and then this item, after which the iterator is `last`.
+        // rejected with `e`.
         ensures refused { let reply = response_codec
             (with_attribute_set H.reply H.View.FamilyView.attribute_set) in
             let gives = ⟦<CheckedNlas<'a, H::View> as Iterator>⟧.next_gives in
@@ -304,7 +275,6 @@ impl<'a, H: ReplyViews<'a>> ReplyView<'a, H> {
 
     /// Returns an iterator over the attributes, in wire order.
     pub fn attributes(&self) -> AttributeViews<'a, H>
-        // `unread_attributes result`: the bytes that the iterator has not read yet.
         ensures { unread_attributes result ≡ bytes_after_header self.now }
     {
         AttributeViews {
@@ -338,7 +308,6 @@ impl<H: ReplyHeader> PartialEq for ReplyView<'_, H> {
 impl<H: ReplyHeader> Eq for ReplyView<'_, H> {
     ghost use Rattle.sock_diag_replies.specs.ViewModel.{view_model};
 
-    // `==` is an equivalence, since it compares the models (`test_decides`).
     ghost laws = { equivalence _ view_model (λ v w. H.test_decides _ _) };
 }
 
@@ -378,7 +347,6 @@ pub struct AttributeViews<'a, H: ReplyHeader> {
     // The number of attributes that were not yielded yet.
     count: usize,
     header: PhantomData<H>,
-    // The attributes that are left have no error, and `count` is their number.
     ghost clean: { HasNoAttributeError (decode_attribute H.reply.attribute_set)
         (unread_bytes walk) },
     ghost counted: { count ≡ length
@@ -388,7 +356,7 @@ pub struct AttributeViews<'a, H: ReplyHeader> {
 impl<H: ReplyHeader> Clone for AttributeViews<'_, H> {
     ghost use Rattle.sock_diag_replies.specs.ViewModel.{unread_attributes};
 
-    // A clone has the same attributes left. Cloning never fails.
+    // A clone has the same attributes left.
     ghost is_clone = { λ views copy. decoded_in (decode_attribute H.reply.attribute_set)
         (unread_attributes copy)
         ≡ decoded_in (decode_attribute H.reply.attribute_set) (unread_attributes views) };
@@ -409,17 +377,13 @@ impl<'a, H: ReplyViews<'a>> Iterator for AttributeViews<'a, H> {
 
     type Item = H::View;
 
-    // `YieldsFirstBy model rest old given new`: `given` is `Some` of a value whose model is the
-    // first element of the list `rest old`, and `rest new` is the list of the others; or `given` is
-    // `None`, and both lists are empty. Here the list is what the attributes that are left decode
-    // to, in order. So a call yields the first attribute that is left, and returns `None` if and
-    // only if none is left.
+    // A call yields the first attribute that is left, and returns `None` if and only if none is
+    // left.
     ghost next_gives = { λ old given new. YieldsFirstBy H.View.FamilyView.model (λ walk.
         decoded_in (decode_attribute H.View.FamilyView.attribute_set) (unread_bytes walk)) old.walk
         given
         new.walk };
 
-    // `next` yields at most as many attributes as are left.
     ghost remaining = { λ views. at_most (length
         (decoded_in (decode_attribute H.View.FamilyView.attribute_set)
         (unread_attributes views))) };
@@ -433,8 +397,6 @@ impl<'a, H: ReplyViews<'a>> Iterator for AttributeViews<'a, H> {
 
     /// Returns the exact number of attributes that were not yielded yet.
     fn size_hint(&self) -> (usize, Option<usize>)
-        // `unread_attributes self.now`: the bytes that the iterator has not read yet. `left`: what
-        // they decode to. Both bounds are its length.
         ensures exact { let left = decoded_in (decode_attribute H.View.FamilyView.attribute_set)
             (unread_attributes self.now) in
             result ≡ (length left, Some (length left)) }

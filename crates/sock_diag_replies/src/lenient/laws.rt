@@ -36,11 +36,6 @@ use std::alloc::AllocError;
 /// States which items a `LenientNlas` yields until its end: for each attribute in the bytes left,
 /// in order, its value or its error; and last the framing error, if there is one.
 pub fn complete_lenient_iteration<'a, V: FamilyView<'a>>()
-    // `Drains step walk given`: calling `next` on the iterator `walk` until it returns `None`
-    // yields exactly `given`. `YieldsLenientItem ..`: what one call of `next` does.
-    // `HasLenientItems set bytes items`: these are all items of the bytes. `unread_lenient_bytes
-    // walk`: the bytes that `walk` has not read yet. `lenient_item_model ..`: the model of a
-    // yielded item.
     ensures items { (walk : LenientNlas V) (given : List (Result V LenientError))
         → Drains (YieldsLenientItem V.attribute_set V.model) walk given
         → HasLenientItems V.attribute_set (unread_lenient_bytes walk)
@@ -49,8 +44,6 @@ pub fn complete_lenient_iteration<'a, V: FamilyView<'a>>()
 
 /// States that bytes have at most one list of lenient items.
 pub fn one_list_of_lenient_items<'a, V: FamilyView<'a>>()
-    // `HasLenientItems set bytes items`: these are all items of the bytes, in order. Any two such
-    // lists are equal.
     ensures { (bytes : List ℕ)
         (items others : List (Result (AttributeValue V.attribute_set) RejectionModel))
         → HasLenientItems V.attribute_set bytes items
@@ -62,17 +55,11 @@ pub fn one_list_of_lenient_items<'a, V: FamilyView<'a>>()
 /// them (`strict`). If every item that it yields is a value (`map Ok views`), the bytes decode to
 /// these values (`accepted`).
 pub fn lenient_walk_of_good_bytes<'a, V: FamilyView<'a>>()
-    // `HasNoAttributeError (decode_attribute set) bytes`: the bytes split into attributes, and each
-    // of them decodes by the set. `unread_lenient_bytes walk`: the bytes left to the iterator
-    // `walk`. `Drains (YieldsLenientItem ..) walk given`: `walk` yields exactly `given` until its
-    // end. `lenient_item_model ..`: the model of an item. `decoded_in decode bytes`: what the
-    // attributes in the bytes decode to, in order.
     ensures strict { (walk : LenientNlas V) (given : List (Result V LenientError))
         → HasNoAttributeError (decode_attribute V.attribute_set) (unread_lenient_bytes walk)
         → Drains (YieldsLenientItem V.attribute_set V.model) walk given
         → map (lenient_item_model V.attribute_set V.model) given
         ≡ map Ok (decoded_in (decode_attribute V.attribute_set) (unread_lenient_bytes walk)) }
-    // `DecodeTo decode bytes values`: the bytes have no error, and decode to these values.
     ensures accepted { (walk : LenientNlas V) (views : List V)
         → Drains (YieldsLenientItem V.attribute_set V.model) walk (map Ok views)
         → DecodeTo (decode_attribute V.attribute_set) (unread_lenient_bytes walk)
@@ -84,8 +71,6 @@ pub fn lenient_walk_of_good_bytes<'a, V: FamilyView<'a>>()
 /// bytes of the header.
 #[tactic(auto, unfolding(sock_diag_records::specs::InetResponse::inet_response_header))]
 pub fn lenient_inet_header<'a>(bytes: &'a [u8]) -> Result<LenientInetReply<'a>, DecodeError>
-    // `parse_record layout tt bytes`: the header at the start of the bytes, or the error that
-    // rejects it. `lenient_attribute_bytes lenient`: the bytes after the header.
     ensures header { IfOk result (λ lenient.
         parse_record inet_response_header tt bytes.entry.now ≡ Ok (lenient_header lenient)) }
     ensures attributes { IfOk result (λ lenient.
@@ -103,9 +88,6 @@ pub fn lenient_inet_header<'a>(bytes: &'a [u8]) -> Result<LenientInetReply<'a>, 
 pub fn lenient_inet_attribute<'a>(
     reply: &LenientInetReply<'a>,
 ) -> Option<Result<InetNlaView<'a>, LenientError<'a>>>
-    // `None`: no bytes follow the header (`lenient_attribute_bytes`). `Some(item)`: the model of
-    // `item` (`lenient_item_model`) is the first item of these bytes, and `later` are the bytes
-    // after it (`StartsWithLenientItem set left item later`).
     ensures { MatchOption result (lenient_attribute_bytes reply.now ≡ []) (λ item. (later : List ℕ)
         × StartsWithLenientItem inet_attribute_set (lenient_attribute_bytes reply.now)
         (lenient_item_model inet_attribute_set inet_view_model item) later) }
@@ -117,8 +99,6 @@ pub fn lenient_inet_attribute<'a>(
 /// States that it has the header of these replies, and that its attributes follow the 16 bytes of
 /// the header.
 pub fn lenient_unix_header<'a>(bytes: &'a [u8]) -> Result<LenientUnixReply<'a>, DecodeError>
-    // `parse_record layout tt bytes`: the header at the start of the bytes, or the error that
-    // rejects it. `lenient_attribute_bytes lenient`: the bytes after the header.
     ensures header { IfOk result (λ lenient.
         parse_record unix_response_header tt bytes.entry.now ≡ Ok (lenient_header lenient)) }
     ensures attributes { IfOk result (λ lenient.
@@ -136,9 +116,6 @@ pub fn lenient_unix_header<'a>(bytes: &'a [u8]) -> Result<LenientUnixReply<'a>, 
 pub fn lenient_unix_attribute<'a>(
     reply: &LenientUnixReply<'a>,
 ) -> Option<Result<UnixNlaView<'a>, LenientError<'a>>>
-    // `None`: no bytes follow the header (`lenient_attribute_bytes`). `Some(item)`: the model of
-    // `item` (`lenient_item_model`) is the first item of these bytes, and `later` are the bytes
-    // after it (`StartsWithLenientItem set left item later`).
     ensures { MatchOption result (lenient_attribute_bytes reply.now ≡ []) (λ item. (later : List ℕ)
         × StartsWithLenientItem unix_attribute_set (lenient_attribute_bytes reply.now)
         (lenient_item_model unix_attribute_set unix_view_model item) later) }
@@ -150,7 +127,6 @@ pub fn lenient_unix_attribute<'a>(
 /// that `clone` never fails.
 pub fn copied_lenient_error<'a>(error: &LenientError<'a>) -> Result<LenientError<'a>, AllocError>
     ensures ok { IsOk result }
-    // `rejection_model error`: the rejected attribute, if there is one, and the `DecodeError`.
     ensures same { IfOk result (λ copy. rejection_model copy ≡ rejection_model error.now) }
 {
     error.clone()

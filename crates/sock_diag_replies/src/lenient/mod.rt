@@ -37,8 +37,6 @@ impl<'a> LenientError<'a> {
 
     /// Returns the error.
     pub fn error(&self) -> DecodeError
-        // `rejection_model error`: the model of an error. It has the `DecodeError`, and the
-        // rejected attribute.
         ensures { result ≡ (rejection_model self.now).error }
     {
         match self {
@@ -49,8 +47,6 @@ impl<'a> LenientError<'a> {
     /// Returns the rejected attribute: `kind()` is its type field without the two flag bits, and
     /// `value()` its bytes. Returns `None` for a framing error.
     pub fn attribute(&self) -> Option<NlaBuffer<'a>>
-        // `buffered_attribute nla`: the attribute in the buffer. `rejection_model error`: the model
-        // of an error, whose `attribute` is `None` for a framing error.
         ensures { option_map buffered_attribute result ≡ (rejection_model self.now).attribute }
     {
         match self {
@@ -62,8 +58,6 @@ impl<'a> LenientError<'a> {
     /// Returns the kind of the rejected attribute, its type field without the two flag bits, or
     /// `None` for a framing error.
     pub fn kind(&self) -> Option<u16>
-        // `rejection_model error`: the model of an error, whose `attribute` is `None` for a framing
-        // error. `attribute_kind attribute`: its type field without the two flag bits.
         ensures { result ≡ option_map attribute_kind (rejection_model self.now).attribute }
     {
         match self {
@@ -86,7 +80,6 @@ pub struct LenientNlas<'a, V> {
 impl<'a, V> LenientNlas<'a, V> {
     /// Returns an iterator over the attributes in the bytes.
     pub fn new(bytes: &'a [u8]) -> LenientNlas<'a, V>
-        // `unread_lenient_bytes result`: the bytes that the iterator has not read yet.
         ensures { unread_lenient_bytes result ≡ bytes.entry.now }
     {
         LenientNlas {
@@ -101,12 +94,8 @@ impl<'a, V: FamilyView<'a>> Iterator for LenientNlas<'a, V> {
 
     type Item = Result<V, LenientError<'a>>;
 
-    // `next` yields the value of the first attribute in the bytes left, or its error, and leaves
-    // the bytes after its padding. If no attribute is there, it yields the framing error, and
-    // leaves no bytes.
     ghost next_gives = { YieldsLenientItem V.attribute_set V.model };
 
-    // `max_lenient_items nlas`: one item for each four bytes, rounded up.
     ghost remaining = { λ nlas. at_most (max_lenient_items nlas) };
 
     #[inline(always)]
@@ -126,7 +115,7 @@ impl<'a, V: FamilyView<'a>> Iterator for LenientNlas<'a, V> {
         ensures unknown { result ≡ (0, None) }
         // The clauses of the trait follow from `unknown`: the lower bound is at most the number of
         // items (`IsWithinCount`), and the upper one, if there is one, at least this number
-        // (`UpTo`). `at_most n`: of this number only the bound `n` is known.
+        // (`UpTo`).
         ensures lower { IsWithinCount result.0 (at_most (max_lenient_items self.now)) }
         ensures upper { IfSome result.1 (UpTo (at_most (max_lenient_items self.now))) }
     {
@@ -174,11 +163,8 @@ impl<'a, H: LenientHeader<'a>> LenientReply<'a, H> {
     /// Does not allocate.
     #[tactic(auto, using(netlink_core::proofs::LayoutLaws::parsed_by_fields))]
     pub fn parse(bytes: &'a [u8]) -> Result<LenientReply<'a, H>, DecodeError>
-        // `parse_record layout tt bytes`: the header at the start of the bytes, or the error that
-        // rejects it. `H.layout`: the layout of the header.
         ensures header { IfOk result (λ lenient.
             parse_record H.layout tt bytes.entry.now ≡ Ok (lenient_header lenient)) }
-        // `H.layout.least`: the length of the header in bytes.
         ensures following { IfOk result (λ lenient.
             lenient_attribute_bytes lenient ≡ drop H.layout.least bytes.entry.now) }
         ensures error { IfErr result (λ error. parse_record H.layout tt bytes.entry.now
@@ -200,8 +186,6 @@ impl<'a, H: LenientHeader<'a>> LenientReply<'a, H> {
 
     /// Returns an iterator over the attributes, in order. It yields the view or the error of each.
     pub fn attributes(&self) -> LenientNlas<'a, H::View>
-        // The iterator has not read anything yet: the bytes left to it are those after the header
-        // (`lenient_attribute_bytes`).
         ensures { unread_lenient_bytes result ≡ lenient_attribute_bytes self.now }
     {
         LenientNlas::new(self.bytes)

@@ -27,7 +27,6 @@ impl UnixResponse {
     /// Returns the inode of the peer: the value of the first `Peer` (`UNIX_DIAG_PEER`). Returns
     /// `None` if there is no such attribute.
     pub fn peer(&self) -> Option<u32>
-        // The value of the first attribute of the kind `UNIX_DIAG_PEER`, or `None`.
         ensures { result
             ≡ first_content_of (value_of_kind unix_attribute_set UNIX_DIAG_PEER)
             (map unix_nla_model self.now.nlas.items) }
@@ -41,8 +40,6 @@ impl UnixResponse {
     /// Returns the name of the socket: the value of the first `Name` (`UNIX_DIAG_NAME`). Returns
     /// `None` if there is no such attribute.
     pub fn name(&self) -> Option<&UnixDiagName>
-        // `option_copied result`: the name that the returned reference points to.
-        // `socket_name_model vec_items`: a name with its `Vec` of bytes as a list.
         ensures { option_map (socket_name_model vec_items) (option_copied result)
             ≡ first_content_of (value_of_kind unix_attribute_set UNIX_DIAG_NAME)
             (map unix_nla_model self.now.nlas.items) }
@@ -56,7 +53,6 @@ impl UnixResponse {
     /// Returns the inodes of the connections that wait to be accepted: the value of the first
     /// `PendingConnections` (`UNIX_DIAG_ICONS`). Returns `None` if there is no such attribute.
     pub fn pending_connections(&self) -> Option<&[u32]>
-        // `option_copied result`: the numbers that the returned reference points to.
         ensures { option_copied result
             ≡ first_content_of (value_of_kind unix_attribute_set UNIX_DIAG_ICONS)
             (map unix_nla_model self.now.nlas.items) }
@@ -71,7 +67,6 @@ impl UnixResponse {
     /// both): the value of the first `Shutdown` (`UNIX_DIAG_SHUTDOWN`). Returns `None` if there is
     /// no such attribute.
     pub fn shutdown_state(&self) -> Option<u8>
-        // The value of the first attribute of the kind `UNIX_DIAG_SHUTDOWN`, or `None`.
         ensures { result
             ≡ first_content_of (value_of_kind unix_attribute_set UNIX_DIAG_SHUTDOWN)
             (map unix_nla_model self.now.nlas.items) }
@@ -96,13 +91,8 @@ impl UnixResponse {
     /// If the result is a `Some`, [`receive_queue_size`](Self::receive_queue_size) and
     /// [`send_queue_size`](Self::send_queue_size) return `None`.
     pub fn number_of_pending_connection(&self) -> Option<u32>
-        // `udiag_rqueue`: the first of both numbers. `listening_queue_of reply`: both numbers of
-        // the first `ReceiveQueueLength` if the state is `TCP_LISTEN`, else `None`.
         ensures value { result ≡ option_map udiag_rqueue
             (listening_queue_of (response_model (λ h. h) unix_nla_model self.now)) }
-        // `nonlistening_queue_of reply`: both numbers if the state is not `TCP_LISTEN`, else
-        // `None`. `receive_queue_size` and `send_queue_size` return its first and its second
-        // number.
         ensures alone { IsSome result
             → nonlistening_queue_of (response_model (λ h. h) unix_nla_model self.now) ≡ None }
     {
@@ -114,8 +104,6 @@ impl UnixResponse {
     /// first `ReceiveQueueLength` (`udiag_wqueue` of `unix_diag_rqlen`). Returns `None` if the
     /// socket does not listen (its state is not `TCP_LISTEN`), or if there is no such attribute.
     pub fn max_number_of_pending_connection(&self) -> Option<u32>
-        // `udiag_wqueue`: the second of both numbers. `listening_queue_of reply`: both numbers of
-        // the first `ReceiveQueueLength` if the state is `TCP_LISTEN`, else `None`.
         ensures { result ≡ option_map udiag_wqueue
             (listening_queue_of (response_model (λ h. h) unix_nla_model self.now)) }
     {
@@ -126,7 +114,6 @@ impl UnixResponse {
     // Returns both numbers of the first `ReceiveQueueLength` (`UNIX_DIAG_RQLEN`), or `None` if
     // there is no such attribute.
     fn queue(&self) -> Option<(u32, u32)>
-        // The value of the first attribute of the kind `UNIX_DIAG_RQLEN`, or `None`.
         ensures { result
             ≡ first_content_of (value_of_kind unix_attribute_set UNIX_DIAG_RQLEN)
             (map unix_nla_model self.now.nlas.items) }
@@ -140,8 +127,6 @@ impl UnixResponse {
     // Returns both numbers of the first `ReceiveQueueLength` if the socket listens. Returns `None`
     // if it does not, or if there is no such attribute.
     fn listening_queue(&self) -> Option<(u32, u32)>
-        // `listening_queue_of reply`: both numbers of the first `ReceiveQueueLength` if the state
-        // is `TCP_LISTEN`, else `None`.
         ensures { result ≡ listening_queue_of (response_model (λ h. h) unix_nla_model self.now) }
     {
         if self.header.state == TCP_LISTEN {
@@ -154,8 +139,6 @@ impl UnixResponse {
     // Returns both numbers of the first `ReceiveQueueLength` if the socket does not listen. Returns
     // `None` if it does, or if there is no such attribute.
     fn nonlistening_queue(&self) -> Option<(u32, u32)>
-        // `nonlistening_queue_of reply`: both numbers of the first `ReceiveQueueLength` if the
-        // state is not `TCP_LISTEN`, else `None`.
         ensures { result ≡ nonlistening_queue_of (response_model (λ h. h) unix_nla_model self.now) }
     {
         if self.header.state == TCP_LISTEN {
@@ -169,8 +152,6 @@ impl UnixResponse {
     /// `ReceiveQueueLength` (`udiag_rqueue` of `unix_diag_rqlen`). Returns `None` if the socket
     /// listens (its state is `TCP_LISTEN`), or if there is no such attribute.
     pub fn receive_queue_size(&self) -> Option<u32>
-        // `udiag_rqueue`: the first of both numbers. `nonlistening_queue_of reply`: both numbers of
-        // the first `ReceiveQueueLength` if the state is not `TCP_LISTEN`, else `None`.
         ensures { result ≡ option_map udiag_rqueue
             (nonlistening_queue_of (response_model (λ h. h) unix_nla_model self.now)) }
     {
@@ -182,8 +163,6 @@ impl UnixResponse {
     /// first `ReceiveQueueLength` (`udiag_wqueue` of `unix_diag_rqlen`). Returns `None` if the
     /// socket listens (its state is `TCP_LISTEN`), or if there is no such attribute.
     pub fn send_queue_size(&self) -> Option<u32>
-        // `udiag_wqueue`: the second of both numbers. `nonlistening_queue_of reply`: both numbers
-        // of the first `ReceiveQueueLength` if the state is not `TCP_LISTEN`, else `None`.
         ensures { result ≡ option_map udiag_wqueue
             (nonlistening_queue_of (response_model (λ h. h) unix_nla_model self.now)) }
     {
@@ -197,7 +176,6 @@ impl UnixResponse {
     /// `max_datagram_size` of the first `MemInfo` (`SK_MEMINFO_SNDBUF` of `UNIX_DIAG_MEMINFO`).
     /// Returns `None` if there is no such attribute.
     pub fn max_datagram_size(&self) -> Option<u32>
-        // The field of the first attribute of the kind `UNIX_DIAG_MEMINFO`, or `None`.
         ensures { result ≡ option_map (λ info. info.max_datagram_size)
             (first_content_of (value_of_kind unix_attribute_set UNIX_DIAG_MEMINFO)
             (map unix_nla_model self.now.nlas.items)) }
@@ -209,7 +187,6 @@ impl UnixResponse {
     /// `UNIX_DIAG_MEMINFO`): the memory of the data that is queued to be sent, in bytes. Linux
     /// reports 0 here for a UNIX socket. Returns `None` if there is no such attribute.
     pub fn memory_used_for_outgoing_data(&self) -> Option<u32>
-        // The field of the first attribute of the kind `UNIX_DIAG_MEMINFO`, or `None`.
         ensures { result ≡ option_map (λ info. info.alloc)
             (first_content_of (value_of_kind unix_attribute_set UNIX_DIAG_MEMINFO)
             (map unix_nla_model self.now.nlas.items)) }
@@ -220,7 +197,6 @@ impl UnixResponse {
     // Returns the value of the first `MemInfo` (`UNIX_DIAG_MEMINFO`), or `None` if there is no such
     // attribute.
     fn memory(&self) -> Option<MemInfo>
-        // The value of the first attribute of the kind `UNIX_DIAG_MEMINFO`, or `None`.
         ensures { result
             ≡ first_content_of (value_of_kind unix_attribute_set UNIX_DIAG_MEMINFO)
             (map unix_nla_model self.now.nlas.items) }
