@@ -23,7 +23,6 @@ pub struct CheckedNlas<'a, V> {
 impl<'a, V> CheckedNlas<'a, V> {
     /// Returns an iterator over the attributes in the bytes.
     pub fn new(bytes: &'a [u8]) -> CheckedNlas<'a, V>
-        // `unchecked_bytes`: the bytes that the iterator has neither read nor checked yet.
         ensures { unchecked_bytes result ≡ bytes.entry.now }
     {
         CheckedNlas {
@@ -36,10 +35,6 @@ impl<'a, V> CheckedNlas<'a, V> {
 impl<'a, V: FamilyView<'a>> Iterator for CheckedNlas<'a, V> {
     type Item = Result<V, DecodeError>;
 
-    // `YieldsDecoded set model old item new`: a call of `next` returns `item`, and leads from `old`
-    // to `new`. The item is what the first attribute of the bytes that are left decodes to by the
-    // set; then the bytes after its padding are left. Or it is the first error of these bytes; then
-    // no bytes are left. Or it is `None`, and no bytes were left.
     ghost next_gives = { YieldsDecoded V.attribute_set V.model };
 
     // At most one item for each four bytes that are left, rounded up, since an attribute has at
@@ -67,10 +62,9 @@ impl<'a, V: FamilyView<'a>> Iterator for CheckedNlas<'a, V> {
     /// Returns `(0, None)`: the number of items is known only after iterating.
     fn size_hint(&self) -> (usize, Option<usize>)
         ensures unknown { result ≡ (0, None) }
-        // The clauses of the trait, which follow from `unknown`. `IsWithinCount`: the first number
-        // is at most the number of items. `at_most n`: there are at most `n` items, here one for
-        // each four bytes that are left, rounded up. `UpTo`: the second number, if there is one, is
-        // at least the number of items.
+        // The clauses of the trait follow from `unknown`: the lower bound is at most the number of
+        // items (`IsWithinCount`), and the upper one, if there is one, at least this number
+        // (`UpTo`).
         ensures lower { IsWithinCount result.0
             (at_most ((length (unchecked_bytes self.now) + 3) / 4)) }
         ensures upper { IfSome result.1

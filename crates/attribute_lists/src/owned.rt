@@ -24,11 +24,7 @@ use std::default::MadeWith;
 /// memory.
 #[tactic(auto, using(std::proofs::lemmas::List::map_push))]
 pub fn copy_nlas<T: FamilyNla>(alloc: Global, nlas: &[T]) -> Result<SmallVec<T, 8>, AllocError>
-    // `map T.model nlas`: what the attributes decode to, in order.
     ensures equal { IfOk result (λ copy. map T.model copy.items ≡ map T.model nlas.now) }
-    // If there are at most eight attributes, and each needs no memory, the call does not fail: the
-    // list has space for 8 without an allocation. `NeedsNoMemoryIn set value`: the value is of a
-    // type whose values are stored without an allocation. A raw attribute never is.
     ensures needs_no_memory { length nlas.now ≤ 8
         → AllByRecursion (NeedsNoMemoryIn T.attribute_set) (map T.model nlas.now)
         → IsOk result }
@@ -55,17 +51,11 @@ pub fn own_nlas<T: FamilyNla>(
     count: usize,
     nlas: &mut SmallVec<T, 8>,
 ) -> Result<(), AllocError>
-    // `HasNoAttributeError decode bytes`: neither the framing nor a value has an error.
-    // `decode_attribute set`: the decoder of one attribute by the set. `decoded_in decode bytes`:
-    // what the attributes in the bytes decode to, in order.
     requires clean { HasNoAttributeError (decode_attribute T.attribute_set) bytes.now }
     requires count { count ≡ length (decoded_in (decode_attribute T.attribute_set) bytes.now) }
     requires empty { nlas.old.items ≡ [] }
-    // `map T.model nlas`: what the attributes in the list decode to.
     ensures equal { OnOk result (map T.model nlas.new.items
         ≡ decoded_in (decode_attribute T.attribute_set) bytes.now) }
-    // If the list has capacity for all attributes, and each needs no memory, the call does not
-    // fail. `NeedsNoMemoryIn set value`: the value is stored without an allocation.
     ensures needs_no_memory { count ≤ nlas.old.capacity
         → AllByRecursion (NeedsNoMemoryIn T.attribute_set)
         (decoded_in (decode_attribute T.attribute_set) bytes.now)
@@ -94,18 +84,13 @@ fn push_accepted<T: FamilyNla>(
     nla: &NlaBuffer<'_>,
     nlas: &mut SmallVec<T, 8>,
 ) -> Result<(), AllocError>
-    // `decode_attribute set attribute`: `Ok` of the decoded value, or `Err` of the value's error.
-    // `buffered_attribute`: the type field and the value of `nla`.
     requires accepted { IsOk (decode_attribute T.attribute_set (buffered_attribute nla.now)) }
-    // `HasRoomFor list n`: the list has capacity for `n` more elements.
     requires room { HasRoomFor nlas.old 1 }
     // One element was appended (`own`), and it is what the attribute decodes to.
     ensures pushed { OnOk result ((own : T) × (nlas.new.items ≡ nlas.old.items ++ own ∷ [])
         × (decode_attribute T.attribute_set (buffered_attribute nla.now) ≡ Ok (T.model own))) }
     ensures capacity { nlas.new.capacity ≡ nlas.old.capacity }
     ensures kept { OnErr result (nlas.new ≡ nlas.old) }
-    // If the attribute decodes to a value that needs no memory (`NeedsNoMemoryIn set value`), the
-    // call does not fail.
     ensures needs_no_memory { (value : AttributeValue T.attribute_set)
         → decode_attribute T.attribute_set (buffered_attribute nla.now) ≡ Ok value
         → NeedsNoMemoryIn T.attribute_set value → IsOk result }
@@ -136,11 +121,6 @@ fn make_room<T: MadeWith<Global> + Drop>(
 /// `None` if a value does not fit its length field, that is, has more than 65,531 bytes, or if the
 /// attributes have more than `limit` bytes.
 pub fn values_len_within<T: FamilyNla>(nlas: &[T], limit: usize) -> Option<usize>
-    // `attributes`: what the decoded values serialize as (`encode_attribute`). `SomeIff option
-    // condition value`: the option is `Some value` if the condition holds, else `None`.
-    // `AreWritableWithin attributes limit`: each value fits its length field, and all attributes
-    // with headers and paddings have at most `limit` bytes. `flat_map attribute_bytes`: the bytes
-    // of all attributes, concatenated.
     ensures { let attributes = map (encode_attribute T.attribute_set) (map T.model nlas.now) in
         SomeIff result (AreWritableWithin attributes limit)
         (length (flat_map attribute_bytes attributes)) }
@@ -152,9 +132,7 @@ pub fn values_len_within<T: FamilyNla>(nlas: &[T], limit: usize) -> Option<usize
 /// value must fit its length field, and all attributes must have at most 4,294,967,295 bytes
 /// (`AreWritable`).
 pub fn values_len<T: FamilyNla>(nlas: &[T]) -> usize
-    // `map (encode_attribute set) (map T.model nlas)`: what the attributes serialize as.
     requires { AreWritable (map (encode_attribute T.attribute_set) (map T.model nlas.now)) }
-    // `flat_map attribute_bytes`: the bytes of all attributes, concatenated.
     ensures { result ≡ length
         (flat_map attribute_bytes (map (encode_attribute T.attribute_set) (map T.model nlas.now))) }
 {
@@ -166,17 +144,13 @@ pub fn values_len<T: FamilyNla>(nlas: &[T]) -> usize
 /// must have at most 4,294,967,295 bytes (`AreWritable`), and the buffer must be at least as
 /// long as they are.
 pub fn emit_values<T: FamilyNla>(nlas: &[T], buffer: &mut [u8])
-    // `map (encode_attribute set) (map T.model nlas)`: what the attributes serialize as.
     requires fits { AreWritable (map (encode_attribute T.attribute_set) (map T.model nlas.now)) }
-    // `flat_map attribute_bytes`: the bytes of all attributes, concatenated.
     requires room { length (flat_map attribute_bytes
         (map (encode_attribute T.attribute_set) (map T.model nlas.now)))
         ≤ length buffer.old }
-    // `HoldsAtStart bytes old new`: `new` is `bytes`, and then what `old` has after as many bytes.
     ensures written { HoldsAtStart (flat_map attribute_bytes (map (encode_attribute T.attribute_set)
         (map T.model nlas.now))) buffer.old buffer.new }
-    // `IsInRangeIn set value`: each number of the decoded value fits its field. This is so for all
-    // Rust values; the codec laws require it.
+    // This is so for all Rust values; the codec laws require it.
     ensures in_range { AllByRecursion (IsInRangeIn T.attribute_set) (map T.model nlas.now) }
 {
     emit_nlas(nlas, buffer);

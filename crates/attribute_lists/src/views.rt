@@ -21,15 +21,10 @@ use netlink_core::{DecodeError, FamilyView, Nla, NlasIterator, emit_nla, nla_len
 /// the first error. Does not allocate.
 #[inline(always)]
 pub fn check_nlas<'a, V: FamilyView<'a> + Drop>(bytes: &'a [u8]) -> Result<usize, DecodeError>
-    // `HasNoAttributeError decode bytes`: neither the framing nor a value has an error.
-    // `decode_attribute set`: the decoder of one attribute by the set.
     ensures clean { OnOk result (HasNoAttributeError
         (decode_attribute V.attribute_set) bytes.entry.now) }
-    // `decoded_in decode bytes`: what the attributes in the bytes decode to, in order.
     ensures count { IfOk result
         (λ count. count ≡ length (decoded_in (decode_attribute V.attribute_set) bytes.entry.now)) }
-    // `HasAttributeError decode bytes e`: `e` is the first error, which only accepted attributes
-    // precede.
     ensures error { IfErr result (HasAttributeError
         (decode_attribute V.attribute_set) bytes.entry.now) }
 {
@@ -51,23 +46,14 @@ pub fn check_nlas_len<'a, V: FamilyView<'a> + Drop>(
     bytes: &'a [u8],
     limit: Option<usize>,
 ) -> Result<(usize, Option<usize>), DecodeError>
-    // `HasNoAttributeError decode bytes`: neither the framing nor a value has an error.
-    // `decode_attribute set`: the decoder of one attribute by the set.
     ensures clean { OnOk result (HasNoAttributeError
         (decode_attribute V.attribute_set) bytes.entry.now) }
-    // `found` is the returned pair: the number of attributes (`found.0`), and the number of bytes
-    // (`found.1`). `decoded_in decode bytes`: what the attributes in the bytes decode to, in order.
+    // `found` is the returned pair: the number of attributes, and the number of bytes.
     ensures count { IfOk result
         (λ found. found.0
         ≡ length (decoded_in (decode_attribute V.attribute_set) bytes.entry.now)) }
-    // `encoded_attributes_in set bytes`: what the attributes in the bytes serialize as, once
-    // decoded. `IsLengthWithin limit attributes len`: `len` is `Some` of the number of their bytes,
-    // or `None` if a value does not fit its length field, if the number is above the limit, or if
-    // there is no limit.
     ensures len { let attributes = encoded_attributes_in V.attribute_set bytes.entry.now in
         IfOk result (λ found. IsLengthWithin limit attributes found.1) }
-    // `HasAttributeError decode bytes e`: `e` is the first error, which only accepted attributes
-    // precede.
     ensures error { IfErr result (HasAttributeError
         (decode_attribute V.attribute_set) bytes.entry.now) }
 {
@@ -87,10 +73,6 @@ pub fn check_nlas_len<'a, V: FamilyView<'a> + Drop>(
 // is already `None`.
 #[inline(always)]
 fn room_after<V: Nla>(view: &V, room: Option<usize>) -> Option<usize>
-    // `MatchOption option p Q`: `p` if the option is `None`, and `Q v` if it is `Some v`. So if
-    // `room` is a number, the result is this number minus the length of the attribute, if the value
-    // fits its length field (`FitsLengthField`) and the attribute is not longer than `room`, else
-    // `None`. `attribute_bytes`: the header, the value and the padding.
     ensures { MatchOption room (result ≡ None) (λ room.
         SomeIff result (FitsLengthField (V.attribute view.now)
         × (length (attribute_bytes (V.attribute view.now)) ≤ room))
@@ -106,10 +88,7 @@ fn room_after<V: Nla>(view: &V, room: Option<usize>) -> Option<usize>
 // `None`. The room must not be above the limit.
 #[inline(always)]
 fn used(limit: Option<usize>, room: Option<usize>) -> Option<usize>
-    // If both are `Some`, the room is at most the limit.
     requires { IfSome limit (λ limit. IfSome room (λ room. room ≤ limit)) }
-    // `MatchOption option p Q`: `p` if the option is `None`, and `Q v` if it is `Some v`. So the
-    // result is `None` if one of both is, else the difference.
     ensures { MatchOption limit (result ≡ None) (λ limit.
         MatchOption room (result ≡ None) (λ room. result ≡ Some (limit - room))) }
 {
@@ -125,13 +104,7 @@ fn used(limit: Option<usize>, room: Option<usize>) -> Option<usize>
 #[tactic(auto, using(crate::proofs::Finding::attributes_without_error_rules))]
 #[inline(always)]
 pub fn next_view<'a, V: FamilyView<'a>>(walk: &mut NlasIterator<'a>) -> Option<V>
-    // `HasNoAttributeError decode bytes`: neither the framing nor a value has an error.
-    // `decode_attribute set`: the decoder of one attribute by the set. `unread_bytes`: the bytes
-    // that the iterator has not read yet.
     requires { HasNoAttributeError (decode_attribute V.attribute_set) (unread_bytes walk.old) }
-    // `YieldsFirstBy model rest old result new`: `rest old` is the model of the result and then
-    // `rest new`; if the result is `None`, both are empty. Here `rest` is `unread_values set`: what
-    // the attributes in the bytes that are left decode to, in order.
     ensures next { YieldsFirstBy V.model (unread_values V.attribute_set) walk.old result walk.new }
     ensures rest { HasNoAttributeError (decode_attribute V.attribute_set) (unread_bytes walk.new) }
 {
@@ -146,13 +119,8 @@ pub fn next_view<'a, V: FamilyView<'a>>(walk: &mut NlasIterator<'a>) -> Option<V
 /// 4,294,967,295 bytes. The bytes must have no error, neither in the framing nor in a value, and
 /// the header by itself at most 4,294,967,295 bytes.
 pub fn views_len<'a, V: FamilyView<'a> + Drop>(header_len: usize, bytes: &'a [u8]) -> Option<usize>
-    // `HasNoAttributeError decode bytes`: neither the framing nor a value has an error.
-    // `decode_attribute set`: the decoder of one attribute by the set.
     requires clean { HasNoAttributeError (decode_attribute V.attribute_set) bytes.now }
     requires small { header_len ≤ 4294967295 }
-    // `encoded_attributes_in set bytes`: what the attributes in the bytes serialize as, once
-    // decoded. `FitsLengthField`: a value has at most 65,531 bytes. `flat_map attribute_bytes
-    // attributes`: the bytes of all attributes, concatenated.
     ensures fits { let attributes = encoded_attributes_in V.attribute_set bytes.entry.now in
         IsSome result ↔ (AllByRecursion FitsLengthField attributes
         × (header_len + length (flat_map attribute_bytes attributes) ≤ 4294967295)) }
@@ -178,17 +146,11 @@ pub fn views_len<'a, V: FamilyView<'a> + Drop>(header_len: usize, bytes: &'a [u8
 /// in the framing nor in a value. Each value must fit its length field, all attributes must have at
 /// most 4,294,967,295 bytes (`AreWritable`), and the buffer must be at least as long as they are.
 pub fn emit_views<'a, V: FamilyView<'a> + Drop>(bytes: &'a [u8], buffer: &mut [u8])
-    // `HasNoAttributeError decode bytes`: neither the framing nor a value has an error.
-    // `decode_attribute set`: the decoder of one attribute by the set.
     requires clean { HasNoAttributeError (decode_attribute V.attribute_set) bytes.now }
-    // `encoded_attributes_in set bytes`: what the attributes in the bytes serialize as, once
-    // decoded.
     requires fits { AreWritable (encoded_attributes_in V.attribute_set bytes.now) }
-    // `flat_map attribute_bytes attributes`: the bytes of all attributes, concatenated.
     requires room { length
         (flat_map attribute_bytes (encoded_attributes_in V.attribute_set bytes.now))
         ≤ length buffer.old }
-    // `HoldsAtStart bytes old new`: `new` is `bytes`, and then what `old` has after as many bytes.
     ensures { HoldsAtStart
         (flat_map attribute_bytes (encoded_attributes_in V.attribute_set bytes.entry.now))
         buffer.old buffer.new }
