@@ -12,8 +12,6 @@ use netlink_core::{Record, parse_str};
 /// Returns the number in one byte. Requires that the value has exactly one byte.
 #[inline(always)]
 pub(crate) fn accepted_u8<const KIND: u16>(value: &[u8]) -> u8
-    // `number_of_width (Some kind) width bytes`: `Ok` of the little-endian number, or `Err` of the
-    // error of another length, which contains the kind.
     requires { IsOk (number_of_width (Some KIND) 1 value.now) }
     ensures { number_of_width (Some KIND) 1 value.now ≡ Ok result }
 {
@@ -23,8 +21,6 @@ pub(crate) fn accepted_u8<const KIND: u16>(value: &[u8]) -> u8
 /// Returns the little-endian number in four bytes. Requires that the value has exactly four bytes.
 #[inline(always)]
 pub(crate) fn accepted_u32<const KIND: u16>(value: &[u8]) -> u32
-    // `number_of_width (Some kind) 4 bytes`: `Ok` of the number in four bytes, or `Err` of the
-    // error of another length, which contains the kind.
     requires { IsOk (number_of_width (Some KIND) 4 value.now) }
     ensures { number_of_width (Some KIND) 4 value.now ≡ Ok result }
 {
@@ -35,8 +31,6 @@ pub(crate) fn accepted_u32<const KIND: u16>(value: &[u8]) -> u32
 /// bytes.
 #[inline(always)]
 pub(crate) fn accepted_u32_pair<const KIND: u16>(value: &[u8]) -> (u32, u32)
-    // `parse_number_pair kind bytes`: `Ok` of the two numbers in eight bytes, or `Err` of the error
-    // of another length, which contains the kind.
     requires { IsOk (parse_number_pair KIND value.now) }
     ensures { parse_number_pair KIND value.now ≡ Ok result }
 {
@@ -52,8 +46,6 @@ pub(crate) fn accepted_u32_pair<const KIND: u16>(value: &[u8]) -> (u32, u32)
 #[inline(always)]
 #[tactic(auto, using(netlink_core::proofs::LayoutLaws::parsed_by_fields))]
 pub(crate) fn accepted_record<T: Record<Param = ()>>(bytes: &[u8]) -> T
-    // `parse_record layout param bytes`: `Ok` of the value, or `Err` of the first error. There is
-    // no parameter (`tt`).
     requires { IsOk (parse_record T.layout tt bytes.now) }
     ensures { parse_record T.layout tt bytes.now ≡ Ok result }
 {
@@ -70,8 +62,6 @@ pub(crate) fn accepted_record<T: Record<Param = ()>>(bytes: &[u8]) -> T
 // used.
 #[inline(always)]
 pub(crate) fn accepted_str(bytes: &[u8]) -> &str
-    // `parse_text bytes`: `Ok` of the bytes of the text, or `Err NotUtf8`. `bytes.entry` is the
-    // argument as it was passed.
     requires { IsOk (parse_text bytes.now) }
     ensures { parse_text bytes.entry.now ≡ Ok result.now }
 {

@@ -1,6 +1,5 @@
 //! Traits of the parts that an attribute either owns or borrows. Their ghost members say what a
-//! part is: `attribute` is the type field and the value of an attribute, `name` a path or an
-//! abstract name, with its bytes as a list, and `numbers` the numbers of a list.
+//! part is.
 
 ghost use Rattle.std.specs.List.{AllByRecursion};
 ghost use Rattle.std.specs.Prelude.{◌≡◌, ◌<◌, ◌^◌, ℕ, List, [], IfOk, IsOk, flat_map, vec_items};
@@ -35,14 +34,11 @@ pub(crate) trait OtherNla {
     /// Returns the owned attribute, with the same type field and value. Fails only if an allocation
     /// fails. An empty value needs no allocation.
     fn to_owned_nla(&self, alloc: Global) -> Result<DefaultNla, AllocError>
-        // `raw_attribute owned`: the type field and the value of the owned attribute.
         ensures equal { IfOk result (λ owned. raw_attribute owned ≡ attribute self.now) }
-        // `needs_no_memory`: the call does not fail if the value has no bytes.
         ensures needs_no_memory { (attribute self.now).value ≡ [] → IsOk result };
 }
 
 impl OtherNla for DefaultNla {
-    // Its type field, and the elements of the `Vec` of its value.
     ghost attribute = { raw_attribute };
 
     #[inline(always)]
@@ -62,7 +58,6 @@ impl OtherNla for DefaultNla {
 }
 
 impl OtherNla for NlaBuffer<'_> {
-    // Its type field, and the borrowed bytes of its value.
     ghost attribute = { buffered_attribute };
 
     #[inline(always)]
@@ -89,12 +84,10 @@ pub(crate) trait BorrowName {
     /// Returns the name with borrowed bytes: a path for a path, and an abstract name for an
     /// abstract one, with the same bytes.
     fn borrow_name(&self) -> NameView<'_>
-        // `name_view_model view`: the borrowed name, with its bytes as a list.
         ensures { name_view_model result ≡ name self.now };
 }
 
 impl BorrowName for UnixDiagName {
-    // A path or an abstract name, with the elements of its `Vec`.
     ghost name = { socket_name_model vec_items };
 
     #[inline(always)]
@@ -104,7 +97,6 @@ impl BorrowName for UnixDiagName {
 }
 
 impl BorrowName for NameView<'_> {
-    // A path or an abstract name, with the borrowed bytes.
     ghost name = { name_view_model };
 
     #[inline(always)]
@@ -121,7 +113,6 @@ pub(crate) trait BorrowNumbers {
     /// Returns the numbers as the value of an attribute, which serializes to four bytes for each
     /// number, little-endian.
     fn borrow_value(&self) -> Value<'_>
-        // `value_bytes value`: the bytes that a value serializes to.
         ensures bytes { value_bytes result ≡ flat_map (little_bytes 4) (numbers self.now) }
         // Proof only, for the codec laws: if the returned value is in range, as every Rust value
         // is, then each number is below 2^32.
@@ -132,12 +123,10 @@ pub(crate) trait BorrowNumbers {
     /// no allocation.
     fn to_list(&self, alloc: Global) -> Result<Vec<u32>, AllocError>
         ensures equal { IfOk result (λ list. list.items ≡ numbers self.now) }
-        // `needs_no_memory`: the call does not fail if there are no numbers.
         ensures needs_no_memory { numbers self.now ≡ [] → IsOk result };
 }
 
 impl BorrowNumbers for Vec<u32> {
-    // The elements of the `Vec`.
     ghost numbers = { λ list. list.items };
 
     #[inline(always)]
@@ -152,7 +141,6 @@ impl BorrowNumbers for Vec<u32> {
 }
 
 impl BorrowNumbers for NumbersView<'_> {
-    // The numbers in the borrowed bytes, four bytes each, little-endian.
     ghost numbers = { numbers_view_model };
 
     #[inline(always)]

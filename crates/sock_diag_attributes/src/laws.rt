@@ -37,8 +37,6 @@ pub fn parsers_take_memory() -> (bool, bool, bool)
 /// decoded value of a variant, which is `value` again. This determines what `unix_variant` returns.
 #[tactic(auto, using(crate::specs::laws::Variant::same_unix_variant))]
 pub fn unix_values_are_variants()
-    // `AttributeValue set`: the type of what attributes decode to by the set, here of the known
-    // attributes of these replies.
     ensures { (value : AttributeValue unix_attribute_set)
         → unix_variant_value (unix_variant value) ≡ value }
 {}
@@ -49,8 +47,6 @@ pub fn unix_values_are_variants()
 /// `inet_variant` returns.
 #[tactic(auto, using(crate::specs::laws::Variant::same_inet_variant))]
 pub fn inet_values_are_variants()
-    // `AttributeValue set`: the type of what attributes decode to by the set, here of the known
-    // attributes of these replies.
     ensures { (value : AttributeValue inet_attribute_set)
         → inet_variant_value (inet_variant value) ≡ value }
 {}
@@ -58,7 +54,6 @@ pub fn inet_values_are_variants()
 /// States that `==` of two borrowed names is true if and only if both are paths or both are
 /// abstract, with the same bytes.
 pub fn equal_name_views(left: &NameView<'_>, right: &NameView<'_>) -> bool
-    // `name_view_model name`: the name with its bytes as a list.
     ensures { IsTrue result ↔ (name_view_model left.now ≡ name_view_model right.now) }
 {
     left == right
@@ -68,7 +63,6 @@ pub fn equal_name_views(left: &NameView<'_>, right: &NameView<'_>) -> bool
 /// same order.
 #[tactic(auto, using(crate::specs::laws::EqualUnix::number_views_equal))]
 pub fn equal_numbers_views(left: &NumbersView<'_>, right: &NumbersView<'_>) -> bool
-    // `numbers_view_model`: the numbers in the borrowed bytes, four bytes each, little-endian.
     ensures { IsTrue result ↔ (numbers_view_model left.now ≡ numbers_view_model right.now) }
 {
     left == right
@@ -78,7 +72,6 @@ pub fn equal_numbers_views(left: &NumbersView<'_>, right: &NumbersView<'_>) -> b
 /// they have the same kind and equal values. Raw attributes are equal if they have the same type
 /// field, with its flag bits, and the same bytes.
 pub fn equal_unix_views(left: &UnixNlaView<'_>, right: &UnixNlaView<'_>) -> bool
-    // `unix_nla_view_model`: the decoded value of a view.
     ensures { IsTrue result ↔ (unix_nla_view_model left.now ≡ unix_nla_view_model right.now) }
 {
     left == right
@@ -88,7 +81,6 @@ pub fn equal_unix_views(left: &UnixNlaView<'_>, right: &UnixNlaView<'_>) -> bool
 /// only if they have the same kind and equal values. Raw attributes are equal if they have the same
 /// type field, with its flag bits, and the same bytes.
 pub fn equal_inet_views(left: &InetNlaView<'_>, right: &InetNlaView<'_>) -> bool
-    // `inet_nla_view_model`: the decoded value of a view.
     ensures { IsTrue result ↔ (inet_nla_view_model left.now ≡ inet_nla_view_model right.now) }
 {
     left == right
@@ -98,7 +90,6 @@ pub fn equal_inet_views(left: &InetNlaView<'_>, right: &InetNlaView<'_>) -> bool
 /// path, and an abstract name for an abstract one.
 pub fn copied_name_view<'a>(view: &NameView<'a>) -> Result<NameView<'a>, AllocError>
     ensures ok { IsOk result }
-    // `name_view_model name`: the name with its bytes as a list.
     ensures same { IfOk result (λ copy. name_view_model copy ≡ name_view_model view.now) }
 {
     view.clone()
@@ -107,7 +98,6 @@ pub fn copied_name_view<'a>(view: &NameView<'a>) -> Result<NameView<'a>, AllocEr
 /// Clones borrowed numbers, which never fails and returns the same numbers.
 pub fn copied_numbers_view<'a>(view: &NumbersView<'a>) -> Result<NumbersView<'a>, AllocError>
     ensures ok { IsOk result }
-    // `numbers_view_model`: the numbers in the borrowed bytes.
     ensures same { IfOk result (λ copy. numbers_view_model copy ≡ numbers_view_model view.now) }
 {
     view.clone()
@@ -119,7 +109,6 @@ pub fn copied_numbers_walk<'a>(
     iterator: &NumbersIterator<'a>,
 ) -> Result<NumbersIterator<'a>, AllocError>
     ensures ok { IsOk result }
-    // `numbers_left`: the numbers that the iterator has not yielded yet.
     ensures same { IfOk result (λ copy. numbers_left copy ≡ numbers_left iterator.now) }
 {
     iterator.clone()
@@ -129,7 +118,6 @@ pub fn copied_numbers_walk<'a>(
 /// attribute of the same kind with the same value. A raw attribute keeps its type field and bytes.
 pub fn copied_unix_view<'a>(view: &UnixNlaView<'a>) -> Result<UnixNlaView<'a>, AllocError>
     ensures ok { IsOk result }
-    // `unix_nla_view_model`: the decoded value of a view.
     ensures same { IfOk result (λ copy. unix_nla_view_model copy ≡ unix_nla_view_model view.now) }
 {
     view.clone()
@@ -140,7 +128,6 @@ pub fn copied_unix_view<'a>(view: &UnixNlaView<'a>) -> Result<UnixNlaView<'a>, A
 /// and bytes.
 pub fn copied_inet_view<'a>(view: &InetNlaView<'a>) -> Result<InetNlaView<'a>, AllocError>
     ensures ok { IsOk result }
-    // `inet_nla_view_model`: the decoded value of a view.
     ensures same { IfOk result (λ copy. inet_nla_view_model copy ≡ inet_nla_view_model view.now) }
 {
     view.clone()

@@ -20,8 +20,6 @@ use std::alloc::{AllocError, Global};
 /// Parses the number in exactly one byte, the value of an attribute of this kind. Returns
 /// `WrongLength` with the kind for any other length.
 pub(crate) fn exact_u8(kind: u16, value: &[u8]) -> Result<u8, DecodeError>
-    // `number_of_width (Some kind) width bytes`: `Ok` of the little-endian number, or `Err` of the
-    // error of another length, which contains the kind.
     ensures { result ≡ number_of_width (Some kind) 1 value.now }
 {
     match value {
@@ -33,8 +31,6 @@ pub(crate) fn exact_u8(kind: u16, value: &[u8]) -> Result<u8, DecodeError>
 /// Parses the little-endian number in exactly four bytes, the value of an attribute of this kind.
 /// Returns `WrongLength` with the kind for any other length.
 pub(crate) fn exact_u32(kind: u16, value: &[u8]) -> Result<u32, DecodeError>
-    // `number_of_width (Some kind) 4 bytes`: `Ok` of the number in four bytes, or `Err` of the
-    // error of another length, which contains the kind.
     ensures { result ≡ number_of_width (Some kind) 4 value.now }
 {
     if value.len() != 4 {
@@ -46,7 +42,6 @@ pub(crate) fn exact_u32(kind: u16, value: &[u8]) -> Result<u32, DecodeError>
 /// Parses the flag in exactly one byte, the value of an attribute of this kind. The flag is true if
 /// the byte is not zero. Returns `WrongLength` with the kind for any other length.
 pub(crate) fn exact_flag(kind: u16, value: &[u8]) -> Result<bool, DecodeError>
-    // `parse_flag kind bytes`: `Ok` of the flag, or `Err` of the `WrongLength`.
     ensures { result ≡ parse_flag kind value.now }
 {
     Ok(exact_u8(kind, value)? != 0)
@@ -55,7 +50,6 @@ pub(crate) fn exact_flag(kind: u16, value: &[u8]) -> Result<bool, DecodeError>
 /// Parses the two little-endian numbers in exactly eight bytes, the value of an attribute of this
 /// kind. Returns `WrongLength` with the kind for any other length.
 pub(crate) fn exact_u32_pair(kind: u16, value: &[u8]) -> Result<(u32, u32), DecodeError>
-    // `parse_number_pair kind bytes`: `Ok` of the two numbers, or `Err` of the `WrongLength`.
     ensures { result ≡ parse_number_pair kind value.now }
 {
     if value.len() != 8 {
@@ -96,8 +90,6 @@ impl<'a> NumbersView<'a> {
     /// Checks the length of the bytes, and returns a view of the numbers in them. Returns
     /// `NotMultipleOfFour` if the length is not a multiple of four.
     pub(crate) fn parse(bytes: &'a [u8]) -> Result<NumbersView<'a>, DecodeError>
-        // `parse_numbers bytes`: `Ok` of the list of numbers, or `Err` of the error. `bytes.entry`:
-        // the argument as it was passed.
         ensures { MatchResult result
             (λ numbers. parse_numbers bytes.entry.now ≡ Ok (numbers_view_model numbers))
             (λ e. parse_numbers bytes.entry.now ≡ Err e) }
@@ -112,7 +104,6 @@ impl<'a> NumbersView<'a> {
     // length is a multiple of four. The length is not tested again.
     #[inline(always)]
     pub(crate) fn new(bytes: &'a [u8]) -> NumbersView<'a>
-        // `parse_numbers bytes`: `Ok` of the list of numbers, or `Err` of the error.
         requires { IsOk (parse_numbers bytes.now) }
         ensures { parse_numbers bytes.entry.now ≡ Ok (numbers_view_model result) }
     {
@@ -130,7 +121,6 @@ impl<'a> NumbersView<'a> {
     /// Returns the number at `index`, or `None` if the index is out of bounds.
     #[tactic(auto, using(crate::specs::laws::Number::number_at_index_rules))]
     pub fn get(&self, index: usize) -> Option<u32>
-        // `slice_get xs i`: `Some` of the element at index `i`, or `None` if there is none.
         ensures { result ≡ slice_get (numbers_view_model self.now) index }
     {
         if index >= self.bytes.len() / 4 {
@@ -149,7 +139,6 @@ impl<'a> NumbersView<'a> {
 
     /// Returns an iterator that yields all of the numbers, in order.
     pub fn iter(&self) -> NumbersIterator<'a>
-        // `numbers_left`: the numbers that the iterator has not yielded yet.
         ensures { numbers_left result ≡ numbers_view_model self.now }
     {
         NumbersIterator { remaining: *self }
@@ -167,7 +156,6 @@ impl<'a> NumbersView<'a> {
     /// list needs no allocation.
     pub fn to_owned(&self, alloc: Global) -> Result<Vec<u32>, AllocError>
         ensures equal { IfOk result (λ numbers. numbers.items ≡ numbers_view_model self.now) }
-        // `needs_no_memory`: the call does not fail if there are no numbers.
         ensures needs_no_memory { numbers_view_model self.now ≡ [] → IsOk result }
     {
         if self.is_empty() {
@@ -194,7 +182,6 @@ impl<'a> Iterator for NumbersIterator<'a> {
     // left, or `None` if there is none.
     ghost next_gives = { YieldsFirst numbers_left };
 
-    // At most as many items follow as numbers are left.
     ghost remaining = { item_count numbers_left };
 
     #[tactic(auto, using(crate::specs::laws::Number::next_number_rules))]
@@ -240,7 +227,6 @@ pub(crate) fn emit_u32_pair(first: u32, second: u32, buffer: &mut [u8])
 #[tactic(auto, using(crate::specs::laws::Number::emit_numbers_rules))]
 pub(crate) fn emit_numbers(numbers: &[u32], buffer: &mut [u8])
     requires { length (flat_map (little_bytes 4) numbers.now) ≤ length buffer.old }
-    // `HoldsAtStart bytes old new`: `new` is `old` with the bytes written at its start.
     ensures written { HoldsAtStart (flat_map (little_bytes 4) numbers.now) buffer.old buffer.new }
     // Each number is below 2^32. So it is for each `u32`; this is stated for the codec laws.
     ensures in_range { AllByRecursion (λ n. n < 2 ^ 32) numbers.now }

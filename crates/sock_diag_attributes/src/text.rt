@@ -7,7 +7,6 @@ ghost use Rattle.netlink_core.specs.Bytes.{HoldsAtStart, IsBytes};
 /// bytes after them are unchanged.
 pub(crate) fn emit_text(text: &str, buffer: &mut [u8])
     requires { length (text.now ++ 0 ∷ []) ≤ length buffer.old }
-    // `HoldsAtStart bytes old new`: `new` is `old` with the bytes written at its start.
     ensures written { HoldsAtStart (text.now ++ 0 ∷ []) buffer.old buffer.new }
     // The text is valid UTF-8, and each byte is below 256. So it is for each `str`; this is stated
     // for the codec laws.

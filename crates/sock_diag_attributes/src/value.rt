@@ -59,9 +59,7 @@ impl Value<'_> {
     /// enough. The bytes after them are unchanged.
     #[inline(always)]
     pub(crate) fn emit(&self, buffer: &mut [u8])
-        // `value_bytes`: the bytes that the value serializes to.
         requires { length (value_bytes self.now) ≤ length buffer.old }
-        // `HoldsAtStart bytes old new`: `new` is `old` with the bytes written at its start.
         ensures written { HoldsAtStart (value_bytes self.now) buffer.old buffer.new }
         // Each number fits its type, as in each Rust value; this is stated for the codec laws.
         ensures in_range { IsValueInRange self.now }

@@ -1,5 +1,6 @@
 //! The attributes of a reply about an IPv4 or IPv6 socket, and the types of their values. In the
-//! contracts `inet_attribute_set` is the set of the known attributes.
+//! contracts `inet_attribute_set` is the set of the known attributes. `T.text` returns the bytes of
+//! a text, and `O.attribute` the type field and the value of a raw attribute.
 
 ghost use Rattle.std.specs.Prelude.{◌≡◌, [], Ok, Err, IsOk, IfOk, MatchResult, true};
 ghost use Rattle.netlink_core.specs.Attribute.{FitsLengthField, attribute_bytes};
@@ -75,14 +76,10 @@ impl<T: AsStr, O: OtherNla> Emitable for InetNla<T, O> {
     ghost use Rattle.sock_diag_attributes.specs.InetAttributes.{inet_attribute_set};
     ghost use Rattle.sock_diag_attributes.specs.InetModel.{inet_nla_attribute, inet_nla_value};
 
-    // The header, the value, and zeros as padding up to a multiple of four.
-    // `T.text` returns the bytes of a text, and `O.attribute` a raw attribute.
     ghost bytes = { λ v. attribute_bytes (inet_nla_attribute T.text O.attribute v) };
 
-    // The value has at most 65,531 bytes, so that its length fits the length field.
     ghost writable = { λ v. FitsLengthField (inet_nla_attribute T.text O.attribute v) };
 
-    // The decoded value is in range: each number fits its field. So it is for each Rust value.
     ghost in_range = { λ v. IsInRangeIn inet_attribute_set (inet_nla_value T.text O.attribute v) };
 
     fn is_writable(&self) -> bool {
@@ -103,7 +100,6 @@ impl<T: AsStr, O: OtherNla> Emitable for InetNla<T, O> {
 impl MadeWith<Global> for Nla {
     ghost use Rattle.sock_diag_attributes.specs.declared.inet.nlas.InetNla.TheVariants as variants;
 
-    // The made value is a `LegacyMemInfo` of zeros.
     ghost is_made_with = { λ nla. nla ≡ variants.LegacyMemInfo (record {
       receive_queue = 0;
       bottom_send_queue = 0;
@@ -130,14 +126,9 @@ impl Nla {
     /// allocation fails. Only a text, and an attribute of another kind whose value is not empty,
     /// may need an allocation.
     pub fn clone(&self, alloc: Global) -> Result<Self, AllocError>
-        // `inet_nla_model`: the decoded value of the attribute.
         ensures equal { IfOk result (λ copy. inet_nla_model copy ≡ inet_nla_model self.now) }
-        // `needs_no_memory`: cloning does not fail if the attribute is of a type whose values need
-        // no memory: any variant except `Congestion` and `Other`.
         ensures needs_no_memory { NeedsNoMemoryIn inet_attribute_set (inet_nla_model self.now)
             → IsOk result }
-        // `empty`: cloning does not fail if the serialized attribute (`encode_attribute`) has an
-        // empty value: an `Other` without bytes.
         ensures empty { (encode_attribute inet_attribute_set (inet_nla_model self.now)).value ≡ []
             → IsOk result }
     {
@@ -151,20 +142,14 @@ impl<T: AsStr, O: OtherNla> InetNla<T, O> {
     ghost use Rattle.sock_diag_attributes.specs.InetModel.{inet_nla_value};
 
     // Returns the attribute with an owned text and owned bytes. Fails only if an allocation fails.
+    // Only a text, and an `Other` with bytes, may need one.
     #[inline(always)]
     fn owned(&self, alloc: Global) -> Result<Nla, AllocError>
-        // `inet_nla_model`: the decoded value of an owned attribute. `inet_nla_value ..`: that of
-        // this one, in which `T.text` returns the bytes of a text, and `O.attribute` a raw
-        // attribute.
         ensures equal { IfOk result (λ nla. inet_nla_model nla
             ≡ inet_nla_value T.text O.attribute self.now) }
-        // `needs_no_memory`: the call does not fail for any variant except `Congestion` and
-        // `Other`.
         ensures needs_no_memory { NeedsNoMemoryIn inet_attribute_set
             (inet_nla_value T.text O.attribute self.now)
             → IsOk result }
-        // `empty`: the call does not fail if the serialized attribute (`inet_nla_attribute ..`) has
-        // an empty value: for an `Other` without bytes.
         ensures empty { (inet_nla_attribute T.text O.attribute self.now).value ≡ []
             → IsOk result }
     {
@@ -189,9 +174,6 @@ impl<T: AsStr, O: OtherNla> InetNla<T, O> {
     // Returns the type field and the value that the attribute serializes as.
     #[inline(always)]
     pub(super) fn type_and_value(&self) -> (u16, Value<'_>)
-        // `inet_nla_attribute ..`: the type field and the value that it serializes as. `T.text`
-        // returns the bytes of a text, and `O.attribute` a raw attribute. `value_bytes`: the bytes
-        // that a `Value` serializes to.
         ensures kind { result.0 ≡ (inet_nla_attribute T.text O.attribute self.now).type_word }
         ensures value { value_bytes result.1
             ≡ (inet_nla_attribute T.text O.attribute self.now).value }
@@ -227,9 +209,6 @@ impl<'a> NlaView<'a> {
     /// number or a flag has another length, `NotUtf8` if a text is not valid UTF-8.
     #[inline(always)]
     pub fn parse(nla: &NlaBuffer<'a>) -> Result<NlaView<'a>, DecodeError>
-        // `decode_attribute set attribute`: `Ok` of what the attribute decodes to by the set, or
-        // `Err` of the error of its value. `buffered_attribute nla.now`: the type field and the
-        // value of `nla`. `inet_nla_view_model`: the decoded value of a view.
         ensures { MatchResult result
             (λ view. decode_attribute inet_attribute_set (buffered_attribute nla.now)
             ≡ Ok (inet_nla_view_model view))
@@ -256,9 +235,6 @@ impl<'a> NlaView<'a> {
     /// attribute. No length is tested again.
     #[inline(always)]
     pub fn new(nla: &NlaBuffer<'a>) -> NlaView<'a>
-        // `decode_attribute set attribute`: `Ok` of what the attribute decodes to by the set, or
-        // `Err`. `buffered_attribute`: the type field and the value of `nla`.
-        // `inet_nla_view_model`: the decoded value of a view.
         requires { IsOk (decode_attribute inet_attribute_set (buffered_attribute nla.now)) }
         ensures { decode_attribute inet_attribute_set (buffered_attribute nla.now)
             ≡ Ok (inet_nla_view_model result) }
@@ -285,15 +261,9 @@ impl<'a> NlaView<'a> {
     /// whose value is not empty, may need an allocation.
     #[inline(always)]
     pub fn to_owned(&self, alloc: Global) -> Result<Nla, AllocError>
-        // `inet_nla_model`, `inet_nla_view_model`: the decoded value of an owned and of a borrowed
-        // attribute.
         ensures equal { IfOk result (λ nla. inet_nla_model nla ≡ inet_nla_view_model self.now) }
-        // `needs_no_memory`: the call does not fail if the attribute is of a type whose values need
-        // no memory: any variant except `Congestion` and `Other`.
         ensures needs_no_memory { NeedsNoMemoryIn inet_attribute_set (inet_nla_view_model self.now)
             → IsOk result }
-        // `empty`: the call does not fail if the serialized attribute (`encode_attribute`) has an
-        // empty value: an `Other` without bytes.
         ensures empty { (encode_attribute inet_attribute_set (inet_nla_view_model self.now)).value
             ≡ [] → IsOk result }
     {
@@ -313,10 +283,8 @@ impl<T: AsStr, O: OtherNla> NlaTrait for InetNla<T, O> {
     ghost use Rattle.sock_diag_attributes.specs.InetAttributes.{inet_attribute_set};
     ghost use Rattle.sock_diag_attributes.specs.InetModel.{inet_nla_attribute, inet_nla_value};
 
-    // The type field and the value that the attribute serializes as.
     ghost attribute = { inet_nla_attribute T.text O.attribute };
 
-    // The decoded value is in range: each number fits its field. So it is for each Rust value.
     ghost in_range = { λ v. IsInRangeIn inet_attribute_set (inet_nla_value T.text O.attribute v) };
 
     fn value_len(&self) -> usize {

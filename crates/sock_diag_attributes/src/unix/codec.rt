@@ -21,22 +21,18 @@ use std::alloc::Global;
 impl HasCodec for Nla {
     type Param = ();
 
-    // `first_attribute_codec set`: the codec of the attribute at the start of the bytes.
     ghost codec = { first_attribute_codec unix_attribute_set };
 
-    // What contracts see of a value: its decoded value.
     ghost model = { unix_nla_model };
 
     // 0, since an attribute is not a netlink message, and so has no message type.
     ghost serialized_type = { λ _. 0 };
 
-    // Proof that `==` compares the models.
     ghost eq_is_model = { unix_nlas_equal name_type list_type default_nla_type _ _ _
         (socket_name_model vec_items) vec_items
         raw_attribute (same_names byte_list_type _ vec_items (λ _ _. refl)) (λ _ _. refl)
         (λ _ _. refl) };
 
-    // Proof of the codec laws.
     ghost laws = { first_attribute_codec_laws unix_attribute_set unix_laws };
 }
 
@@ -51,18 +47,14 @@ impl Wire for Nla {
         write_new(alloc, &NlaView::parse(&NlaBuffer::new_checked(bytes)?)?)
     }
 
-    // Proof that `Emitable` serializes a value to the bytes that the codec states.
     ghost bytes_by_codec = { λ _. refl };
 
-    // Proof that a value is writable for `Emitable` if and only if it is by the codec.
     ghost writable_by_codec = { λ _. (λ h. h, λ h. h) };
 
-    // Proof that a value that is in range for `Emitable` is in range by the codec.
     ghost in_range_by_codec = { λ _ h. h };
 }
 
 impl WireNla for Nla {
-    // Proofs that `bytes` and `writable` of `Emitable` are those of the attribute.
     ghost bytes_by_attribute = { λ _. refl };
 
     ghost writable_by_attribute = { λ _. (λ h. h, λ h. h) };

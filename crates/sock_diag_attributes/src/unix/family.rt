@@ -14,10 +14,8 @@ use std::alloc::{AllocError, Global};
 impl<'a> FamilyView<'a> for NlaView<'a> {
     ghost attribute_set = { unix_attribute_set };
 
-    // What contracts see of an attribute: its decoded value.
     ghost model = { unix_nla_view_model };
 
-    // Proof that the attribute serializes as what it decodes to.
     ghost attribute_by_model = { λ _. refl };
 
     #[inline(always)]
@@ -34,7 +32,6 @@ impl<'a> FamilyView<'a> for NlaView<'a> {
 impl FamilyNla for Nla {
     ghost attribute_set = { unix_attribute_set };
 
-    // What contracts see of an attribute: its decoded value.
     ghost model = { unix_nla_model };
 
     #[inline(always)]
@@ -46,12 +43,9 @@ impl FamilyNla for Nla {
         self.clone(alloc)
     }
 
-    // Proof that the attribute serializes as what it decodes to.
     ghost attribute_by_model = { λ _. refl };
 
-    // Proof that the model of an attribute in range is in range.
     ghost in_range_by_model = { λ _ h. h };
 
-    // Proof that `==` compares the models.
     ghost eq_is_model = { same_nla };
 }

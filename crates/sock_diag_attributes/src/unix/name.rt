@@ -29,10 +29,8 @@ pub enum SocketName<B> {
 
 // Not derived: a derived impl would give an owned name a `clone` without an allocator.
 impl<B: Copy> Clone for SocketName<B> {
-    // `copy` is a clone of `name` if it is the same value.
     ghost is_clone = { λ name copy. copy ≡ name };
 
-    // Cloning never fails (`⊤`).
     ghost is_infallible = { λ _. ⊤ };
 
     fn clone(&self) -> Result<Self, AllocError> {
@@ -55,7 +53,6 @@ impl UnixDiagName {
     pub fn clone(&self, alloc: Global) -> Result<Self, AllocError>
         ensures equal { IfOk result (λ name. socket_name_model vec_items name
             ≡ socket_name_model vec_items self.now) }
-        // `needs_no_memory`: cloning does not fail if there are no bytes besides the zero.
         ensures needs_no_memory { length (name_bytes (socket_name_model vec_items self.now)) ≤ 1
             → IsOk result }
     {
@@ -84,8 +81,6 @@ impl<'a> NameView<'a> {
     #[inline(always)]
     #[tactic(auto, using(crate::specs::laws::Name::parse_name_rules))]
     pub fn parse(bytes: &'a [u8]) -> Result<NameView<'a>, DecodeError>
-        // `parse_name bytes`: `Ok` of the name, with its bytes as a list, or `Err` of the error.
-        // `bytes.entry`: the argument as it was passed.
         ensures { MatchResult result
             (λ name. parse_name bytes.entry.now ≡ Ok (name_view_model name))
             (λ e. parse_name bytes.entry.now ≡ Err e) }
@@ -108,7 +103,6 @@ impl<'a> NameView<'a> {
     #[inline(always)]
     #[tactic(auto, using(crate::specs::laws::Name::accepted_name_is_path))]
     pub fn new(bytes: &'a [u8]) -> NameView<'a>
-        // `parse_name bytes`: `Ok` of the name, with its bytes as a list, or `Err` of the error.
         requires { IsOk (parse_name bytes.now) }
         ensures { parse_name bytes.entry.now ≡ Ok (name_view_model result) }
     {
@@ -159,7 +153,6 @@ impl<'a> NameView<'a> {
     pub fn to_owned(&self, alloc: Global) -> Result<UnixDiagName, AllocError>
         ensures equal { IfOk result (λ name.
             socket_name_model vec_items name ≡ name_view_model self.now) }
-        // `needs_no_memory`: the call does not fail if there are no bytes besides the zero.
         ensures needs_no_memory { length (name_bytes (name_view_model self.now)) ≤ 1 → IsOk result }
     {
         Ok(match self {
@@ -186,13 +179,10 @@ impl<'a> Parseable<&'a [u8]> for UnixDiagName {
 impl Emitable for UnixDiagName {
     ghost use Rattle.sock_diag_attributes.specs.NameModel.{socket_name_model};
 
-    // A path and its terminating zero, or a zero and the bytes of an abstract name.
     ghost bytes = { λ v. name_bytes (socket_name_model vec_items v) };
 
-    // The name serializes to at most 4,294,967,295 bytes.
     ghost writable = { λ v. HasU32Length (socket_name_model vec_items v) };
 
-    // Each byte is below 256, as each `u8` is.
     ghost in_range = { λ v. IsBytes (name_bytes (socket_name_model vec_items v)) };
 
     fn is_writable(&self) -> bool {
@@ -211,13 +201,10 @@ impl Emitable for UnixDiagName {
 impl Emitable for NameView<'_> {
     ghost use Rattle.sock_diag_attributes.specs.NameModel.{name_view_model};
 
-    // A path and its terminating zero, or a zero and the bytes of an abstract name.
     ghost bytes = { λ v. name_bytes (name_view_model v) };
 
-    // The name serializes to at most 4,294,967,295 bytes.
     ghost writable = { λ v. HasU32Length (name_view_model v) };
 
-    // Each byte is below 256, as each `u8` is.
     ghost in_range = { λ v. IsBytes (name_bytes (name_view_model v)) };
 
     fn is_writable(&self) -> bool {
@@ -240,19 +227,15 @@ impl HasCodec for UnixDiagName {
 
     type Param = ();
 
-    // The codec of a name that takes all of the bytes.
     ghost codec = { name_codec };
 
-    // What contracts see of a name: a path or an abstract name, with its bytes as a list.
     ghost model = { socket_name_model vec_items };
 
     // 0, since a name is not a netlink message, and so has no message type.
     ghost serialized_type = { λ _. 0 };
 
-    // Proof that `==` compares the models.
     ghost eq_is_model = { names_equal byte_list_type _ vec_items (λ _ _. refl) };
 
-    // Proof of the codec laws.
     ghost laws = { name_codec_laws };
 }
 
@@ -265,21 +248,16 @@ impl Wire for UnixDiagName {
         write_new(alloc, &NameView::parse(bytes)?)
     }
 
-    // Proof that `Emitable` serializes a value to the bytes that the codec states.
     ghost bytes_by_codec = { λ _. refl };
 
-    // Proof that a value is writable for `Emitable` if and only if it is by the codec.
     ghost writable_by_codec = { λ _. (λ h. h, λ h. h) };
 
-    // Proof that a value that is in range for `Emitable` is in range by the codec.
     ghost in_range_by_codec = { λ _ h. h };
 }
 
 // Returns the index of the first zero, or `None` if there is none. Usually there is none, which
 // `contains` finds out faster than a search byte by byte.
 fn first_zero(bytes: &[u8]) -> Option<usize>
-    // `HasNoZero bytes`: no byte is zero. `IsFirstZero bytes index`: the byte at the index is zero,
-    // and no byte before it is. The index is the one in `Some`.
     ensures { MatchOption result (HasNoZero bytes.now) (IsFirstZero bytes.now) }
 {
     if !bytes.contains(&0) {

@@ -1,5 +1,7 @@
 //! The attributes of a reply about a UNIX socket, and the types of their values. In the contracts
-//! `unix_attribute_set` is the set of the known attributes.
+//! `unix_attribute_set` is the set of the known attributes. `N.name` returns a name with its bytes
+//! as a list, `L.numbers` the numbers of a list, and `O.attribute` the type field and the value of
+//! a raw attribute.
 
 ghost use Rattle.std.specs.Prelude.{◌≡◌, [], Ok, Err, IsOk, IfOk, MatchResult, true};
 ghost use Rattle.netlink_core.specs.Attribute.{FitsLengthField, attribute_bytes};
@@ -69,15 +71,10 @@ impl<N: BorrowName, L: BorrowNumbers, O: OtherNla> Emitable for UnixNla<N, L, O>
     ghost use Rattle.sock_diag_attributes.specs.UnixAttributes.{unix_attribute_set};
     ghost use Rattle.sock_diag_attributes.specs.UnixModel.{unix_nla_attribute, unix_nla_value};
 
-    // The header, the value, and zeros as padding up to a multiple of four.
-    // `N.name`, `L.numbers` and `O.attribute` return a name, the numbers of a list, and a raw
-    // attribute.
     ghost bytes = { λ v. attribute_bytes (unix_nla_attribute N.name L.numbers O.attribute v) };
 
-    // The value has at most 65,531 bytes, so that its length fits the length field.
     ghost writable = { λ v. FitsLengthField (unix_nla_attribute N.name L.numbers O.attribute v) };
 
-    // The decoded value is in range: each number fits its field. So it is for each Rust value.
     ghost in_range = { λ v. IsInRangeIn unix_attribute_set
         (unix_nla_value N.name L.numbers O.attribute v) };
 
@@ -99,7 +96,6 @@ impl<N: BorrowName, L: BorrowNumbers, O: OtherNla> Emitable for UnixNla<N, L, O>
 impl MadeWith<Global> for Nla {
     ghost use Rattle.sock_diag_attributes.specs.declared.unix.nlas.UnixNla.TheVariants.{Peer};
 
-    // The made value is a `Peer` of inode 0.
     ghost is_made_with = { λ nla. nla ≡ Peer 0 };
 
     fn made_with(_alloc: Global) -> Self {
@@ -115,14 +111,9 @@ impl Nla {
     /// allocation fails. Only a name, a list that is not empty, and an attribute of another kind
     /// whose value is not empty, may need an allocation.
     pub fn clone(&self, alloc: Global) -> Result<Self, AllocError>
-        // `unix_nla_model`: the decoded value of the attribute.
         ensures equal { IfOk result (λ copy. unix_nla_model copy ≡ unix_nla_model self.now) }
-        // `needs_no_memory`: cloning does not fail if the attribute is of a type whose values need
-        // no memory: any variant except `Name`, `PendingConnections` and `Other`.
         ensures needs_no_memory { NeedsNoMemoryIn unix_attribute_set (unix_nla_model self.now)
             → IsOk result }
-        // `empty`: cloning does not fail if the serialized attribute (`encode_attribute`) has an
-        // empty value: a `PendingConnections` or an `Other` without bytes.
         ensures empty { (encode_attribute unix_attribute_set (unix_nla_model self.now)).value ≡ []
             → IsOk result }
     {
@@ -136,22 +127,16 @@ impl<N: BorrowName, L: BorrowNumbers, O: OtherNla> UnixNla<N, L, O> {
     ghost use Rattle.sock_diag_attributes.specs.UnixModel.{unix_nla_value};
 
     // Returns the attribute with an owned name, owned numbers and owned bytes. Fails only if an
-    // allocation fails.
+    // allocation fails. Only a name, a list that is not empty, and an `Other` with bytes, may need
+    // one.
     #[inline(always)]
     #[tactic(auto, using(crate::specs::laws::Number::no_numbers))]
     fn owned(&self, alloc: Global) -> Result<Nla, AllocError>
-        // `unix_nla_model`: the decoded value of an owned attribute. `unix_nla_value ..`: that of
-        // this one, in which `N.name`, `L.numbers` and `O.attribute` return a name, the numbers of
-        // a list, and a raw attribute.
         ensures equal { IfOk result (λ nla.
             unix_nla_model nla ≡ unix_nla_value N.name L.numbers O.attribute self.now) }
-        // `needs_no_memory`: the call does not fail for any variant except `Name`,
-        // `PendingConnections` and `Other`.
         ensures needs_no_memory { NeedsNoMemoryIn unix_attribute_set
             (unix_nla_value N.name L.numbers O.attribute self.now)
             → IsOk result }
-        // `empty`: the call does not fail if the serialized attribute (`unix_nla_attribute ..`) has
-        // an empty value: for a `PendingConnections` or an `Other` without bytes.
         ensures empty { (unix_nla_attribute N.name L.numbers O.attribute self.now).value ≡ []
             → IsOk result }
     {
@@ -172,9 +157,6 @@ impl<N: BorrowName, L: BorrowNumbers, O: OtherNla> UnixNla<N, L, O> {
     // Returns the type field and the value that the attribute serializes as.
     #[inline(always)]
     pub(super) fn type_and_value(&self) -> (u16, Value<'_>)
-        // `unix_nla_attribute ..`: the type field and the value that it serializes as. `N.name`,
-        // `L.numbers` and `O.attribute` return a name, the numbers of a list, and a raw attribute.
-        // `value_bytes`: the bytes that a `Value` serializes to.
         ensures kind { result.0
             ≡ (unix_nla_attribute N.name L.numbers O.attribute self.now).type_word }
         ensures value { value_bytes result.1
@@ -211,9 +193,6 @@ impl<'a> NlaView<'a> {
     /// is not a multiple of 4, or the error of [`NameView::parse`].
     #[inline(always)]
     pub fn parse(nla: &NlaBuffer<'a>) -> Result<NlaView<'a>, DecodeError>
-        // `decode_attribute set attribute`: `Ok` of what the attribute decodes to by the set, or
-        // `Err` of the error of its value. `buffered_attribute nla.now`: the type field and the
-        // value of `nla`. `unix_nla_view_model`: the decoded value of a view.
         ensures { MatchResult result
             (λ view. decode_attribute unix_attribute_set (buffered_attribute nla.now)
             ≡ Ok (unix_nla_view_model view))
@@ -239,9 +218,6 @@ impl<'a> NlaView<'a> {
     /// attribute. No length is tested again, and a name is not searched for zeros again.
     #[inline(always)]
     pub fn new(nla: &NlaBuffer<'a>) -> NlaView<'a>
-        // `decode_attribute set attribute`: `Ok` of what the attribute decodes to by the set, or
-        // `Err`. `buffered_attribute`: the type field and the value of `nla`.
-        // `unix_nla_view_model`: the decoded value of a view.
         requires { IsOk (decode_attribute unix_attribute_set (buffered_attribute nla.now)) }
         ensures { decode_attribute unix_attribute_set (buffered_attribute nla.now)
             ≡ Ok (unix_nla_view_model result) }
@@ -267,15 +243,9 @@ impl<'a> NlaView<'a> {
     /// empty, and an attribute of another kind whose value is not empty, may need an allocation.
     #[inline(always)]
     pub fn to_owned(&self, alloc: Global) -> Result<Nla, AllocError>
-        // `unix_nla_model`, `unix_nla_view_model`: the decoded value of an owned and of a borrowed
-        // attribute.
         ensures equal { IfOk result (λ nla. unix_nla_model nla ≡ unix_nla_view_model self.now) }
-        // `needs_no_memory`: the call does not fail if the attribute is of a type whose values need
-        // no memory: any variant except `Name`, `PendingConnections` and `Other`.
         ensures needs_no_memory { NeedsNoMemoryIn unix_attribute_set (unix_nla_view_model self.now)
             → IsOk result }
-        // `empty`: the call does not fail if the serialized attribute (`encode_attribute`) has an
-        // empty value: a `PendingConnections` or an `Other` without bytes.
         ensures empty { (encode_attribute unix_attribute_set (unix_nla_view_model self.now)).value
             ≡ [] → IsOk result }
     {
@@ -295,10 +265,8 @@ impl<N: BorrowName, L: BorrowNumbers, O: OtherNla> NlaTrait for UnixNla<N, L, O>
     ghost use Rattle.sock_diag_attributes.specs.UnixAttributes.{unix_attribute_set};
     ghost use Rattle.sock_diag_attributes.specs.UnixModel.{unix_nla_attribute, unix_nla_value};
 
-    // The type field and the value that the attribute serializes as.
     ghost attribute = { unix_nla_attribute N.name L.numbers O.attribute };
 
-    // The decoded value is in range: each number fits its field. So it is for each Rust value.
     ghost in_range = { λ v. IsInRangeIn unix_attribute_set
         (unix_nla_value N.name L.numbers O.attribute v) };
 
