@@ -14,7 +14,6 @@ use super::{InetRequest, InetResponseHeader};
 use netlink_core::Exact;
 
 impl Exact for InetRequest {
-    // Proof that `==` is equality, and that `clone` returns the value and cannot fail.
     ghost exact = { (
       inet_request_equal _ exact_socket.0,
       Prim.search rules,
@@ -23,7 +22,6 @@ impl Exact for InetRequest {
 }
 
 impl Exact for InetResponseHeader {
-    // Proof that `==` is equality, and that `clone` returns the value and cannot fail.
     ghost exact = { (
       inet_response_header_equal _ exact_socket.0 _ exact_timer.0,
       Prim.search rules,

@@ -19,7 +19,6 @@ pub struct StateFlags(u32);
 impl BitOr for StateFlags {
     type Output = StateFlags;
 
-    // `left | right` returns `union`, whose bits (`.0`) are those of `left` and those of `right`.
     ghost bitor_gives = { λ left right union. union.0 ≡ bit_or left.0 right.0 };
 
     /// Returns the union of both sets.
@@ -54,7 +53,6 @@ impl StateFlags {
 }
 
 impl Exact for StateFlags {
-    // Proof that `==` is equality, and that `clone` returns the value and cannot fail.
     ghost exact = { Prim.search rules };
 }
 
@@ -64,10 +62,8 @@ impl Flags for StateFlags {
     // The contracts of `Flags` hold of this type (`⊤`), with the table and the bits below.
     ghost exact = { ⊤ };
 
-    // The name and the bit of each constant.
     ghost table = { inet_state_flags };
 
-    // The bits of a value.
     ghost set_of = { λ flags. flags.0 };
 
     fn flags<'a>() -> &'a [Flag<StateFlags>] {
@@ -95,7 +91,6 @@ pub struct ExtensionFlags(u8);
 impl BitOr for ExtensionFlags {
     type Output = ExtensionFlags;
 
-    // `left | right` returns `union`, whose bits (`.0`) are those of `left` and those of `right`.
     ghost bitor_gives = { λ left right union. union.0 ≡ bit_or left.0 right.0 };
 
     /// Returns the union of both sets.
@@ -124,20 +119,16 @@ impl ExtensionFlags {
 }
 
 impl Exact for ExtensionFlags {
-    // Proof that `==` is equality, and that `clone` returns the value and cannot fail.
     ghost exact = { Prim.search rules };
 }
 
 impl Flags for ExtensionFlags {
     type Bits = u8;
 
-    // The contracts of `Flags` hold of this type (`⊤`), with the table and the bits below.
     ghost exact = { ⊤ };
 
-    // The name and the bit of each constant.
     ghost table = { inet_extension_flags };
 
-    // The bits of a value.
     ghost set_of = { λ flags. flags.0 };
 
     fn flags<'a>() -> &'a [Flag<ExtensionFlags>] {

@@ -52,7 +52,6 @@ pub type InetRequestBuffer = RecordBuffer<InetRequest, INET_REQUEST_LEN>;
 impl Record for InetRequest {
     type Param = ();
 
-    // The tag is the IP versions of the source and of the destination address.
     ghost Tag = { IpVersions };
 
     ghost layout = { inet_request };
@@ -96,12 +95,9 @@ impl Record for InetRequest {
         self.socket_id.write_fields(socket_id);
     }
 
-    // Proof of the laws of the record.
     ghost laws = { record_laws inet_request inet_request_sound };
 }
 
 impl Fills<INET_REQUEST_LEN> for InetRequest {
-    // Proof that the record is parsed from at least `INET_REQUEST_LEN` bytes, and that each value
-    // serializes to exactly as many.
     ghost fills = { inet_request_has_fixed_length };
 }

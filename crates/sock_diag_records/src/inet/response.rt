@@ -72,7 +72,6 @@ pub struct InetResponseHeader {
 pub type InetResponseBuffer = RecordBuffer<InetResponseHeader, INET_RESPONSE_HEADER_LEN>;
 
 impl Exact for Timer {
-    // Proof that `==` is equality, and that `clone` returns the value and cannot fail.
     ghost exact = { Prim.search rules };
 }
 
@@ -132,13 +131,10 @@ impl Record for InetResponseHeader {
         write_u32s(&u32s, after_socket_id);
     }
 
-    // Proof of the laws of the record.
     ghost laws = { record_laws inet_response_header inet_response_header_sound };
 }
 
 impl Fills<INET_RESPONSE_HEADER_LEN> for InetResponseHeader {
-    // Proof that the record is parsed from at least `INET_RESPONSE_HEADER_LEN` bytes, and that each
-    // value serializes to exactly as many.
     ghost fills = { inet_response_header_has_fixed_length };
 }
 
@@ -150,8 +146,6 @@ impl InetResponseHeader {
     /// [`DecodeError::Memory`].
     #[inline(always)]
     pub fn from_prefix(payload: &[u8]) -> Result<Self, DecodeError>
-        // `parse_record layout param bytes`: `Ok` of the value, or `Err` of the first error. There
-        // is no parameter (`tt`).
         ensures value { result ≡ parse_record inet_response_header tt payload.now }
         ensures not_memory { IfErr result (λ error. error ≢ Memory) }
     {
@@ -169,12 +163,8 @@ fn wrapped_milliseconds(time: Duration) -> u32
 /// Returns the fields `idiag_timer`, `idiag_retrans` and `idiag_expires` of `struct inet_diag_msg`,
 /// the last in whole milliseconds modulo 2^32, with 0 for each that the timer does not have.
 pub fn timer_fields(timer: &Option<Timer>) -> (u8, u8, u32)
-    // `class_of timer`: its `idiag_timer`, or 0 for `None`.
     ensures class { result.0 ≡ class_of timer.now }
-    // `retransmits_of timer`: its number of retransmits, or 0 if it has none.
     ensures retransmits { result.1 ≡ retransmits_of timer.now }
-    // `u32_milliseconds`: the whole milliseconds of a time, modulo 2^32. `expires_of timer`: its
-    // time, or 0 if it has none.
     ensures expires { result.2 ≡ u32_milliseconds (expires_of timer.now) }
 {
     match timer {
@@ -191,8 +181,6 @@ pub fn timer_fields(timer: &Option<Timer>) -> (u8, u8, u32)
 // Returns the timer with these fields `idiag_timer`, `idiag_retrans` and `idiag_expires`, or `None`
 // if `timer` is none of 1, 2, 3 and 4. A number that the timer does not have is ignored.
 fn timer_from(timer: u8, retransmits: u8, milliseconds: u32) -> Option<Timer>
-    // `timer_of class retransmits expires`: the timer of this class, with those of the two numbers
-    // that it has, or `None` for class 0. `timer_class`: the timer byte if it is 1 to 4, else 0.
     ensures { result ≡ timer_of (timer_class timer) retransmits milliseconds }
 {
     let expires = Duration::from_millis(u64::from(milliseconds));

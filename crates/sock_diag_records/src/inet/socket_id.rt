@@ -52,7 +52,6 @@ impl SocketId {
     /// Returns the id with both ports 0, both addresses 0.0.0.0, interface 0, and a cookie of eight
     /// zeros.
     pub fn new_v4() -> Self
-        // `unspecified`: the address 0.0.0.0, which has four octets 0.
         ensures { let unspecified : IpAddr = V4 record { octets = replicate 4 0 } in result
             ≡ record {
               source_port = 0;
@@ -76,7 +75,6 @@ impl SocketId {
     /// Returns the id with both ports 0, both addresses `::`, interface 0, and a cookie of eight
     /// zeros.
     pub fn new_v6() -> Self
-        // `unspecified`: the address `::`, which has eight segments 0.
         ensures { let unspecified : IpAddr = V6 record { segments = replicate 8 0 } in result
             ≡ record {
               source_port = 0;
@@ -104,9 +102,6 @@ pub type SocketIdBuffer = RecordBuffer<SocketId, SOCKET_ID_LEN>;
 // Parses the IPv4 address at the offset: four octets. Requires that the bytes contain them.
 fn ipv4_at(bytes: &[u8], offset: usize) -> Ipv4Addr
     requires { offset + 4 ≤ length bytes.now }
-    // `ipv4_octets`: the octets of an address. `values_of fields bytes`: the numbers in those
-    // fields that are not ignored. `address_fields offset version`: the fields of an address at the
-    // offset.
     ensures { ipv4_octets result ≡ values_of (address_fields offset ipv4) bytes.now }
 {
     Ipv4Addr::new(
@@ -121,9 +116,6 @@ fn ipv4_at(bytes: &[u8], offset: usize) -> Ipv4Addr
 // Requires that the bytes contain them.
 fn ipv6_at(bytes: &[u8], offset: usize) -> Ipv6Addr
     requires { offset + 16 ≤ length bytes.now }
-    // `ipv6_segments`: the segments of an address. `values_of fields bytes`: the numbers in those
-    // fields that are not ignored. `address_fields offset version`: the fields of an address at the
-    // offset.
     ensures { ipv6_segments result ≡ values_of (address_fields offset ipv6) bytes.now }
 {
     Ipv6Addr::from_segments(u16s_be_at(bytes, offset))
@@ -133,13 +125,9 @@ fn ipv6_at(bytes: &[u8], offset: usize) -> Ipv6Addr
 // address.
 fn write_address(address: IpAddr, buffer: &mut [u8])
     requires { length buffer.old ≡ 16 }
-    // `address_field_bytes address`: these 16 bytes.
     ensures written { buffer.new ≡ address_field_bytes address }
-    // The address has the number of octets or segments of its IP version. This and `in_range` hold
-    // for each Rust address; they are stated for the laws of the record.
+    // This and `in_range` hold for each Rust address. They are stated for the laws of the record.
     ensures shaped { HasAddressLength address }
-    // `address_fields offset version`: the fields of an address of this IP version at any offset.
-    // `address_values`: the octets or segments, which fit these fields.
     ensures in_range { (offset : ℕ)
         → FitFields (address_fields offset (ip_version_of address)) (address_values address) }
 {
@@ -153,14 +141,12 @@ fn write_address(address: IpAddr, buffer: &mut [u8])
 }
 
 impl Exact for SocketId {
-    // Proof that `==` is equality, and that `clone` returns the value and cannot fail.
     ghost exact = { (Prim.search rules, Prim.search rules, Prim.search rules depth 12) };
 }
 
 impl Record for SocketId {
     type Param = u8;
 
-    // The tag is the IP versions of the source and of the destination address.
     ghost Tag = { IpVersions };
 
     ghost layout = { socket_id };
@@ -217,7 +203,6 @@ impl Record for SocketId {
         write_bytes(&self.cookie, cookie);
     }
 
-    // Proof of the laws of the record.
     ghost laws = { record_laws socket_id socket_id_sound };
 }
 
@@ -228,7 +213,6 @@ impl SocketId {
     /// (10). It does not allocate, so the error is never [`DecodeError::Memory`].
     #[inline(always)]
     pub fn from_prefix(payload: &[u8], family: u8) -> Result<Self, DecodeError>
-        // `parse_record layout param bytes`: `Ok` of the value, or `Err` of the first error.
         ensures value { result ≡ parse_record socket_id family payload.now }
         ensures not_memory { IfErr result (λ error. error ≢ Memory) }
     {
@@ -237,7 +221,5 @@ impl SocketId {
 }
 
 impl Fills<SOCKET_ID_LEN> for SocketId {
-    // Proof that the record is parsed from at least `SOCKET_ID_LEN` bytes, and that each value
-    // serializes to exactly as many.
     ghost fills = { socket_id_has_fixed_length };
 }

@@ -21,7 +21,6 @@ pub struct StateFlags(u32);
 impl BitOr for StateFlags {
     type Output = StateFlags;
 
-    // `left | right` returns `union`, whose bits (`.0`) are those of `left` and those of `right`.
     ghost bitor_gives = { λ left right union. union.0 ≡ bit_or left.0 right.0 };
 
     /// Returns the union of both sets.
@@ -38,7 +37,6 @@ impl StateFlags {
 }
 
 impl Exact for StateFlags {
-    // Proof that `==` is equality, and that `clone` returns the value and cannot fail.
     ghost exact = { Prim.search rules };
 }
 
@@ -48,10 +46,8 @@ impl Flags for StateFlags {
     // The contracts of `Flags` hold of this type (`⊤`), with the table and the bits below.
     ghost exact = { ⊤ };
 
-    // The name and the bit of each constant.
     ghost table = { unix_state_flags };
 
-    // The bits of a value.
     ghost set_of = { λ flags. flags.0 };
 
     fn flags<'a>() -> &'a [Flag<StateFlags>] {
@@ -76,7 +72,6 @@ pub struct ShowFlags(u32);
 impl BitOr for ShowFlags {
     type Output = ShowFlags;
 
-    // `left | right` returns `union`, whose bits (`.0`) are those of `left` and those of `right`.
     ghost bitor_gives = { λ left right union. union.0 ≡ bit_or left.0 right.0 };
 
     /// Returns the union of both sets.
@@ -101,20 +96,16 @@ impl ShowFlags {
 }
 
 impl Exact for ShowFlags {
-    // Proof that `==` is equality, and that `clone` returns the value and cannot fail.
     ghost exact = { Prim.search rules };
 }
 
 impl Flags for ShowFlags {
     type Bits = u32;
 
-    // The contracts of `Flags` hold of this type (`⊤`), with the table and the bits below.
     ghost exact = { ⊤ };
 
-    // The name and the bit of each constant.
     ghost table = { unix_show_flags };
 
-    // The bits of a value.
     ghost set_of = { λ flags. flags.0 };
 
     fn flags<'a>() -> &'a [Flag<ShowFlags>] {

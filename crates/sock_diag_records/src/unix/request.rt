@@ -37,7 +37,6 @@ pub struct UnixRequest {
 pub type UnixRequestBuffer = RecordBuffer<UnixRequest, UNIX_REQUEST_LEN>;
 
 impl Exact for UnixRequest {
-    // Proof that `==` is equality, and that `clone` returns the value and cannot fail.
     ghost exact = { Prim.search rules };
 }
 
@@ -77,12 +76,9 @@ impl Record for UnixRequest {
         write_bytes(&self.cookie, cookie);
     }
 
-    // Proof of the laws of the record.
     ghost laws = { record_laws unix_request unix_request_sound };
 }
 
 impl Fills<UNIX_REQUEST_LEN> for UnixRequest {
-    // Proof, by computation, that the record is parsed from at least `UNIX_REQUEST_LEN` bytes, and
-    // that each value serializes to exactly as many.
     ghost fills = { (refl, λ _. refl) };
 }

@@ -34,7 +34,6 @@ pub struct UnixResponseHeader {
 pub type UnixResponseBuffer = RecordBuffer<UnixResponseHeader, UNIX_RESPONSE_HEADER_LEN>;
 
 impl Exact for UnixResponseHeader {
-    // Proof that `==` is equality, and that `clone` returns the value and cannot fail.
     ghost exact = { Prim.search rules };
 }
 
@@ -71,7 +70,6 @@ impl Record for UnixResponseHeader {
         write_bytes(&self.cookie, cookie);
     }
 
-    // Proof of the laws of the record.
     ghost laws = { record_laws unix_response_header unix_response_header_sound };
 }
 
@@ -80,8 +78,6 @@ impl UnixResponseHeader {
     /// not checked. It does not allocate. Fewer bytes are [`DecodeError::BufferTooSmall`], the only
     /// error.
     pub fn from_prefix(payload: &[u8]) -> Result<Self, DecodeError>
-        // `parse_record layout param bytes`: `Ok` of the value, or `Err` of the first error. There
-        // is no parameter (`tt`).
         ensures { result ≡ parse_record unix_response_header tt payload.now }
     {
         read_record(payload, ())
@@ -89,7 +85,5 @@ impl UnixResponseHeader {
 }
 
 impl Fills<UNIX_RESPONSE_HEADER_LEN> for UnixResponseHeader {
-    // Proof, by computation, that the record is parsed from at least `UNIX_RESPONSE_HEADER_LEN`
-    // bytes, and that each value serializes to exactly as many.
     ghost fills = { (refl, λ _. refl) };
 }
