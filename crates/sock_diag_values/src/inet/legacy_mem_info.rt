@@ -38,7 +38,6 @@ pub struct LegacyMemInfo {
 pub type LegacyMemInfoBuffer = RecordBuffer<LegacyMemInfo, LEGACY_MEM_INFO_LEN>;
 
 impl Exact for LegacyMemInfo {
-    // Proof that `==` is equality, and that `clone` returns the value and cannot fail.
     ghost exact = { Prim.search rules };
 }
 
@@ -79,13 +78,10 @@ impl Record for LegacyMemInfo {
         );
     }
 
-    // Proof of the laws of the record.
     ghost laws = { record_laws legacy_mem_info legacy_mem_info_sound };
 }
 
 impl Fills<LEGACY_MEM_INFO_LEN> for LegacyMemInfo {
-    // Proof, by computation, that the record is parsed from at least `LEGACY_MEM_INFO_LEN` bytes,
-    // and that each value serializes to exactly as many.
     ghost fills = { (refl, λ _. refl) };
 }
 
@@ -93,8 +89,6 @@ impl LegacyMemInfo {
     /// Parses the first 16 bytes, and ignores the bytes after them. Fewer bytes are
     /// [`DecodeError::BufferTooSmall`].
     pub fn parse(payload: &[u8]) -> Result<Self, DecodeError>
-        // `parse_record layout param bytes`: `Ok` of the value, or `Err` of the first error. There
-        // is no parameter (`tt`).
         ensures { result ≡ parse_record legacy_mem_info tt payload.now }
     {
         read_record(payload, ())

@@ -77,17 +77,14 @@ pub enum MemInfoBytes {
 }
 
 impl Exact for MemInfo {
-    // Proof that `==` is equality, and that `clone` returns the value and cannot fail.
     ghost exact = { (mem_info_equal, Prim.search rules, Prim.search rules) };
 }
 
 impl Exact for MemInfoBytes {
-    // Proof that `==` is equality, and that `clone` returns the value and cannot fail.
     ghost exact = { (bytes_equal, Prim.search rules, Prim.search rules) };
 }
 
 impl Exact for MemInfoBuffer {
-    // Proof that `==` is equality, and that `clone` returns the value and cannot fail.
     ghost exact = { (buffer_equal, Prim.search rules, Prim.search rules) };
 }
 
@@ -159,7 +156,6 @@ impl Record for MemInfo {
         }
     }
 
-    // Proof of the laws of the record.
     ghost laws = { record_laws mem_info mem_info_sound };
 }
 
@@ -168,8 +164,6 @@ impl MemInfo {
     /// 32 bytes has no drops, and one of 28 bytes neither a backlog nor drops: these fields are
     /// `None`. Fewer than 28 bytes are [`DecodeError::BufferTooSmall`].
     pub fn parse(payload: &[u8]) -> Result<Self, DecodeError>
-        // `parse_record layout param bytes`: `Ok` of the value, or `Err` of the first error. There
-        // is no parameter (`tt`).
         ensures { result ≡ parse_record mem_info tt payload.now }
     {
         read_record(payload, ())
@@ -181,8 +175,6 @@ impl MemInfoBuffer {
     /// `None` if and only if there are fewer than 28 bytes.
     pub fn read_prefix(payload: &[u8]) -> Option<Self>
         ensures enough { IsSome result ↔ MEM_INFO_SEVEN_LEN ≤ length payload.now }
-        // `mem_info_buffer_bytes array`: the bytes in the array, whatever its variant.
-        // `mem_info_u32_count n`: the number of complete `u32` in `n` bytes: 7, 8 or 9.
         ensures bytes { IfSome result
             (λ buffer. mem_info_buffer_bytes buffer.bytes
             ≡ take (4 * mem_info_u32_count (length payload.now)) payload.now) }
@@ -207,8 +199,7 @@ impl MemInfoBuffer {
 }
 
 impl From<&MemInfo> for MemInfoBuffer {
-    // The bytes in the buffer, whatever its variant, are those that the value serializes to. The
-    // value is in range, as each Rust value is; this is stated for proofs about the bytes.
+    // The value is in range, as each Rust value is. This is stated for proofs about the bytes.
     ghost from_gives = { λ value buffer.
         (mem_info_buffer_bytes buffer.bytes ≡ record_bytes mem_info value.now)
         × IsInRange mem_info value.now };
@@ -227,7 +218,6 @@ impl From<&MemInfo> for MemInfoBuffer {
 impl MemInfoBytes {
     /// Returns the 28, 32 or 36 bytes as a slice.
     pub fn as_slice(&self) -> &[u8]
-        // `mem_info_buffer_bytes array`: the bytes in the array, whatever its variant.
         ensures { result.now ≡ mem_info_buffer_bytes self.now }
     {
         match self {
@@ -243,8 +233,6 @@ impl MemInfoBytes {
 fn u32_if_present(payload: &[u8], offset: usize) -> Option<u32>
     // The end of the field, `offset + 4`, does not overflow a `usize`.
     requires { offset + 4 < 2 ^ 64 }
-    // `SomeIff option condition value`: the option is `Some value` if the condition holds, else
-    // `None`.
     ensures { SomeIff result (offset + 4 ≤ length payload.now)
         (little_number 4 (drop offset payload.now)) }
 {

@@ -164,10 +164,8 @@ pub type TcpInfoBuffer = RecordBuffer<TcpInfo, TCP_INFO_LEN>;
 // Implemented by hand: a derived `clone` has a branch for each copied field, and takes a minute to
 // prove.
 impl Clone for TcpInfo {
-    // `copy` is a clone of `info` if it is the same value.
     ghost is_clone = { λ info copy. copy ≡ info };
 
-    // Cloning never fails (`⊤`).
     ghost is_infallible = { λ _. ⊤ };
 
     fn clone(&self) -> Result<Self, AllocError> {
@@ -176,7 +174,6 @@ impl Clone for TcpInfo {
 }
 
 impl Exact for TcpInfo {
-    // Proof that `==` is equality, and that `clone` returns the value and cannot fail.
     ghost exact = { (tcp_info_equal, Prim.search rules, Prim.search rules) };
 }
 
@@ -295,15 +292,12 @@ impl Record for TcpInfo {
         write_u32s(&self.u32s_at_216(), u32s_at_216);
     }
 
-    // Proof of the laws of the record.
     ghost laws = { record_laws tcp_info tcp_info_sound };
 }
 
 impl Fills<TCP_INFO_LEN> for TcpInfo {
     ghost use Rattle.sock_diag_values.specs.laws.TcpInfo.{tcp_info_has_fixed_length};
 
-    // Proof that the record is parsed from at least `TCP_INFO_LEN` bytes, and that each value
-    // serializes to exactly as many.
     ghost fills = { tcp_info_has_fixed_length };
 }
 
@@ -312,8 +306,6 @@ impl TcpInfo {
     /// [`DecodeError::BufferTooSmall`].
     #[inline(always)]
     pub fn parse(payload: &[u8]) -> Result<Self, DecodeError>
-        // `parse_record layout param bytes`: `Ok` of the value, or `Err` of the first error. There
-        // is no parameter (`tt`).
         ensures { result ≡ parse_record tcp_info tt payload.now }
     {
         read_record(payload, ())

@@ -36,7 +36,6 @@ pub struct MemInfo {
 pub type MemInfoBuffer = RecordBuffer<MemInfo, MEM_INFO_LEN>;
 
 impl Exact for MemInfo {
-    // Proof that `==` is equality, and that `clone` returns the value and cannot fail.
     ghost exact = { Prim.search rules };
 }
 
@@ -79,13 +78,10 @@ impl Record for MemInfo {
         write_u32s(&elements, buffer);
     }
 
-    // Proof of the laws of the record.
     ghost laws = { record_laws unix_mem_info unix_mem_info_sound };
 }
 
 impl Fills<MEM_INFO_LEN> for MemInfo {
-    // Proof, by computation, that the record is parsed from at least `MEM_INFO_LEN` bytes, and that
-    // each value serializes to exactly as many.
     ghost fills = { (refl, λ _. refl) };
 }
 
@@ -93,8 +89,6 @@ impl MemInfo {
     /// Parses the first 36 bytes, and ignores the bytes after them. Fewer bytes are
     /// [`DecodeError::BufferTooSmall`].
     pub fn parse(payload: &[u8]) -> Result<Self, DecodeError>
-        // `parse_record layout param bytes`: `Ok` of the value, or `Err` of the first error. There
-        // is no parameter (`tt`).
         ensures { result ≡ parse_record unix_mem_info tt payload.now }
     {
         read_record(payload, ())

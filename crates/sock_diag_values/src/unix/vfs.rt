@@ -29,7 +29,6 @@ pub struct Vfs {
 pub type VfsBuffer = RecordBuffer<Vfs, VFS_LEN>;
 
 impl Exact for Vfs {
-    // Proof that `==` is equality, and that `clone` returns the value and cannot fail.
     ghost exact = { Prim.search rules };
 }
 
@@ -57,13 +56,10 @@ impl Record for Vfs {
         write_u32s(&[self.inode, self.device], buffer);
     }
 
-    // Proof of the laws of the record.
     ghost laws = { record_laws vfs vfs_sound };
 }
 
 impl Fills<VFS_LEN> for Vfs {
-    // Proof, by computation, that the record is parsed from at least `VFS_LEN` bytes, and that
-    // each value serializes to exactly as many.
     ghost fills = { (refl, λ _. refl) };
 }
 
@@ -71,8 +67,6 @@ impl Vfs {
     /// Parses the first 8 bytes, and ignores the bytes after them. Fewer bytes are
     /// [`DecodeError::BufferTooSmall`].
     pub fn parse(payload: &[u8]) -> Result<Self, DecodeError>
-        // `parse_record layout param bytes`: `Ok` of the value, or `Err` of the first error. There
-        // is no parameter (`tt`).
         ensures { result ≡ parse_record vfs tt payload.now }
     {
         read_record(payload, ())
