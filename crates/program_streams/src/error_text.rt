@@ -20,7 +20,6 @@ pub enum ErrorText {
 }
 
 impl fmt::Display for ErrorText {
-    // `error_text_bytes text`: the bytes of the text, which its parts are joined to.
     ghost output = { λ text. Some (error_text_bytes text) };
 
     fn fmt<W: fmt::Write>(&self, f: &mut fmt::Formatter<W>) -> fmt::Result {
@@ -38,8 +37,7 @@ impl fmt::Display for ErrorText {
 
 /// Returns the eight hexadecimal digits of a number, in lower case.
 pub fn hex_digits(number: u32) -> [u8; 8]
-    // `encode_lower bytes`: two hexadecimal digits for each byte. `big_bytes width number`: the
-    // number in `width` bytes, big-endian.
+    // `encode_lower bytes`: two hexadecimal digits for each byte.
     ensures { result ≡ encode_lower (big_bytes 4 number) }
 {
     let mut bytes = [0u8; 4];
@@ -53,7 +51,6 @@ pub fn hex_digits(number: u32) -> [u8; 8]
 /// Returns the eight hexadecimal digits of a number as a text. `digits` must be what [`hex_digits`]
 /// returns for the number. `_number` is for the contract only.
 fn digits_text<'a>(digits: &'a [u8; 8], _number: u32) -> &'a str
-    // encode_lower (big_bytes 4 number): the hexadecimal digits of the number.
     requires { digits.now ≡ encode_lower (big_bytes 4 _number) }
     ensures { result.now ≡ encode_lower (big_bytes 4 _number) }
 {

@@ -2,7 +2,8 @@
 //!
 //! `A` is a protocol ([`LineAnswers`]): `A.is_answer line text` says that the text is an answer to
 //! the line, and `A.good` which answers are good. `S.answer` has the answer to each line
-//! ([`RunStart`]). `W.held` are the bytes that have been written to an output, if they are known.
+//! ([`RunStart`]); `AnswersEachLine A.is_answer S.answer` says that by the protocol each is one.
+//! `W.held` are the bytes that have been written to an output, if they are known.
 
 ghost use Rattle.std.specs.Prelude.{◌≡◌, ◌⊎◌, ◌+◌, ◌-◌, ◌^◌, ◌≤◌, ℕ, Bool, true, List, [], ◌++◌};
 ghost use Rattle.std.specs.Prelude.{IfOk, IfErr, OnErr, OnOk, Option, None, Some, vec_capacity, ⊤};
@@ -37,7 +38,6 @@ pub enum RunError {
 }
 
 impl fmt::Display for RunError {
-    // `run_error_text error`: "reading failed", "writing failed" or "out of memory".
     ghost output = { λ error. Some (run_error_text error) };
 
     fn fmt<W: fmt::Write>(&self, f: &mut fmt::Formatter<W>) -> fmt::Result {
@@ -52,7 +52,6 @@ impl fmt::Display for RunError {
 impl Error for RunError {}
 
 impl From<ReadError> for RunError {
-    // The result is `Read`.
     ghost from_gives = { λ _ e. e ≡ Read };
 
     fn from(_error: ReadError) -> RunError {
@@ -61,7 +60,6 @@ impl From<ReadError> for RunError {
 }
 
 impl From<WriteError> for RunError {
-    // The result is `Write`.
     ghost from_gives = { λ _ e. e ≡ Write };
 
     fn from(_error: WriteError) -> RunError {
@@ -70,7 +68,6 @@ impl From<WriteError> for RunError {
 }
 
 impl From<AllocError> for RunError {
-    // The result is `Memory`.
     ghost from_gives = { λ _ e. e ≡ Memory };
 
     fn from(_e: AllocError) -> RunError {
@@ -79,7 +76,6 @@ impl From<AllocError> for RunError {
 }
 
 impl<T: Drop> From<AllocFailed<T>> for RunError {
-    // The result is `Memory`.
     ghost from_gives = { λ _ e. e ≡ Memory };
 
     fn from(_e: AllocFailed<T>) -> RunError {
@@ -151,21 +147,17 @@ pub trait PromptRead {
         // were left, if these are known. If `n` is 0 and `chunk` is not empty, none were left. On
         // `Err`, the bytes that are left are unchanged.
         ensures bytes { ReadConsumes (left self.old) (left self.new) result chunk.new }
-        // One more read was made, also if it failed: if `n` reads were made before the call, n + 1
-        // were made after it.
+        // One more read was made, also if it failed.
         ensures counted { (n : ℕ) → reads self.old n → reads self.new (n + 1) }
-        // The call fails only if a read failed.
         ensures cause { OnErr result (failed self.new) };
 }
 
 impl<R: Source> PromptRead for R {
-    // The bytes that are left in the source.
     ghost left = { λ r. R.left r };
 
     // A source does not count reads: this always holds.
     ghost reads = { λ _ _. ⊤ };
 
-    // A read of the source failed, with some error.
     ghost failed = { λ r. (e : ReadError) × R.failed r e };
 
     fn read_prompt<S: RunStart, W: Sink>(
@@ -201,7 +193,6 @@ pub trait LineAnswers {
         bytes: &mut Vec<u8>,
         line: &[u8],
     ) -> Result<Self::Request, AllocError>
-        // `parses_as line request bytes`: the line parses as this request, about these bytes.
         ensures { IfOk result (λ request. parses_as line.now request bytes.new.items) };
 
     /// Appends the answer to a request about these bytes to the text, and returns whether it is a
@@ -260,30 +251,22 @@ pub fn serve<S: RunStart, A: LineAnswers, R: PromptRead, W: Sink>(
     input: &mut R,
     output: &mut W,
 ) -> Result<bool, RunError>
-    // `S` has the state when the run starts: the bytes that are left to read (`R.left`) and those
-    // that have been written (`W.held`), if they are known. No read was made yet
-    // (`R.reads input.old 0`).
+    // `S` has the state when the run starts, and no read was made yet.
     requires start { (S.left_before ≡ R.left input.old) × (S.held_before ≡ W.held output.old)
         × R.reads input.old 0 }
-    // AnswersEachLine: by the protocol, `S.answer line` is an answer to each line.
     requires right { AnswersEachLine A.is_answer S.answer }
-    // If the run succeeds, and it is known which bytes are left to read, none are left.
     ensures ended { OnOk result (IsAtEnd (R.left input.new)) }
-    // If the run succeeds, the last call to the output flushed it.
     ensures flushed { OnOk result (W.flushed output.new) }
-    // `AnswersInput answer streams good result`: a text was read, and what has been written are the
-    // answers to its lines, for each result as described above. On success the result is whether
-    // each answer is a good one. The record has the streams before and after the run.
+    // A text was read, and what has been written are the answers to its lines, for each result as
+    // described above.
     ensures answered { AnswersInput S.answer (record {
       left_before = S.left_before;
       left_after = R.left input.new;
       held_before = S.held_before;
       held_after = W.held output.new;
     }) A.good result }
-    // `Read` only if a read failed, or 2^64 - 1 reads were made.
     ensures read_cause { IfErr result (λ e. e ≡ RunError.Read
         → R.failed input.new ⊎ R.reads input.new (2 ^ 64 - 1)) }
-    // `Write` only if a write or the flush failed, with some error, or a write took no bytes.
     ensures write_cause { IfErr result (λ e. e ≡ RunError.Write
         → (error : WriteError) × W.failed output.new error) }
 {
@@ -320,19 +303,12 @@ fn finish<S: RunStart, A: LineAnswers, W: Sink>(
     buffers: &mut LineBuffers,
     output: &mut W,
 ) -> Result<bool, RunError>
-    // AnswersEachLine: by the protocol, `S.answer line` is an answer to each line.
     requires { (buffers.old.answers.items ≡ []) × AnswersEachLine A.is_answer S.answer }
-    // `WritesText held held' text result`: the text was written if the step succeeded, else a
-    // prefix of it or nothing. `answer_lines answer lines`: each answer, followed by a line feed.
-    // `all_lines whole rest`: the complete lines, of which none are left (`[]`), and the last line
-    // `rest`, unless it is empty. `all_answers_good good answer lines`: whether each of these
-    // answers is a good one.
     ensures written { WritesText (W.held output.old) (W.held output.new)
         (answer_lines S.answer (all_lines [] buffers.old.line.items)) result }
     ensures judged { IfOk result (λ is_good.
         is_good ≡ all_answers_good A.good S.answer (all_lines [] buffers.old.line.items)) }
     ensures flushed { OnOk result (W.flushed output.new) }
-    // `Write` only if a write or the flush failed, with some error.
     ensures cause { IfErr result (λ e. e ≡ RunError.Write
         → (error : WriteError) × W.failed output.new error) }
 {
@@ -349,11 +325,7 @@ fn end_last_line<S: RunStart, A: LineAnswers>(
     alloc: Global,
     buffers: &mut LineBuffers,
 ) -> Result<bool, AllocError>
-    // AnswersEachLine: by the protocol, `S.answer line` is an answer to each line.
     requires { (buffers.old.answers.items ≡ []) × AnswersEachLine A.is_answer S.answer }
-    // `answer_lines answer lines`: each answer, followed by a line feed. `all_lines whole rest`:
-    // the complete lines, of which none are left (`[]`), and the last line `rest`, unless it is
-    // empty. `all_answers_good good answer lines`: whether each of these answers is a good one.
     ensures added { OnOk result (buffers.new.answers.items
         ≡ answer_lines S.answer (all_lines [] buffers.old.line.items)) }
     ensures judged { IfOk result (λ is_good.
@@ -374,11 +346,7 @@ fn answer_chunk<S: RunStart, A: LineAnswers>(
     buffers: &mut LineBuffers,
     chunk: &[u8],
 ) -> Result<bool, AllocError>
-    // `HasNoLineFeed line`: none of its bytes is a line feed. AnswersEachLine: by the protocol,
-    // `S.answer line` is an answer to each line.
     requires { HasNoLineFeed buffers.old.line.items × AnswersEachLine A.is_answer S.answer }
-    // `AnswersChunk answer good before chunk after is_good`: the lines that end in the chunk were
-    // answered, and `is_good`, here the returned value, is whether each answer is a good one.
     ensures { IfOk result
         (AnswersChunk S.answer A.good buffers.old chunk.now buffers.new) }
 {
@@ -401,17 +369,12 @@ fn end_line<S: RunStart, A: LineAnswers>(
     buffers: &mut LineBuffers,
     end: &[u8],
 ) -> Result<bool, AllocError>
-    // AnswersEachLine: by the protocol, `S.answer line` is an answer to each line.
     requires { AnswersEachLine A.is_answer S.answer }
-    // `S.answer line`: the answer to a line. `with_line_feed text`: the text followed by a line
-    // feed.
     ensures added { OnOk result ((buffers.new.line.items ≡ [])
         × (buffers.new.answers.items ≡ buffers.old.answers.items
         ++ with_line_feed (S.answer (buffers.old.line.items ++ end.now)))) }
-    // `A.good answer`: the protocol counts this answer as a good one.
     ensures judged { IfOk result (λ is_good.
         is_good ≡ A.good (S.answer (buffers.old.line.items ++ end.now))) }
-    // `line`, and `bytes`, which has the bytes of the request, retain at most this memory.
     ensures capacities { OnOk result ((vec_capacity buffers.new.line ≤ RETAINED_CAPACITY)
         × (vec_capacity buffers.new.bytes ≤ RETAINED_CAPACITY)) }
 {
@@ -431,10 +394,8 @@ fn read_line<A: LineAnswers>(
     buffers: &mut LineBuffers,
     end: &[u8],
 ) -> Result<A::Request, AllocError>
-    // `A.parses_as line request bytes`: the line parses as this request, about these bytes.
     ensures request { IfOk result (λ request.
         A.parses_as (buffers.old.line.items ++ end.now) request buffers.new.bytes.items) }
-    // The buffer of answers is unchanged.
     ensures others { OnOk result (buffers.new.answers.items ≡ buffers.old.answers.items) }
 {
     if buffers.line.is_empty() {
@@ -453,11 +414,9 @@ fn add_answer_line<S: RunStart, A: LineAnswers>(
     request: A::Request,
     bytes: &[u8],
 ) -> Result<bool, AllocError>
-    // AnswersEachLine: by the protocol, `S.answer line` is an answer to each line.
     requires { AnswersEachLine A.is_answer S.answer }
     // The line of the request is not an argument. So this is stated for each line that parses as
-    // this request about these bytes (`A.parses_as`). `with_line_feed text`: the text followed by a
-    // line feed.
+    // this request about these bytes.
     ensures { IfOk result (λ is_good. (line : List ℕ) → A.parses_as line request bytes.now
         → (answers.new.items ≡ answers.old.items ++ with_line_feed (S.answer line))
         × (is_good ≡ A.good (S.answer line))) }

@@ -46,8 +46,6 @@ pub enum ReadError {
 impl ReadError {
     /// Returns the text of the error.
     pub fn text(&self) -> ErrorText
-        // `error_text_bytes text`: the bytes that the parts of the text are joined to.
-        // `read_error_text error`: the text for each error, as in the body.
         ensures { error_text_bytes result ≡ read_error_text self.now }
     {
         match self {
@@ -65,7 +63,6 @@ impl ReadError {
 }
 
 impl fmt::Display for ReadError {
-    // The same text as `text` returns.
     ghost output = { λ error. Some (read_error_text error) };
 
     fn fmt<W: fmt::Write>(&self, f: &mut fmt::Formatter<W>) -> fmt::Result {
@@ -90,8 +87,6 @@ pub enum WriteError {
 impl WriteError {
     /// Returns the text of the error.
     pub fn text(&self) -> ErrorText
-        // `error_text_bytes text`: the bytes that the parts of the text are joined to.
-        // `write_error_text error`: the text for each error, as in the body.
         ensures { error_text_bytes result ≡ write_error_text self.now }
     {
         match self {
@@ -107,7 +102,6 @@ impl WriteError {
 }
 
 impl fmt::Display for WriteError {
-    // The same text as `text` returns.
     ghost output = { λ error. Some (write_error_text error) };
 
     fn fmt<W: fmt::Write>(&self, f: &mut fmt::Formatter<W>) -> fmt::Result {
@@ -122,7 +116,6 @@ impl Error for WriteError {}
 /// `code`. For five numbers, those that reads and writes have most often, it is a colon, the
 /// meaning of the number, and the closing parenthesis. For others it is only the parenthesis.
 pub fn os_error_end(code: u32) -> &'static str
-    // The definition has the six texts.
     ensures { result.now ≡ os_error_end code }
 {
     if code == EIO {
@@ -158,12 +151,10 @@ pub trait Source {
         // If `n` is returned, the first `n` bytes of `bytes` were consumed; if it is 0 and `bytes`
         // is not empty, none remain. If the read fails, the remaining bytes are unchanged.
         ensures bytes { ReadConsumes (left self.old) (left self.new) result bytes.new }
-        // An error is returned only if a read failed with it.
         ensures cause { IfErr result (λ e. failed self.new e) };
 }
 
 impl<R: Read> Source for R {
-    // The bytes that are left in the reader, as std states them.
     ghost left = { λ r. R.remaining r };
 
     // A reader of std does not record failures: this always holds.
@@ -178,9 +169,6 @@ impl<R: Read> Source for R {
 /// of the error is `IsADirectory`, else the error with the system's number, if there is one that is
 /// not negative, else `Other`.
 fn read_outcome(outcome: io::Result<usize>) -> Result<usize, ReadError>
-    // error_kind and raw_os_error: the kind and the number of the error of std.
-    // `IsReadErrorFor is_directory number e`: `e` is `Directory` if and only if the first argument
-    // holds, else `Os` with this number, or `Other`.
     ensures { MatchResult outcome (λ n. result ≡ Ok n)
         (λ error. (e : ReadError) × (result ≡ Err e)
         × IsReadErrorFor (error_kind error ≡ ErrorKind.IsADirectory) (raw_os_error error) e) }
@@ -195,8 +183,6 @@ fn read_outcome(outcome: io::Result<usize>) -> Result<usize, ReadError>
 /// if the kind is `IsADirectory`, else the error with the number, if there is one that is not
 /// negative, else `Other`.
 fn read_failure(kind: ErrorKind, code: Option<i32>) -> ReadError
-    // `IsReadErrorFor is_directory number e`: `e` is `Directory` if and only if the first argument
-    // holds, else `Os` with this number, or `Other`.
     ensures { IsReadErrorFor (kind ≡ ErrorKind.IsADirectory) code result }
 {
     match (kind, error_number(code)) {
@@ -209,7 +195,6 @@ fn read_failure(kind: ErrorKind, code: Option<i32>) -> ReadError
 /// Returns the system's number of an error, if it has one (`code`) that is not negative, else
 /// `None`.
 fn error_number(code: Option<i32>) -> Option<u32>
-    // The definition is from `Option ℤ` to `Option ℕ`.
     ensures { result ≡ error_number code }
 {
     match code {
@@ -239,20 +224,16 @@ pub trait Sink {
         // If `n` is returned, the first `n` of the bytes were written. If the call fails, none
         // were.
         ensures bytes { WriteAppends (held self.old) (held self.new) result bytes.now }
-        // An error is returned only if a write failed with it.
         ensures cause { IfErr result (λ e. failed self.new e) };
 
     /// Flushes the output once.
     fn flush(&mut self) -> Result<(), WriteError>
-        // What has been written is unchanged.
         ensures bytes { Keeps (held self.old) (held self.new) }
         ensures done { OnOk result (flushed self.new) }
-        // An error is returned only if a flush failed with it.
         ensures cause { IfErr result (λ e. failed self.new e) };
 }
 
 impl<W: Write> Sink for W {
-    // The bytes that the writer has received, as std states them.
     ghost held = { λ w. W.contents w };
 
     // A writer of std does not record failures and flushes: these two always hold.
@@ -274,9 +255,6 @@ impl<W: Write> Sink for W {
 /// kind is `BrokenPipe`, else the one with the system's number, if there is one that is not
 /// negative, else `Other`.
 fn write_outcome(outcome: io::Result<usize>) -> Result<usize, WriteError>
-    // error_kind and raw_os_error: the kind and the number of the error of std.
-    // `IsWriteErrorFor is_broken_pipe number e`: `e` is `Closed` if and only if the first argument
-    // holds, else `Os` with this number, or `Other`.
     ensures { MatchResult outcome
         (λ n. result ≡ (if n == 0 then Err WriteError.Other else Ok n))
         (λ error. (e : WriteError) × (result ≡ Err e)
@@ -293,9 +271,6 @@ fn write_outcome(outcome: io::Result<usize>) -> Result<usize, WriteError>
 /// kind is `BrokenPipe`, else the error with the system's number, if there is one that is not
 /// negative, else `Other`.
 fn flush_outcome(outcome: io::Result<()>) -> Result<(), WriteError>
-    // error_kind and raw_os_error: the kind and the number of the error of std.
-    // `IsWriteErrorFor is_broken_pipe number e`: `e` is `Closed` if and only if the first argument
-    // holds, else `Os` with this number, or `Other`.
     ensures { MatchResult outcome (λ _. result ≡ Ok tt)
         (λ error. (e : WriteError) × (result ≡ Err e)
         × IsWriteErrorFor (error_kind error ≡ ErrorKind.BrokenPipe) (raw_os_error error) e) }
@@ -310,8 +285,6 @@ fn flush_outcome(outcome: io::Result<()>) -> Result<(), WriteError>
 /// and only if the kind is `BrokenPipe`, else the error with the number, if there is one that is
 /// not negative, else `Other`.
 fn write_failure(kind: ErrorKind, code: Option<i32>) -> WriteError
-    // `IsWriteErrorFor is_broken_pipe number e`: `e` is `Closed` if and only if the first argument
-    // holds, else `Os` with this number, or `Other`.
     ensures { IsWriteErrorFor (kind ≡ ErrorKind.BrokenPipe) code result }
 {
     match (kind, error_number(code)) {
@@ -324,11 +297,7 @@ fn write_failure(kind: ErrorKind, code: Option<i32>) -> WriteError
 /// Writes all of `bytes`. Fails with the error of the first write that fails, which is not
 /// repeated; then a prefix of `bytes` has been written.
 pub fn send<W: Sink>(output: &mut W, bytes: &[u8]) -> Result<(), WriteError>
-    // `Appends held held' bytes`: the bytes were appended to what had been written (`W.held`), if
-    // this was known, here all of `bytes`.
     ensures written { OnOk result (Appends (W.held output.old) (W.held output.new) bytes.now) }
-    // `W.failed output e`: a write failed with this error. A prefix of the bytes was written
-    // (`sent`).
     ensures stopped { IfErr result (λ e. W.failed output.new e
         × (sent : List ℕ) × (unsent : List ℕ) × (bytes.now ≡ sent ++ unsent)
         × Appends (W.held output.old) (W.held output.new) sent) }
@@ -344,8 +313,6 @@ pub fn send<W: Sink>(output: &mut W, bytes: &[u8]) -> Result<(), WriteError>
 /// Writes the text. If a write fails, a prefix of the text has been written. The failure is not
 /// reported.
 pub fn try_send<W: Sink>(output: &mut W, text: &[u8])
-    // `WritesAllOrFails held held' failed text`: all of the text was written; or a prefix of it was
-    // written, and a write failed, with some error (`W.failed`).
     ensures { WritesAllOrFails (W.held output.old) (W.held output.new)
         ((e : WriteError) × W.failed output.new e) text.now }
 {
