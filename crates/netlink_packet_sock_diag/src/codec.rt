@@ -35,8 +35,7 @@ macro_rules! with_view {
 
 /// Serializes the request or reply, without a netlink header. A request is always writable.
 impl Emitable for SockDiagMessage {
-    // The members of `Emitable` are those of the codec of messages. `message_model v`: the kind of
-    // the message and the model of its content.
+    // The members of `Emitable` are those of the codec of messages.
     ghost bytes = { λ v. message_codec.serialized (message_model v) };
 
     ghost writable = { λ v. message_codec.is_writable (message_model v) };
@@ -58,8 +57,6 @@ impl Emitable for SockDiagMessage {
 
 /// Serializes to the canonical form of the message. Does not allocate.
 impl Emitable for SockDiagView<'_> {
-    // The members of `Emitable` are those of the codec of messages. `message_view_model v`: the
-    // kind of the message and the model of its reply.
     ghost bytes = { λ v. message_codec.serialized (message_view_model v) };
 
     ghost writable = { λ v. message_codec.is_writable (message_view_model v) };

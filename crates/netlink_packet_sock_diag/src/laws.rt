@@ -1,9 +1,15 @@
 //! Properties of replies, messages and dumps. Proof only: the contracts state the properties.
 //!
 //! In the contracts `message_codec` is the codec of messages without a netlink header, and
-//! `netlink_message_codec` that of netlink messages. The item of a message is its payload or its
-//! decode error, by `IsItemOf message_codec`. `IsBytes b`: each number of the list `b` is below
-//! 256.
+//! `netlink_message_codec` that of netlink messages, whose parameter is `tt`. `netlink_core` states
+//! some of these properties for the messages of any protocol: there the body calls its law.
+//!
+//! The item of a message is its payload or its decode error, by `IsItemOf message_codec`. In a
+//! `LossyDump` it is by `HasLossyEntry message_codec`: an inner message is its value or its decode
+//! error. `DumpOfItems (before, items) (after, end)`: a dump with the messages `before` that reads
+//! these items has then the messages `after` and the end `end`. `DumpOfDatagrams` states this of
+//! the items of datagrams. `NewReaderReaches item_is datagrams progress`: feeding these datagrams
+//! in order to a new reader leads to this progress, and no allocation fails.
 
 ghost use Rattle.std.specs.Prelude.{Bool, true, ◌≡◌, ◌≢◌, ◌%◌, ◌↔◌, ◌⊎◌, ◌++◌, ℕ, List, [], ◌∷◌};
 ghost use Rattle.std.specs.Prelude.{length, count_by, IsTrue, Result, IfOk, IsOk, map, None};
@@ -67,8 +73,6 @@ use std::alloc::{AllocError, Global};
 /// The length of a serialized reply, `buffer_len`, is a multiple of 4, for replies about UNIX
 /// sockets and about IPv4 or IPv6 sockets, if each number of the reply fits its field.
 pub fn reply_lengths_are_multiples_of_four()
-    // `response_codec spec`: the codec of the replies of this format. `response_bytes spec v`: the
-    // bytes that the reply `v` serializes to.
     ensures unix { (v : ReplyValue unix_response_spec)
         → (response_codec unix_response_spec).is_in_range v
         → length (response_bytes unix_response_spec v) % 4 ≡ 0 }
@@ -81,7 +85,6 @@ pub fn reply_lengths_are_multiples_of_four()
 /// `is_unix_response`, exactly one returns `true` for a message. The contract states this of any
 /// four tests, one for each kind, of which each is true if and only if the message has its kind.
 pub fn one_kind()
-    // `tests kind`: the result of the test for this kind. `kind_of m`: the kind of the message.
     // `count_by tests kinds`: the number of kinds in the list whose test is true.
     ensures { (m : Message) (tests : MessageKind → Bool)
         → ((kind : MessageKind) → IsTrue (tests kind) ↔ (kind_of m ≡ kind))
@@ -90,8 +93,6 @@ pub fn one_kind()
 
 /// Every parsed message is a reply.
 pub fn parsed_messages_are_replies()
-    // `message_codec.parses b t m`: the bytes `b` parse under the message type `t` as the message
-    // `m`.
     ensures { (b : List ℕ) (t : ℕ) (m : Message) → message_codec.parses b t m
         → (kind_of m ≡ inet_response)
         ⊎ (kind_of m ≡ unix_response) }
@@ -125,11 +126,7 @@ pub fn parsers_take_memory() -> (bool, bool, bool)
 /// `UnknownMessageType(21)`: the request is serialized under the type 21, and messages are parsed
 /// only under the type 20.
 pub fn finalized_destroy_is_rejected()
-    // `FitFields header_fields (header_values header)`: each number of the header fits its field.
-    // `is_writable`: the message with this header and this inner message is writable.
-    // `finalized_header bytes type_of message`: the header as `finalize` sets it, with the length
-    // of the message and the type of its payload. `bytes` and `type_of` are those of an inner
-    // message; here the type is `SOCK_DESTROY`.
+    // `destroys.serialized_type` is `SOCK_DESTROY`.
     ensures { (header : NetlinkHeader) (inner : Message)
         → FitFields header_fields (header_values header)
         → netlink_message_codec.is_writable
@@ -149,11 +146,8 @@ pub fn finalized_destroy_is_rejected()
 /// its header fits its field. This is about a Rust value, `message`;
 /// [`finalized_destroy_is_rejected`] is about models.
 pub fn finalized_destroy_value_is_rejected()
-    // `FitFields header_fields (header_values h)`: each number of the header `h` fits its field.
-    // `netlink_message_model destroys.model message`: the header of `message`, and the model of its
-    // payload; `destroys.model` is the message that a request contains. `finalized_header ..`: the
-    // header as `finalize` sets it, with the length of the message and the type
-    // `destroys.serialized_type`, which is `SOCK_DESTROY`. `rest`: the bytes after the message.
+    // `destroys.model destroy`: the message that a request contains. `destroys.serialized_type` is
+    // `SOCK_DESTROY`.
     ensures { (message : NetlinkMessage SockDiagDestroy) (destroy : SockDiagDestroy) (rest : List ℕ)
         → message.payload ≡ InnerMessage destroy
         → FitFields header_fields (header_values message.header)
@@ -169,8 +163,6 @@ pub fn finalized_destroy_value_is_rejected()
 /// Each input has one netlink message of sock_diag(7) at its start, or one decode error. It does
 /// not have both, and the error is not `Memory`.
 pub fn one_message_or_error()
-    // `parses b tt v`: the bytes `b` start with the message `v`. `rejects b tt e`: they are
-    // rejected with the error `e`. `tt`: the codec has no parameter.
     ensures is_total { (b : List ℕ) → IsBytes b
         → ((v : NetlinkMessageModel Message) × netlink_message_codec.parses b tt v)
         ⊎ ((e : DecodeError) × netlink_message_codec.rejects b tt e) }
@@ -186,19 +178,15 @@ pub fn one_message_or_error()
     ensures error_is_not_memory { (b : List ℕ) → netlink_message_codec.rejects b tt errors.Memory →
         ⊥ }
 {
-    // `netlink_core` states this for the messages of any protocol.
     laws::one_message_or_error::<SockDiagMessage>();
 }
 
 /// Two accepted inputs have equal netlink messages if and only if they are equivalent.
 pub fn equal_messages_iff_equivalent()
-    // `parses b tt v`: the bytes `b` start with the message `v`. `equivalent tt b c`: `b` and `c`
-    // are equivalent, that is, they differ only in ignored bits. `tt`: the codec has no parameter.
     ensures { (b c : List ℕ) (v w : NetlinkMessageModel Message) → IsBytes b → IsBytes c
         → netlink_message_codec.parses b tt v → netlink_message_codec.parses c tt w
         → ((v ≡ w) ↔ netlink_message_codec.equivalent tt b c) }
 {
-    // `netlink_core` states this for the messages of any protocol.
     laws::equal_messages_iff_equivalent::<SockDiagMessage>();
 }
 
@@ -206,15 +194,11 @@ pub fn equal_messages_iff_equivalent()
 /// An input has a canonical form if it is accepted and its value is writable. The canonical form of
 /// a netlink message has its header unchanged.
 pub fn same_message_bytes_iff_equivalent()
-    // `HasCanonicalForm codec tt bytes form`: the input `bytes` is accepted, its value is writable,
-    // and `form` are the bytes that this value serializes to. `equivalent tt b c`: `b` and `c`
-    // differ only in ignored bits. `tt`: the codec has no parameter.
     ensures { (bytes others form other_form : List ℕ) → IsBytes bytes → IsBytes others
         → HasCanonicalForm netlink_message_codec tt bytes form
         → HasCanonicalForm netlink_message_codec tt others other_form
         → ((form ≡ other_form) ↔ netlink_message_codec.equivalent tt bytes others) }
 {
-    // `netlink_core` states this for the messages of any protocol.
     laws::same_message_bytes_iff_equivalent::<SockDiagMessage>();
 }
 
@@ -222,27 +206,19 @@ pub fn same_message_bytes_iff_equivalent()
 /// and type that `finalize` sets, round-trips if and only if it has no inner message, or an inner
 /// message in normal form under the type 20.
 pub fn finalized_message_round_trips()
-    // `finalized_header bytes type_of v`: the header of `v`, with the length of the message and the
-    // type of its payload; `bytes` and `type_of` are those of an inner message. Here the type of an
-    // inner message is `messages.serialized_type`, which is `SOCK_DIAG_BY_FAMILY`.
-    // `HoldsOfInnerMessage is payload`: the inner message is in normal form, if there is one.
+    // `messages.serialized_type` is `SOCK_DIAG_BY_FAMILY`.
     ensures { (v : NetlinkMessageModel Message) → netlink_message_codec.is_in_range v
         → netlink_message_codec.is_writable v
         → (v.header ≡ finalized_header message_codec.serialized messages.serialized_type v)
         → (netlink_message_codec.parses (netlink_message_codec.serialized v) tt v
         ↔ HoldsOfInnerMessage (message_codec.is_normal SOCK_DIAG_BY_FAMILY) v.payload) }
 {
-    // `netlink_core` states this for the messages of any protocol.
     laws::finalized_message_round_trips::<SockDiagMessage>();
 }
 
 /// Each list of items has exactly one dump, given the messages before: the messages after it and
 /// its end.
 pub fn items_have_one_dump()
-    // `Item Message`: the payload of a message, or its error. `end`: a state and an error number,
-    // or the decode error that ended the dump. `DumpOfItems (before, items) (after, end)`: a dump
-    // with the messages `before` that reads these items has then the messages `after` and the end
-    // `end`.
     ensures some { (before : List Message) (items : List (Item Message))
         → (after : List Message) × (end : Result DumpStatus DecodeError)
         × DumpOfItems (before, items) (after, end) }
@@ -256,10 +232,9 @@ pub fn items_have_one_dump()
 /// The dump over two concatenated lists of items is the dump over the first list if that list ends
 /// the dump. Otherwise it is continued over the second list.
 pub fn dump_over_concatenation()
-    // `DumpOfItems (before, items) (after, end)`: a dump with the messages `before` that reads
-    // these items has then the messages `after` and the end `end`. Over `first` these are `middle`
-    // and `middle_end`. `Ok (Reading, None)`: no item of `first` ends the dump. Then `second`
-    // continues it from the messages `middle`. Otherwise `second` changes nothing.
+    // Over `first` the dump has the messages `middle` and the end `middle_end`. `Ok (Reading,
+    // None)`: no item of `first` ends the dump. Then `second` continues it from the messages
+    // `middle`. Otherwise `second` changes nothing.
     ensures { (before after : List Message) (end : Result DumpStatus DecodeError)
         (first second : List (Item Message))
         → (DumpOfItems (before, first ++ second) (after, end)
@@ -271,10 +246,6 @@ pub fn dump_over_concatenation()
 
 /// Two lists of datagrams with the same items have the same dump, from any messages before.
 pub fn same_items_have_one_dump()
-    // `HaveSameItems item_is datagrams others`: the items of all datagrams of a list, concatenated
-    // in order, are the same for both lists. `DumpOfDatagrams item_is (before, datagrams) (after,
-    // end)`: a dump with the messages `before` that reads these datagrams has then the messages
-    // `after` and the end `end`. `item_is message item`: the item of a message.
     ensures { (datagrams others : List (List ℕ)) → AllByRecursion IsBytes datagrams
         → HaveSameItems (IsItemOf message_codec) datagrams others
         → (before after : List Message) (end : Result DumpStatus DecodeError)
@@ -290,9 +261,6 @@ pub fn same_items_have_one_dump()
 /// complete messages with all their padding. From any messages before, if the one has a dump with
 /// the messages `after` and the end `end`, the other has it too.
 pub fn split_changes_no_dump()
-    // `AreSplitsOfSameBytes datagrams others`: both are such splits of the same bytes.
-    // `DumpOfDatagrams item_is (before, datagrams) (after, end)`: a dump with the messages `before`
-    // that reads these datagrams has then the messages `after` and the end `end`.
     ensures { (datagrams others : List (List ℕ)) → AreSplitsOfSameBytes datagrams others
         → (before after : List Message) (end : Result DumpStatus DecodeError)
         → DumpOfDatagrams (IsItemOf message_codec) (before, datagrams) (after, end)
@@ -311,14 +279,10 @@ pub fn split_changes_no_dump()
 /// - `same`: both readers have the same progress: messages, state, error number, interruption.
 /// - `whole`: feeding all bytes as one datagram leads to this progress, too.
 pub fn split_changes_no_feed()
-    // `AreSplitsOfSameBytes datagrams others`: both are such splits of the same bytes.
-    // `NewReaderReaches item_is datagrams progress`: feeding these datagrams in order to a new
-    // reader leads to this progress, and no allocation fails.
     ensures same { (datagrams others : List (List ℕ)) → AreSplitsOfSameBytes datagrams others
         → (progress other : DumpProgress Message)
         → NewReaderReaches (IsItemOf message_codec) datagrams progress
         → NewReaderReaches (IsItemOf message_codec) others other → progress ≡ other }
-    // `IsCompleteSplit datagrams`: it is one such split. `concat datagrams`: all of its bytes.
     ensures whole { (datagrams : List (List ℕ)) → IsCompleteSplit datagrams
         → (progress : DumpProgress Message)
         → NewReaderReaches (IsItemOf message_codec) datagrams progress
@@ -329,9 +293,6 @@ pub fn split_changes_no_feed()
 /// with the same items, if no allocation fails. Whether the dump is interrupted may differ, because
 /// an item does not contain the flags of its message.
 pub fn same_items_change_no_feed()
-    // `HaveSameItems item_is datagrams others`: the items of all datagrams of a list, concatenated
-    // in order, are the same for both lists. `NewReaderReaches item_is datagrams progress`: feeding
-    // these datagrams in order to a new reader leads to this progress, and no allocation fails.
     ensures { (datagrams others : List (List ℕ)) → AllByRecursion IsBytes datagrams
         → AllByRecursion IsBytes others
         → HaveSameItems (IsItemOf message_codec) datagrams others
@@ -350,17 +311,11 @@ pub fn same_items_change_no_feed()
 /// - `same`: both readers have the same progress: entries, state, error number, interruption.
 /// - `whole`: feeding all bytes as one datagram leads to this progress, too.
 pub fn split_changes_no_lossy_feed()
-    // `AreSplitsOfSameBytes datagrams others`: both are such splits of the same bytes.
-    // `NewReaderReaches item_is datagrams progress`: feeding these datagrams in order to a new
-    // reader leads to this progress, and no allocation fails. `HasLossyEntry message_codec`: the
-    // item of a message in a `LossyDump`, in which an inner message is its value or its decode
-    // error.
     ensures same { (datagrams others : List (List ℕ)) → AreSplitsOfSameBytes datagrams others
         → (progress other : DumpProgress (Result Message DecodeError))
         → NewReaderReaches (HasLossyEntry message_codec) datagrams progress
         → NewReaderReaches (HasLossyEntry message_codec) others other
         → progress ≡ other }
-    // `IsCompleteSplit datagrams`: it is one such split. `concat datagrams`: all of its bytes.
     ensures whole { (datagrams : List (List ℕ)) → IsCompleteSplit datagrams
         → (progress : DumpProgress (Result Message DecodeError))
         → NewReaderReaches (HasLossyEntry message_codec) datagrams progress
@@ -372,11 +327,6 @@ pub fn split_changes_no_lossy_feed()
 /// the same items, if no allocation fails. Whether the dump is interrupted may differ, because an
 /// item does not contain the flags of its message.
 pub fn same_items_change_no_lossy_feed()
-    // `HaveSameItems item_is datagrams others`: the items of all datagrams of a list, concatenated
-    // in order, are the same for both lists. `HasLossyEntry message_codec`: the item of a message
-    // in a `LossyDump`. `NewReaderReaches item_is datagrams progress`: feeding these datagrams in
-    // order to a new reader leads to this progress, and no allocation fails. Its messages are the
-    // entries.
     ensures { (datagrams others : List (List ℕ)) → AllByRecursion IsBytes datagrams
         → AllByRecursion IsBytes others
         → HaveSameItems (HasLossyEntry message_codec) datagrams others
@@ -391,16 +341,12 @@ pub fn same_items_change_no_lossy_feed()
 /// [`DumpReader`](crate::DumpReader) and ends in the same way. If a `LossyDump` ends with an error,
 /// it is the error of bytes that are not a message.
 pub fn lossy_dump_keeps_messages()
-    // `DumpOfDatagrams item_is (before, datagrams) (after, end)`: a dump with the messages `before`
-    // that reads these datagrams has then the messages `after` and the end `end`. It is the dump of
-    // a `DumpReader` with `IsItemOf message_codec`, and of a `LossyDump` with `HasLossyEntry
-    // message_codec`. `Ok end`: no decode error ends it; `end` is its state, `Reading` if no
-    // message ends it, and its error number. `as_lossy_entries`: messages as entries.
+    // With `IsItemOf message_codec` it is the dump of a `DumpReader`, and with `HasLossyEntry
+    // message_codec` that of a `LossyDump`. `Ok end`: no decode error ends it.
     ensures kept { (datagram : List ℕ) (before after : List Message) (end : DumpStatus)
         → DumpOfDatagrams (IsItemOf message_codec) (before, datagram ∷ []) (after, Ok end)
         → DumpOfDatagrams (HasLossyEntry message_codec)
         (as_lossy_entries before, datagram ∷ []) (as_lossy_entries after, Ok end) }
-    // `IsMessageError rest error`: the bytes `rest` do not start with a message, with this error.
     ensures error { (datagram : List ℕ) (before after : List (Result Message DecodeError))
         (error : DecodeError)
         → DumpOfDatagrams (HasLossyEntry message_codec) (before, datagram ∷ []) (after, Err error)
@@ -411,10 +357,6 @@ pub fn lossy_dump_keeps_messages()
 /// of the bytes that were left to it, in order: the payload or the error of each message, and last
 /// the error of bytes that are not a message, if there are such bytes.
 pub fn complete_views_are_the_datagram()
-    // `Drains step walk given`: calling `next` on `walk` until it returns `None` yields the list
-    // `given`. `YieldsPayloadView`: what one call of `next` does. `AreItemsOf item_is bytes items`:
-    // these are the items of the bytes. `unread_views walk`: the bytes left to `walk`. `map_ok
-    // payload_view_model`: the model of a yielded payload, or its error.
     ensures { (walk : DumpViews) (given : List (Result PayloadView DecodeError))
         → Drains YieldsPayloadView walk given
         → AreItemsOf (IsItemOf message_codec) (unread_views walk)
@@ -423,7 +365,6 @@ pub fn complete_views_are_the_datagram()
 
 /// Returns the clone of a `DumpViews`, which has the same bytes left. Cloning does not fail.
 pub fn copied_views<'a>(walk: &BorrowedPayloads<'a>) -> Result<BorrowedPayloads<'a>, AllocError>
-    // `unread_views walk`: the bytes left to an iterator.
     ensures ok { IsOk result }
     ensures same { IfOk result
         (λ copy. unread_views copy ≡ unread_views walk.now) }
@@ -434,7 +375,6 @@ pub fn copied_views<'a>(walk: &BorrowedPayloads<'a>) -> Result<BorrowedPayloads<
 /// Returns `left == right`: whether the models of two borrowed replies about UNIX sockets are
 /// equal.
 pub fn equal_unix_views(left: &UnixResponseView<'_>, right: &UnixResponseView<'_>) -> bool
-    // `view_model`: the header, and what each attribute decodes to, in order.
     ensures { IsTrue result ↔ (view_model left.now ≡ view_model right.now) }
 {
     left == right
@@ -443,7 +383,6 @@ pub fn equal_unix_views(left: &UnixResponseView<'_>, right: &UnixResponseView<'_
 /// Returns `left == right`: whether the models of two borrowed replies about IPv4 or IPv6 sockets
 /// are equal.
 pub fn equal_inet_views(left: &InetResponseView<'_>, right: &InetResponseView<'_>) -> bool
-    // `view_model`: the header, and what each attribute decodes to, in order.
     ensures { IsTrue result ↔ (view_model left.now ≡ view_model right.now) }
 {
     left == right
@@ -452,7 +391,6 @@ pub fn equal_inet_views(left: &InetResponseView<'_>, right: &InetResponseView<'_
 /// Returns `left == right`: whether the models of two borrowed payloads are equal.
 #[tactic(auto, using(crate::specs::laws::EqualMessage::view_equal))]
 pub fn equal_payload_views(left: &BorrowedPayload<'_>, right: &BorrowedPayload<'_>) -> bool
-    // `payload_view_model`: the payload, with the model of its inner message or with its bytes.
     ensures { IsTrue result ↔ (payload_view_model left.now ≡ payload_view_model right.now) }
 {
     left == right
@@ -461,7 +399,6 @@ pub fn equal_payload_views(left: &BorrowedPayload<'_>, right: &BorrowedPayload<'
 /// Returns `left == right`: whether the models of two borrowed messages are equal.
 #[tactic(auto, using(crate::specs::laws::EqualMessage::view_equal))]
 pub fn equal_message_views(left: &SockDiagView<'_>, right: &SockDiagView<'_>) -> bool
-    // `message_view_model`: the kind of the message, and the model of its reply.
     ensures { IsTrue result ↔ (message_view_model left.now ≡ message_view_model right.now) }
 {
     left == right
@@ -470,7 +407,6 @@ pub fn equal_message_views(left: &SockDiagView<'_>, right: &SockDiagView<'_>) ->
 /// Returns the clone of a borrowed reply about a UNIX socket. It has the same model, and cloning
 /// does not fail.
 pub fn copied_unix_view<'a>(view: &UnixResponseView<'a>) -> Result<UnixResponseView<'a>, AllocError>
-    // `view_model`: the header, and what each attribute decodes to, in order.
     ensures ok { IsOk result }
     ensures same { IfOk result (λ copy. view_model copy ≡ view_model view.now) }
 {
@@ -480,7 +416,6 @@ pub fn copied_unix_view<'a>(view: &UnixResponseView<'a>) -> Result<UnixResponseV
 /// Returns the clone of a borrowed reply about an IPv4 or IPv6 socket. It has the same model, and
 /// cloning does not fail.
 pub fn copied_inet_view<'a>(view: &InetResponseView<'a>) -> Result<InetResponseView<'a>, AllocError>
-    // `view_model`: the header, and what each attribute decodes to, in order.
     ensures ok { IsOk result }
     ensures same { IfOk result (λ copy. view_model copy ≡ view_model view.now) }
 {
@@ -489,7 +424,6 @@ pub fn copied_inet_view<'a>(view: &InetResponseView<'a>) -> Result<InetResponseV
 
 /// Returns the clone of a borrowed message. It has the same model, and cloning does not fail.
 pub fn copied_message_view<'a>(view: &SockDiagView<'a>) -> Result<SockDiagView<'a>, AllocError>
-    // `message_view_model`: the kind of the message, and the model of its reply.
     ensures ok { IsOk result }
     ensures same { IfOk result (λ copy. message_view_model copy ≡ message_view_model view.now) }
 {
@@ -500,7 +434,6 @@ pub fn copied_message_view<'a>(view: &SockDiagView<'a>) -> Result<SockDiagView<'
 pub fn copied_payload_view<'a>(
     view: &BorrowedPayload<'a>,
 ) -> Result<BorrowedPayload<'a>, AllocError>
-    // `payload_view_model`: the payload, with the model of its inner message or with its bytes.
     ensures ok { IsOk result }
     ensures same { IfOk result (λ copy. payload_view_model copy ≡ payload_view_model view.now) }
 {
@@ -513,8 +446,6 @@ pub fn owned_unix_view(
     view: &UnixResponseView<'_>,
     alloc: Global,
 ) -> Result<UnixResponse, AllocError>
-    // `⟦<UnixResponse as Emitable>⟧.bytes reply`: the bytes that the owned reply serializes to.
-    // `.writable reply`: it is writable. The right sides are those of the borrowed reply.
     ensures bytes { IfOk result (λ reply.
         ⟦<UnixResponse as Emitable>⟧.bytes reply
         ≡ response_bytes unix_response_spec (view_model view.now)) }
@@ -531,8 +462,6 @@ pub fn owned_inet_view(
     view: &InetResponseView<'_>,
     alloc: Global,
 ) -> Result<InetResponse, AllocError>
-    // `⟦<InetResponse as Emitable>⟧.bytes reply`: the bytes that the owned reply serializes to.
-    // `.writable reply`: it is writable. The right sides are those of the borrowed reply.
     ensures bytes { IfOk result (λ reply.
         ⟦<InetResponse as Emitable>⟧.bytes reply
         ≡ response_bytes inet_response_spec (view_model view.now)) }
@@ -550,7 +479,7 @@ pub fn owned_message_view(
     alloc: Global,
 ) -> Result<SockDiagMessage, AllocError>
     // `owned_messages` and `message_views`: the members of `Emitable` for the owned and for the
-    // borrowed message. `bytes`: the bytes that it serializes to. `writable`: it is writable.
+    // borrowed message.
     ensures bytes { IfOk result (λ message.
         owned_messages.bytes message ≡ message_views.bytes view.now) }
     ensures writable { IfOk result (λ message.

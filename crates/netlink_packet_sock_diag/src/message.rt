@@ -77,7 +77,6 @@ impl SockDiagMessage {
     /// Returns an equal message. Fails only if an allocation fails. Cloning a request never fails.
     pub fn clone(&self, alloc: Global) -> Result<Self, AllocError>
         ensures equal { IfOk result (λ copy. message_model copy ≡ message_model self.now) }
-        // Never fails for one of the two kinds of requests.
         ensures of_request { (kind_of (message_model self.now) ≡ inet_request)
             ⊎ (kind_of (message_model self.now) ≡ unix_request) → IsOk result }
     {
@@ -105,8 +104,6 @@ impl SockDiagMessage {
         payload: &[u8],
         message_type: u16,
     ) -> Result<SockDiagMessage, DecodeError>
-        // `message_codec.parses b t m`: the bytes `b` parse under the message type `t` as the
-        // message `m`. `message_codec.rejects b t e`: they are rejected with the error `e`.
         ensures value { IfOk result
             (λ message. message_codec.parses payload.now message_type (message_model message)) }
         ensures error { IfErr result (λ error. error ≢ Memory
@@ -125,8 +122,6 @@ impl SockDiagMessage {
     // only that there are two bytes, the message type, and the first byte, which is the family.
     #[inline(always)]
     fn holds_unix_reply(payload: &[u8], message_type: u16) -> Result<bool, DecodeError>
-        // `response_kind payload t`: the kind of reply of a payload under the message type `t`, by
-        // its first byte, or the error if it has none.
         ensures kind { IfOk result (λ is_unix. response_kind payload.now message_type
             ≡ Ok (if is_unix then unix_response else inet_response)) }
         ensures error { IfErr result (λ error. response_kind payload.now message_type ≡ Err error) }
@@ -170,8 +165,6 @@ impl<'a> SockDiagView<'a> {
     /// - the error that the view of the family's replies returns.
     #[inline(always)]
     pub fn parse(payload: &'a [u8], message_type: u16) -> Result<SockDiagView<'a>, DecodeError>
-        // `message_codec.parses b t m`: the bytes `b` parse under the message type `t` as the
-        // message `m`. `message_codec.rejects b t e`: they are rejected with the error `e`.
         ensures value { IfOk result
             (λ view. message_codec.parses payload.entry.now message_type
             (message_view_model view)) }
@@ -277,7 +270,6 @@ impl NetlinkDeserializable for SockDiagMessage {
 }
 
 impl From<SockDiagMessage> for NetlinkPayload<SockDiagMessage> {
-    // `payload`: what `from` returns for the message.
     ghost from_gives = { λ message payload. payload ≡ InnerMessage message };
 
     fn from(message: SockDiagMessage) -> Self {
@@ -299,7 +291,6 @@ impl SockDiagDestroy {
     /// Returns the request to close the sockets that `message` selects or describes. It contains
     /// `message` unchanged.
     pub fn new(message: SockDiagMessage) -> Self
-        // `result.0`: the message that the request contains.
         ensures { message_model result.0 ≡ message_model message }
     {
         SockDiagDestroy(message)
@@ -309,7 +300,6 @@ impl SockDiagDestroy {
     /// `InetRequest` or a `UnixRequest`.
     pub fn clone(&self, alloc: Global) -> Result<Self, AllocError>
         ensures equal { IfOk result (λ copy. message_model copy.0 ≡ message_model self.now.0) }
-        // Never fails if it contains a message of one of the two kinds of requests.
         ensures of_request { (kind_of (message_model self.now.0) ≡ inet_request)
             ⊎ (kind_of (message_model self.now.0) ≡ unix_request) → IsOk result }
     {
@@ -347,7 +337,6 @@ impl NetlinkDeserializable for SockDiagDestroy {
 }
 
 impl From<SockDiagDestroy> for NetlinkPayload<SockDiagDestroy> {
-    // `payload`: what `from` returns for the request.
     ghost from_gives = { λ destroy payload. payload ≡ InnerMessage destroy };
 
     fn from(destroy: SockDiagDestroy) -> Self {

@@ -45,7 +45,6 @@ pub(crate) trait DumpEntry: Drop + Sized {
     fn take(alloc: Global, header: &NetlinkHeader, payload: &[u8]) -> Result<Self, DecodeError>
         ensures value { IfOk result (λ kept.
             Self.parses payload.now header.now.message_type (Self.model kept)) }
-        // An error other than `Memory` is the one with which the payload ends the dump.
         ensures error { IfErr result (λ error. error ≢ Memory
             → Self.rejects payload.now header.now.message_type error) }
         // `Memory` is returned only for a payload whose entry may need memory.
@@ -105,7 +104,6 @@ impl DumpEntry for SockDiagMessage {
 
     ghost item_is = { IsItemOf message_codec };
 
-    // Each message that is kept may need memory.
     ghost needs_memory = { λ _. ⊤ };
 
     ghost model = { message_model };
@@ -134,7 +132,6 @@ impl DumpEntry for Result<SockDiagMessage, DecodeError> {
 
     ghost item_is = { HasLossyEntry message_codec };
 
-    // Only an entry with a message may need memory.
     ghost needs_memory = { λ entry. IsOk entry };
 
     ghost model = { map_ok message_model };

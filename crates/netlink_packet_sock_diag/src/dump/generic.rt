@@ -38,15 +38,10 @@ fn take_messages<I: DumpEntry>(
     interrupted: &mut bool,
     datagram: &[u8],
 ) -> Result<(DumpState, Option<i32>), DecodeError>
-    // `dump_with messages end interrupted`: a progress. `old` is the one before the call, and
-    // `failed` the one after an error. Their state and error number do not matter: `ReadsDatagram`
-    // and `AllocationFailsAt` do not consider them. The first `λ` is for `Ok(end)`, the second for
-    // `Err(e)`.
-    // `ReadsDatagram item_is (old, datagram) (new, end)`: the datagram extends the messages of
-    // `old` to those of `new`, and leads to this end. `AllocationFailsAt item_is (old, datagram)
-    // (new, entry)`: the message with this entry was not kept, because an allocation failed, and
-    // `new` has the messages before it. The last line: the entry may need memory, or the list has
-    // no free slot.
+    // `old` is the progress before the call, and `failed` the one after an error. Their state and
+    // error number do not matter: `ReadsDatagram` and `AllocationFailsAt` do not consider them. The
+    // first `λ` is for `Ok(end)`, the second for `Err(e)`. The last line: the entry may need
+    // memory, or the list has no free slot.
     ensures { let old_messages = map I.model messages.old.items in
         let old = dump_with old_messages (Reading, None) interrupted.old in
         let new_messages = map I.model messages.new.items in
@@ -89,7 +84,6 @@ pub(crate) struct GenericDump<I: DumpEntry> {
     pub(crate) interrupted: bool,
     // A dump that is still read has no error number.
     ghost unnumbered: { (status.0 ≡ Reading) → (status ≡ (Reading, None)) },
-    // Feeding some datagrams leads to this progress.
     ghost fed: { ∥ IsReachedByFeeding I.item_is
         (dump_with (map I.model entries.items) status interrupted) ∥₁ },
 }
@@ -137,15 +131,10 @@ impl<I: DumpEntry> GenericDump<I> {
 
     /// Reads the messages of a datagram; see [`DumpReader::feed`](crate::DumpReader::feed).
     pub(crate) fn feed(&mut self, datagram: &[u8]) -> Result<(), DumpError>
-        // `FeedLeadsTo item_is (old, datagram) (new, result)`: what a call does to the progress of
-        // the reader, by its result. `generic_dump_progress I.model dump`: this progress, with the
-        // models of what is kept as its messages.
         ensures leaves { FeedLeadsTo I.item_is
             (generic_dump_progress I.model self.old, datagram.now)
             (generic_dump_progress I.model self.new, result) }
         // Memory runs out at an entry that may need some, or because the list has to grow.
-        // `AllocationFailsAt item_is (old, datagram) (new, entry)`: the message with this entry was
-        // not kept, and `new` has the messages before it. `IsFull`: the list has no free slot.
         ensures memory { result ≡ Err (Fault Memory) → (entry : I.Entry)
             × AllocationFailsAt I.item_is
             (generic_dump_progress I.model self.old, datagram.now)

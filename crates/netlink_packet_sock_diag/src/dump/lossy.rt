@@ -30,7 +30,6 @@ impl LossyDump {
     /// Returns a reader that nothing was fed to: it has no entries, its state is `Reading`, it has
     /// no error number, and it is not interrupted. It keeps the allocator.
     pub fn new(alloc: Global) -> Self
-        // `new_dump`: the progress of a reader that nothing was fed to.
         ensures { lossy_progress result ≡ new_dump }
     {
         LossyDump {
@@ -52,14 +51,10 @@ impl LossyDump {
     /// An allocation can fail only at a valid message, or if the list of entries has to grow: the
     /// entry of an invalid message needs a slot in the list too.
     pub fn feed(&mut self, datagram: &[u8]) -> Result<(), DumpError>
-        // `FeedLeadsTo item_is (old, datagram) (new, result)`: what a call does to the progress of
-        // the reader. `HasLossyEntry`: the item of an inner message is an entry, its value or its
-        // decode error.
         ensures leaves { FeedLeadsTo (HasLossyEntry message_codec)
             (lossy_progress self.old, datagram.now) (lossy_progress self.new, result) }
         // If an allocation failed: it failed at a valid message, or the list of entries has no free
-        // slot after the call. `AllocationFailsAt item_is (old, datagram) (new, entry)`: the
-        // message with this entry was not kept, and `new` has the entries before it.
+        // slot after the call.
         ensures memory { result ≡ Err (Fault Memory) → ((message : Message)
             × AllocationFailsAt (HasLossyEntry message_codec)
             (lossy_progress self.old, datagram.now) (lossy_progress self.new, Ok message))
@@ -70,7 +65,6 @@ impl LossyDump {
 
     /// Returns the entries read so far, in order: each message, or the error of an invalid one.
     pub fn entries(&self) -> &[Result<SockDiagMessage, DecodeError>]
-        // `lossy_entries`: the entries that the reader keeps.
         ensures { result.now ≡ lossy_entries self.now }
     {
         self.dump.entries.as_slice()
@@ -78,7 +72,6 @@ impl LossyDump {
 
     /// Returns the entries read so far, in order, and drops the rest of the reader.
     pub fn into_entries(self) -> Vec<Result<SockDiagMessage, DecodeError>>
-        // `lossy_entries`: the entries that the reader keeps.
         ensures { result.items ≡ lossy_entries self }
     {
         self.dump.into_entries()

@@ -52,7 +52,6 @@ impl Exact for DumpState {
     ghost exact = { Prim.search rules };
 }
 
-// Proof only: `==` and `clone` compare and copy the whole value.
 impl Exact for DumpError {
     ghost exact = { (dump_error_equal, Prim.search rules, Prim.search rules) };
 }
@@ -71,7 +70,6 @@ impl DumpReader {
     /// Returns a reader that nothing was fed to: it has no messages, its state is `Reading`, it has
     /// no error number, and it is not interrupted. It keeps the allocator.
     pub fn new(alloc: Global) -> Self
-        // `new_dump`: the progress of a reader that nothing was fed to.
         ensures { reader_progress result ≡ new_dump }
     {
         DumpReader {
@@ -94,11 +92,6 @@ impl DumpReader {
     /// Unless the dump had already ended, it is interrupted from then on if a message that was
     /// read, up to and including the one that ends it or fails, has the flag `NLM_F_DUMP_INTR`.
     pub fn feed(&mut self, datagram: &[u8]) -> Result<(), DumpError>
-        // `FeedLeadsTo item_is (old, datagram) (new, result)`, by the result. `Ok`: the inner
-        // messages up to the end are appended, and state and error number are those of the end.
-        // `Err Ended`: `new` is `old`. `Err (Fault e)`: the state is `Failed`, and the inner
-        // messages before the error are appended. `IsItemOf`: the item of a message is its payload,
-        // or its decode error.
         ensures leaves { FeedLeadsTo (IsItemOf message_codec)
             (reader_progress self.old, datagram.now) (reader_progress self.new, result) }
     {
@@ -107,7 +100,6 @@ impl DumpReader {
 
     /// Returns the messages read so far, in order.
     pub fn messages(&self) -> &[SockDiagMessage]
-        // `message_model`: the kind of a message and the model of its content.
         ensures { map message_model result.now ≡ (reader_progress self.now).messages }
     {
         self.dump.entries.as_slice()
@@ -115,7 +107,6 @@ impl DumpReader {
 
     /// Returns the messages read so far, in order, and drops the rest of the reader.
     pub fn into_messages(self) -> Vec<SockDiagMessage>
-        // `message_model`: the kind of a message and the model of its content.
         ensures { map message_model result.items ≡ (reader_progress self).messages }
     {
         self.dump.into_entries()

@@ -27,12 +27,9 @@ fn read_payload<'a>(
     header: &NetlinkHeader,
     payload: &'a [u8],
 ) -> Result<PayloadView<'a>, DecodeError>
-    // `ParsesAsPayload parses bytes t payload`: the bytes parse as this payload under the message
-    // type `t`, and an inner message by `parses`.
     ensures value { IfOk result (λ view. ParsesAsPayload message_codec.parses payload.entry.now
         header.now.message_type (payload_view_model view)) }
-    // `IsInnerMessageType t`: the type is not the one of a control message. Only the payload of
-    // such a message can be invalid.
+    // Only the payload of an inner message can be invalid.
     ensures error { IfErr result (λ e. IsInnerMessageType header.now.message_type
         × message_codec.rejects payload.entry.now header.now.message_type e) }
 {
@@ -48,8 +45,6 @@ fn read_payload<'a>(
 // Returns the length of the serialized payload. Returns `None` if the inner message is not
 // writable.
 fn payload_writable_len(payload: &PayloadView<'_>) -> Option<usize>
-    // `HoldsOfInnerMessage is_writable payload`: the inner message is writable, if there is one.
-    // `payload_bytes serialized payload`: the bytes of the payload.
     ensures { SomeIff result (HoldsOfInnerMessage message_codec.is_writable
         (payload_view_model payload.now))
         (length (payload_bytes message_codec.serialized (payload_view_model payload.now))) }
@@ -87,7 +82,6 @@ impl<'a> MessageView<'a> {
     ///   control message: `NLMSG_NOOP`, `NLMSG_ERROR`, `NLMSG_DONE` or `NLMSG_OVERRUN`.
     #[inline(always)]
     pub fn parse(bytes: &'a [u8]) -> Result<MessageView<'a>, DecodeError>
-        // `netlink_message_view_model view`: the header, and the model of the payload.
         ensures value { IfOk result (λ view.
             netlink_message_codec.parses bytes.entry.now tt (netlink_message_view_model view)) }
         ensures error { IfErr result (netlink_message_codec.rejects bytes.entry.now tt) }
@@ -101,7 +95,6 @@ impl<'a> MessageView<'a> {
     /// Returns whether the message is writable: its inner message is writable, and the message has
     /// at most 4,294,967,295 bytes, including the 16 bytes of its header.
     pub fn is_writable(&self) -> bool
-        // `netlink_message_view_model view`: the header, and the model of the payload.
         ensures { IsTrue result
             ↔ netlink_message_codec.is_writable (netlink_message_view_model self.now) }
     {
@@ -116,11 +109,8 @@ impl<'a> MessageView<'a> {
 // the length in its header.
 #[inline(always)]
 fn payload_of<'a>(header: &NetlinkHeader, message: &'a [u8]) -> Result<PayloadView<'a>, DecodeError>
-    // `HasHeader message header`: the message starts with this header.
     requires header { HasHeader message.now header.now }
     requires whole { header.now.length ≡ length message.now }
-    // `IsItemOf codec message item`: the item is the payload of the message, or its decode error.
-    // `map_ok payload_view_model result`: the model of the payload, or the error.
     ensures { IsItemOf message_codec message.entry.now (map_ok payload_view_model result) }
 {
     read_payload(header, &message[NETLINK_HEADER_LEN..])
@@ -142,7 +132,6 @@ impl<'a> DumpViews<'a> {
 
     /// Returns the iterator over the messages of this datagram.
     pub fn new(datagram: &'a [u8]) -> DumpViews<'a>
-        // `unread_views result`: the bytes that the iterator has not read yet.
         ensures { unread_views result ≡ datagram.entry.now }
     {
         DumpViews {
@@ -159,11 +148,8 @@ impl<'a> Iterator for DumpViews<'a> {
 
     type Item = Result<PayloadView<'a>, DecodeError>;
 
-    // `YieldsPayloadView old given new`: one call of `next` on the iterator `old` returns `given`,
-    // and `new` is the iterator after the call.
     ghost next_gives = { YieldsPayloadView };
 
-    // `max_views_left views`: one item for each 16 bytes, rounded up.
     ghost remaining = { λ views. at_most (max_views_left views) };
 
     /// Returns the payload of the next message, or its error. If the remaining bytes are not a
@@ -182,7 +168,7 @@ impl<'a> Iterator for DumpViews<'a> {
         ensures unknown { result ≡ (0, None) }
         // The clauses of the trait follow from `unknown`: the lower bound is at most the number of
         // items (`IsWithinCount`), and the upper one, if there is one, at least this number
-        // (`UpTo`). `at_most n`: of this number only the bound `n` is known.
+        // (`UpTo`).
         ensures lower { IsWithinCount result.0 (at_most (max_views_left self.now)) }
         ensures upper { IfSome result.1 (UpTo (at_most (max_views_left self.now))) }
     {
