@@ -1,8 +1,10 @@
 //! Properties of replies, messages and dumps. Proof only: the contracts state the properties.
 //!
 //! In the contracts `message_codec` is the codec of messages without a netlink header, and
-//! `netlink_message_codec` that of netlink messages, whose parameter is `tt`. `netlink_core` states
-//! some of these properties for the messages of any protocol: there the body calls its law.
+//! `netlink_message_codec` that of netlink messages, whose parameter is `tt`. `messages` and
+//! `destroys` are the ghost members of messages and of requests to close sockets: the former are
+//! serialized under the type `SOCK_DIAG_BY_FAMILY`, the latter under `SOCK_DESTROY`. `netlink_core`
+//! states some of these properties for the messages of any protocol: there the body calls its law.
 //!
 //! The item of a message is its payload or its decode error, by `IsItemOf message_codec`. In a
 //! `LossyDump` it is by `HasLossyEntry message_codec`: an inner message is its value or its decode
@@ -126,7 +128,6 @@ pub fn parsers_take_memory() -> (bool, bool, bool)
 /// `UnknownMessageType(21)`: the request is serialized under the type 21, and messages are parsed
 /// only under the type 20.
 pub fn finalized_destroy_is_rejected()
-    // `destroys.serialized_type` is `SOCK_DESTROY`.
     ensures { (header : NetlinkHeader) (inner : Message)
         → FitFields header_fields (header_values header)
         → netlink_message_codec.is_writable
@@ -146,8 +147,7 @@ pub fn finalized_destroy_is_rejected()
 /// its header fits its field. This is about a Rust value, `message`;
 /// [`finalized_destroy_is_rejected`] is about models.
 pub fn finalized_destroy_value_is_rejected()
-    // `destroys.model destroy`: the message that a request contains. `destroys.serialized_type` is
-    // `SOCK_DESTROY`.
+    // `destroys.model destroy`: the message that a request contains.
     ensures { (message : NetlinkMessage SockDiagDestroy) (destroy : SockDiagDestroy) (rest : List ℕ)
         → message.payload ≡ InnerMessage destroy
         → FitFields header_fields (header_values message.header)
@@ -206,7 +206,6 @@ pub fn same_message_bytes_iff_equivalent()
 /// and type that `finalize` sets, round-trips if and only if it has no inner message, or an inner
 /// message in normal form under the type 20.
 pub fn finalized_message_round_trips()
-    // `messages.serialized_type` is `SOCK_DIAG_BY_FAMILY`.
     ensures { (v : NetlinkMessageModel Message) → netlink_message_codec.is_in_range v
         → netlink_message_codec.is_writable v
         → (v.header ≡ finalized_header message_codec.serialized messages.serialized_type v)

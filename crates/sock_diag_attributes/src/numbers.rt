@@ -198,9 +198,8 @@ impl<'a> Iterator for NumbersIterator<'a> {
     /// the upper bound.
     #[tactic(auto, using(crate::specs::laws::Number::count_of_numbers_in))]
     fn size_hint(&self) -> (usize, Option<usize>)
-        // `item_count numbers_left it`: the count of the numbers that were not yielded yet
-        // (`numbers_left`). `result.0` is at most this count (`IsWithinCount`), and `result.1` at
-        // least (`UpTo`): the trait requires both, and they follow from `exact`.
+        // The clauses of the trait, which follow from `exact`. `item_count numbers_left it`: the
+        // count of the numbers that were not yielded yet.
         ensures lower { IsWithinCount result.0 (item_count numbers_left self.now) }
         ensures upper { IfSome result.1 (UpTo (item_count numbers_left self.now)) }
         ensures exact { result ≡ (

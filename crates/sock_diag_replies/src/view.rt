@@ -400,8 +400,7 @@ impl<'a, H: ReplyViews<'a>> Iterator for AttributeViews<'a, H> {
         ensures exact { let left = decoded_in (decode_attribute H.View.FamilyView.attribute_set)
             (unread_attributes self.now) in
             result ≡ (length left, Some (length left)) }
-        // The clauses of the trait follow from `exact`: the lower bound is at most this number
-        // (`IsWithinCount`), and the upper one, if there is one, at least this number (`UpTo`).
+        // The clauses of the trait, which follow from `exact`.
         ensures lower { let left = decoded_in (decode_attribute H.View.FamilyView.attribute_set)
             (unread_attributes self.now) in
             IsWithinCount result.0 (at_most (length left)) }

@@ -166,9 +166,7 @@ impl<'a> Iterator for DumpViews<'a> {
     /// Returns `(0, None)`: only iterating shows how many messages are left.
     fn size_hint(&self) -> (usize, Option<usize>)
         ensures unknown { result ≡ (0, None) }
-        // The clauses of the trait follow from `unknown`: the lower bound is at most the number of
-        // items (`IsWithinCount`), and the upper one, if there is one, at least this number
-        // (`UpTo`).
+        // The clauses of the trait, which follow from `unknown`.
         ensures lower { IsWithinCount result.0 (at_most (max_views_left self.now)) }
         ensures upper { IfSome result.1 (UpTo (at_most (max_views_left self.now))) }
     {
