@@ -11,11 +11,15 @@ use Rattle.netlink_core.specs.Attribute.{padding_length}
 use Rattle.netlink_core.specs.declared.error.DecodeError.{DecodeError}
 use Rattle.netlink_core.specs.Header.{IsMessageError}
 use Rattle.netlink_core.specs.Datagram.{StartsWithMessage, SplitsIntoMessages}
-use Rattle.netlink_core.specs.Codec.{Codec}
+use Rattle.netlink_core.specs.Codec.{Codec, KeepsCodecLaws, HasOneResult}
 use Rattle.netlink_core.specs.NetlinkMessage.{NetlinkMessageModel, netlink_codec}
 use Rattle.netlink_core.specs.Items.{Item, IsItemOf, AreItemsOf}
 use Rattle.netlink_core.proofs.Headers.{header_or_error}
-use Rattle.netlink_core.proofs.Framing.{message_or_error}
+use Rattle.netlink_core.proofs.CodecLaws.{only_result, equal_values, equal_errors}
+use Rattle.netlink_core.proofs.CodecLaws.{value_or_error}
+use Rattle.netlink_core.proofs.Equivalence.{messages_equal_iff_equivalent}
+use Rattle.netlink_core.proofs.Framing.{message_or_error, message_or_error_apart}
+use Rattle.netlink_core.proofs.Framing.{one_message_error, message_error_is_not_memory}
 use Rattle.netlink_core.proofs.Padding.{by_length, some_or_none}
 use Rattle.netlink_core.proofs.Datagrams.{starts_with_message, shorter-rest}
 use Rattle.netlink_core.proofs.Datagrams.{messages_of_concatenation}
@@ -181,25 +185,35 @@ module _ {A : Type 0} (is : List ℕ → Item A → Type 0) (one_item : (message
         one_list_for_messages b in_range k.0 k.1 k.3 h.2 k.2,
       )
 
--- If bytes have at most one message or one error, not both, then:
+-- bytes start with exactly one message, or have exactly one error
+pub one_result_of_message : (C : Codec ℕ) → KeepsCodecLaws C → (b : List ℕ) → IsBytes b
+    → HasOneResult (netlink_codec C) b tt
+one_result_of_message C laws b is_bytes =
+    let same = messages_equal_iff_equivalent C laws.equal_iff_equivalent in
+    only_result (netlink_codec C) b tt
+    (λ v w parsed also. (same b b v w is_bytes is_bytes parsed also).1
+    ((same b b v v is_bytes is_bytes parsed parsed).0 refl))
+    (λ v e. message_or_error_apart C b v e (λ x t m. laws.is_exclusive x t m e))
+    (λ e f. one_message_error C b e f (λ x t. laws.error_is_unique x t e f))
+    (message_error_is_not_memory C b laws.error_is_not_memory)
+    (message_or_error C b is_bytes laws.is_total)
+
+-- If bytes have exactly one message or exactly one error, then:
 module _ (C : Codec ℕ)
-    (one_value : (b : List ℕ) (v w : NetlinkMessageModel C.Value) → IsBytes b
-    → (netlink_codec C).parses b tt v
-    → (netlink_codec C).parses b tt w → v ≡ w)
-    (is_exclusive : (b : List ℕ) (v : NetlinkMessageModel C.Value) (e : DecodeError)
-    → (netlink_codec C).parses b tt v → (netlink_codec C).rejects b tt e → ⊥)
-    (error_is_unique : (b : List ℕ) (e f : DecodeError) → (netlink_codec C).rejects b tt e
-    → (netlink_codec C).rejects b tt f → e ≡ f) where
+    (one : (b : List ℕ) → IsBytes b → HasOneResult (netlink_codec C) b tt) where
   -- each message has at most one item
   pub one_item : (b : List ℕ) → IsBytes b → (i j : Item C.Value) → IsItemOf C b i → IsItemOf C b j
       → i ≡ j
   one_item b in_range (Ok p) (Ok q) h k =
       ap (λ (v : NetlinkMessageModel C.Value). Ok v.payload)
-      (one_value b (record { header = h.0; payload = p }) (record { header = k.0; payload = q })
-      in_range h.1 k.1)
-  one_item b in_range (Ok p) (Err f) h k = absurd (is_exclusive b _ f h.1 k)
-  one_item b in_range (Err e) (Ok q) h k = absurd (is_exclusive b _ e k.1 h)
-  one_item b in_range (Err e) (Err f) h k = ap Err (error_is_unique b e f h k)
+      (equal_values (netlink_codec C) b tt (one b in_range)
+      (record { header = h.0; payload = p }) (record { header = k.0; payload = q }) h.1 k.1)
+  one_item b in_range (Ok p) (Err f) h k =
+      absurd (value_or_error (netlink_codec C) b tt (one b in_range) _ f h.1 k)
+  one_item b in_range (Err e) (Ok q) h k =
+      absurd (value_or_error (netlink_codec C) b tt (one b in_range) _ e k.1 h)
+  one_item b in_range (Err e) (Err f) h k =
+      ap Err (equal_errors (netlink_codec C) b tt (one b in_range) e f h k)
 
   -- each datagram has at most one list of items
   pub one_list : (b : List ℕ) → IsBytes b → (xs ys : List (Item C.Value))

@@ -17,8 +17,9 @@ pub mod Responses
 pub mod Headers
 pub mod Framing
 pub mod Datagrams
-pub mod Items
+pub mod CodecLaws
 pub mod Equivalence
+pub mod Items
 pub mod ValueTests
 pub mod Rewriting
 mod Walking

@@ -1,5 +1,5 @@
 -- Codecs: how values of one kind are parsed and serialized, and the codec laws.
-use Rattle.std.specs.Prelude.{⊤, ◌≡◌, ◌↔◌, ◌⊎◌, ℕ, List, Ok, Err}
+use Rattle.std.specs.Prelude.{⊤, ◌≡◌, ◌≢◌, ◌↔◌, ◌⊎◌, ℕ, List, Ok, Err}
 use Rattle.netlink_core.specs.Bytes.{IsBytes}
 use Rattle.netlink_core.specs.Layout.{Layout, parse_record, IsContainedIn}
 use Rattle.netlink_core.specs.ValueCodec.{ValueCodec, value_codec}
@@ -28,6 +28,19 @@ pub record Codec (Param : Type 0) : Type 1 where
   pub serialized : Value → List ℕ
   -- `is_writable v`: `v` is writable: its lengths fit their length fields
   pub is_writable : Value → Type 0
+
+-- `IsOnly predicate x`: the predicate holds of `x`, and of nothing else
+abbrev pub IsOnly : {A : Type 0} → (A → Type 0) → A → Type 0
+IsOnly {A} predicate x = predicate x × ((y : A) → predicate y → y ≡ x)
+
+-- `HasOneResult C b p`: the bytes `b` parse as exactly one value and are not rejected; or they are
+-- rejected with exactly one error, and do not parse. This error is not `Memory`, which is an error
+-- of a call, not of bytes.
+abbrev pub HasOneResult : {Param : Type 0} → Codec Param → List ℕ → Param → Type 0
+HasOneResult C b p =
+    ((v : C.Value) × IsOnly (C.parses b p) v × ((e : DecodeError) → ¬ C.rejects b p e))
+    ⊎ ((e : DecodeError) × IsOnly (C.rejects b p) e × (e ≢ Memory)
+    × ((v : C.Value) → ¬ C.parses b p v))
 
 -- `KeepsCodecLaws C`: the codec laws hold of `C`, for all byte strings, parameters, values and
 -- errors. Several laws require that the numbers of a byte string are below 256 (`IsBytes`).

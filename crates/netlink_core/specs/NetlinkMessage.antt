@@ -127,8 +127,8 @@ netlink_codec C = record {
   rejects = λ b p e. IsMessageError b e ⊎ ((h : NetlinkHeader) × HasHeader b h
       × IsInnerMessageType h.message_type
       × C.rejects (message_payload b h) h.message_type e);
-  -- no message counts as a value that needs no memory
-  needs_no_memory = λ m. ⊥;
+  -- an NLMSG_NOOP, whose payload is dropped, is stored without an allocation
+  needs_no_memory = λ m. m.payload ≡ Noop;
   -- equal headers, and payloads that are equivalent under their message type; `payload bytes` is
   -- the payload of the message at the start of the bytes, up to the header's length
   equivalent = λ p b c. let payload : List ℕ → List ℕ =

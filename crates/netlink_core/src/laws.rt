@@ -28,6 +28,7 @@ ghost use Rattle.netlink_core.specs.declared.datagram.MessageStrings.{MessageStr
 ghost use Rattle.netlink_core.specs.declared.error.DecodeError.{DecodeError};
 ghost use Rattle.netlink_core.specs.declared.error.DecodeError.TheVariants.{Memory};
 ghost use Rattle.netlink_core.specs.Canonical.{HasCanonicalForm};
+ghost use Rattle.netlink_core.specs.Codec.{HasOneResult};
 ghost use Rattle.netlink_core.specs.NetlinkMessage.{NetlinkMessageModel, finalized_header};
 ghost use Rattle.netlink_core.specs.NetlinkMessage.{netlink_codec};
 
@@ -47,6 +48,53 @@ use crate::{
 };
 use exact_values::Exact;
 use std::alloc::AllocError;
+
+/// The main theorem: how each codec relates bytes and values. What the parser, the serializer and
+/// [`canonical`](crate::canonical) of a type return is stated by their contracts, which name the
+/// same codec.
+pub fn main_theorem<T: HasCodec>()
+    // Bytes have exactly one value, or exactly one error.
+    ensures one_result { (b : List ℕ) (p : T.Param) → IsBytes b → HasOneResult T.codec b p }
+    // Two accepted byte strings have equal values if and only if they are equivalent: if they
+    // differ only in ignored bits.
+    ensures equal_iff_equivalent { (b c : List ℕ) (p : T.Param) (v w : T.codec.Value) → IsBytes b
+        → IsBytes c → T.codec.parses b p v → T.codec.parses c p w
+        → ((v ≡ w) ↔ T.codec.equivalent p b c) }
+    // Each parsed value is in range and in normal form.
+    ensures parsed_is_normal { (b : List ℕ) (p : T.Param) (v : T.codec.Value) → IsBytes b
+        → T.codec.parses b p v → T.codec.is_in_range v × T.codec.is_normal p v }
+    // Two writable values in normal form are equal if and only if they serialize to equal bytes.
+    ensures equal_iff_equal_bytes { (p : T.Param) (v w : T.codec.Value)
+        → T.codec.is_in_range v → T.codec.is_normal p v → T.codec.is_writable v
+        → T.codec.is_in_range w → T.codec.is_normal p w → T.codec.is_writable w
+        → ((v ≡ w) ↔ (T.codec.serialized v ≡ T.codec.serialized w)) }
+    // A writable value round-trips if and only if it is in normal form.
+    ensures round_trips_iff_normal { (p : T.Param) (v : T.codec.Value) → T.codec.is_in_range v
+        → T.codec.is_writable v
+        → (T.codec.parses (T.codec.serialized v) p v ↔ T.codec.is_normal p v) }
+    // Two byte strings have the same canonical form if and only if they are equivalent.
+    ensures same_form_iff_equivalent { (b c form other : List ℕ) (p : T.Param) → IsBytes b
+        → IsBytes c → HasCanonicalForm T.codec p b form → HasCanonicalForm T.codec p c other
+        → ((form ≡ other) ↔ T.codec.equivalent p b c) }
+    // The canonical form is equivalent to the bytes, and is its own canonical form.
+    ensures canonical_form { (b form : List ℕ) (p : T.Param) → IsBytes b
+        → HasCanonicalForm T.codec p b form → IsBytes form × T.codec.equivalent p b form
+        × HasCanonicalForm T.codec p form form }
+{}
+
+/// On accepted bytes, the equivalence of each codec is reflexive, symmetric and transitive. It is
+/// equality of values, by [`main_theorem`].
+pub fn equivalence_is_an_equivalence_relation<T: HasCodec>()
+    ensures reflexive { (b : List ℕ) (p : T.Param) (v : T.codec.Value) → IsBytes b
+        → T.codec.parses b p v → T.codec.equivalent p b b }
+    ensures symmetric { (b c : List ℕ) (p : T.Param) (v w : T.codec.Value) → IsBytes b → IsBytes c
+        → T.codec.parses b p v → T.codec.parses c p w
+        → T.codec.equivalent p b c → T.codec.equivalent p c b }
+    ensures transitive { (b c d : List ℕ) (p : T.Param) (v w x : T.codec.Value)
+        → IsBytes b → IsBytes c → IsBytes d
+        → T.codec.parses b p v → T.codec.parses c p w → T.codec.parses d p x
+        → T.codec.equivalent p b c → T.codec.equivalent p c d → T.codec.equivalent p b d }
+{}
 
 /// Bytes are split into attributes (`SplitsIntoAttributes`) exactly as follows. Empty bytes have no
 /// attributes. Other bytes begin with the first attribute, whose type field has 16 bits and whose
@@ -253,24 +301,11 @@ pub fn default_header() -> NetlinkHeader
     NetlinkHeader::default()
 }
 
-/// Bytes start with one message or have one error, not both. The error is never `Memory`. The
-/// clauses are, in order: bytes have a message or an error; at most one message; not both a message
-/// and an error; at most one error; and the error is not `Memory`.
+/// Bytes start with exactly one message, or are rejected with exactly one error.
 pub fn one_message_or_error<I: HasCodec<Param = u16>>()
     // `netlink_codec I.codec`: the codec of netlink messages with inner messages of the type `I`.
-    // It has no parameter, so that its parser's parameter is `tt`. `NetlinkMessageModel`: a header
-    // and a payload.
-    ensures is_total { (b : List ℕ) → IsBytes b
-        → ((v : NetlinkMessageModel I.codec.Value) × (netlink_codec I.codec).parses b tt v)
-        ⊎ ((e : DecodeError) × (netlink_codec I.codec).rejects b tt e) }
-    ensures one_value { (b : List ℕ) (v w : NetlinkMessageModel I.codec.Value) → IsBytes b
-        → (netlink_codec I.codec).parses b tt v → (netlink_codec I.codec).parses b tt w → v ≡ w }
-    ensures is_exclusive { (b : List ℕ) (v : NetlinkMessageModel I.codec.Value) (e : DecodeError)
-        → (netlink_codec I.codec).parses b tt v → (netlink_codec I.codec).rejects b tt e → ⊥ }
-    ensures error_is_unique { (b : List ℕ) (e f : DecodeError)
-        → (netlink_codec I.codec).rejects b tt e → (netlink_codec I.codec).rejects b tt f
-        → e ≡ f }
-    ensures error_is_not_memory { (b : List ℕ) → (netlink_codec I.codec).rejects b tt Memory → ⊥ }
+    // It has no parameter, so that its parser's parameter is `tt`.
+    ensures { (b : List ℕ) → IsBytes b → HasOneResult (netlink_codec I.codec) b tt }
 {}
 
 /// Two accepted byte strings have equal messages if and only if they are equivalent. They are

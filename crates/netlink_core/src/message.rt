@@ -4,7 +4,8 @@
 ghost use Rattle.std.specs.Prelude.{◌≡◌, ◌≢◌, ◌≤◌, ◌<◌, ◌↔◌, length, IfOk, IfErr, IsTrue, ⊤};
 ghost use Rattle.netlink_core.specs.Bytes.{HoldsAtStart};
 ghost use Rattle.netlink_core.specs.declared.error.DecodeError.TheVariants.{Memory};
-ghost use Rattle.netlink_core.specs.Header.{HasHeader, message_payload, message_type_in};
+ghost use Rattle.netlink_core.specs.Header.{HasHeader, message_payload};
+ghost use Rattle.netlink_core.specs.declared.message.NetlinkPayload.TheVariants.{Noop};
 ghost use Rattle.netlink_core.specs.NetlinkMessage.{Payload, NetlinkMessageModel};
 ghost use Rattle.netlink_core.specs.NetlinkMessage.{leading_error_number};
 ghost use Rattle.netlink_core.specs.NetlinkMessage.{error_number_of, ParsesAsPayload};
@@ -306,11 +307,10 @@ impl<I: NetlinkDeserializable> NetlinkPayload<I> {
         ensures error { IfErr result (λ e. e ≢ Memory
             → IsInnerMessageType header.now.message_type
             × I.codec.rejects bytes.now header.now.message_type e) }
-        // Whatever the error is, the message is not an `NLMSG_NOOP`.
-        ensures memory { IfErr result (λ e. header.now.message_type ≢ NLMSG_NOOP) }
-        // `Memory` only if the bytes have a payload.
+        // `Memory` only if the bytes have a payload, and this is not the one of an `NLMSG_NOOP`.
         ensures memory_needed { IfErr result (λ e. e ≡ Memory → (payload : Payload I.codec.Value)
-            × ParsesAsPayload I.codec.parses bytes.now header.now.message_type payload) }
+            × ParsesAsPayload I.codec.parses bytes.now header.now.message_type payload
+            × (payload ≢ Noop)) }
     {
         Ok(match header.message_type {
             NLMSG_NOOP => NetlinkPayload::Noop,
@@ -370,13 +370,12 @@ impl<I: NetlinkDeserializable> NetlinkMessage<I> {
         // An error is the first error of the bytes, unless it is `Memory`.
         ensures error { IfErr result (λ e. e ≢ Memory
             → (netlink_codec I.codec).rejects bytes.now tt e) }
-        // `Memory` only if the message is not an `NLMSG_NOOP`. `message_type_in bytes`:
-        // `nlmsg_type`, at offset 4.
-        ensures memory { IfErr result (λ e. e ≡ Memory → message_type_in bytes.now ≢ NLMSG_NOOP) }
-        // `Memory` only if the bytes have a message.
+        // `Memory` only if the bytes have a message, and this message needs to allocate: it is not
+        // an `NLMSG_NOOP`.
         ensures memory_needed { IfErr result (λ e. e ≡ Memory
             → (m : NetlinkMessageModel I.codec.Value)
-            × (netlink_codec I.codec).parses bytes.now tt m) }
+            × (netlink_codec I.codec).parses bytes.now tt m
+            × ¬ (netlink_codec I.codec).needs_no_memory m) }
     {
         let header = NetlinkHeader::from_prefix(bytes)?;
         let payload = NetlinkPayload::read(alloc, &header, payload_of(&header, bytes))?;

@@ -1,7 +1,6 @@
 //! Codecs: a parser and a serializer, with the properties that relate them.
 
-ghost use Rattle.std.specs.Prelude.{◌≡◌, ◌≢◌, ◌↔◌, ℕ, List, IfOk, IfErr, OnOk, IsTrue, refl};
-ghost use Rattle.std.proofs.Common.{sym, ap, ◌∙◌, subst};
+ghost use Rattle.std.specs.Prelude.{◌≡◌, ◌≢◌, ◌↔◌, ℕ, IfOk, IfErr, OnOk, IsTrue};
 ghost use Rattle.netlink_core.specs.Bytes.{IsBytes};
 ghost use Rattle.netlink_core.specs.Canonical.{HasCanonicalForm, CanonicalFormFails};
 ghost use Rattle.netlink_core.specs.Canonical.{SerializingFails};
@@ -38,95 +37,8 @@ pub trait HasCodec: PartialEq + Sized {
     // `==` compares the models.
     ghost eq_is_model: { (v w : Self) → IsTrue (Self.eq v w) ↔ (model v ≡ model w) };
 
-    // The codec laws. For example, bytes have one value or one error, equivalent bytes have equal
-    // values, and writable values in normal form round-trip.
+    // The codec laws. [`laws::main_theorem`](crate::laws::main_theorem) follows from them.
     ghost laws: { KeepsCodecLaws codec };
-
-    // The members below follow from these laws, for every type: each has its statement, and after
-    // `=` its proof. Most use the law `equal_iff_equivalent`: accepted bytes have equal values if
-    // and only if they are equivalent. Its `.0` leads from equal values to equivalent bytes, `.1`
-    // back.
-    //
-    // On accepted bytes, equivalence is reflexive, symmetric and transitive.
-    ghost equivalent_reflexive: { (b : List ℕ) (p : Self.Param) (v : codec.Value) → IsBytes b
-        → codec.parses b p v
-        → codec.equivalent p b b } = { λ b p v is_bytes parsed.
-            (laws.equal_iff_equivalent b b p v v is_bytes is_bytes parsed parsed).0 refl };
-
-    ghost equivalent_symmetric: { (b c : List ℕ) (p : Self.Param) (v w : codec.Value) → IsBytes b
-        → IsBytes c
-        → codec.parses b p v → codec.parses c p w → codec.equivalent p b c
-        → codec.equivalent p c b } = { λ b c p v w b_bytes c_bytes b_parsed c_parsed b_like_c.
-            let b_to_c = laws.equal_iff_equivalent b c p v w b_bytes c_bytes b_parsed c_parsed in
-            let c_to_b = laws.equal_iff_equivalent c b p w v c_bytes b_bytes c_parsed b_parsed in
-            c_to_b.0 (sym (b_to_c.1 b_like_c)) };
-
-    ghost equivalent_transitive: { (b c d : List ℕ) (p : Self.Param) (v w x : codec.Value)
-        → IsBytes b
-        → IsBytes c → IsBytes d
-        → codec.parses b p v → codec.parses c p w → codec.parses d p x → codec.equivalent p b c
-        → codec.equivalent p c d
-        → codec.equivalent p b d } = { λ b c d p v w x b_bytes c_bytes d_bytes b_parsed c_parsed
-            d_parsed b_like_c c_like_d.
-            let b_to_c = laws.equal_iff_equivalent b c p v w b_bytes c_bytes b_parsed c_parsed in
-            let c_to_d = laws.equal_iff_equivalent c d p w x c_bytes d_bytes c_parsed d_parsed in
-            let b_to_d = laws.equal_iff_equivalent b d p v x b_bytes d_bytes b_parsed d_parsed in
-            b_to_d.0 (b_to_c.1 b_like_c ∙ c_to_d.1 c_like_d) };
-
-    // Bytes have at most one value: if they parse as `v` and as `w`, these are equal.
-    ghost one_value: { (b : List ℕ) (p : Self.Param) (v w : codec.Value) → IsBytes b
-        → codec.parses b p v → codec.parses b p w
-        → v ≡ w } = { λ b p v w is_bytes parsed_v parsed_w.
-            (laws.equal_iff_equivalent b b p v w is_bytes is_bytes parsed_v parsed_w).1
-            (equivalent_reflexive b p v is_bytes parsed_v) };
-
-    // Writable values that are in range and in normal form are equal if they serialize to the same
-    // bytes.
-    ghost equal_by_bytes: { (p : Self.Param) (v w : codec.Value) → codec.is_in_range v
-        → codec.is_in_range w → codec.is_normal p v → codec.is_normal p w
-        → codec.is_writable v → codec.is_writable w → codec.serialized v ≡ codec.serialized w
-        → v ≡ w } = { λ p v w v_in_range w_in_range v_normal w_normal v_writable w_writable same.
-            one_value (codec.serialized w) p v w (laws.serialized_in_range w w_in_range)
-            (subst (λ (b : List ℕ). codec.parses b p v) same
-            (laws.round_trips p v v_in_range v_normal v_writable))
-            (laws.round_trips p w w_in_range w_normal w_writable) };
-
-    // The bytes that a writable parsed value serializes to are equivalent to the bytes that it was
-    // parsed from.
-    ghost equivalent_to_serialized: { (b : List ℕ) (p : Self.Param) (v : codec.Value) → IsBytes b
-        → codec.parses b p v → codec.is_writable v
-        → codec.equivalent p b (codec.serialized v) } = { λ b p v is_bytes parsed writable.
-            let (in_range, normal) = laws.parsed_is_normal b p v is_bytes parsed in
-            (laws.equal_iff_equivalent b (codec.serialized v) p v v is_bytes
-            (laws.serialized_in_range v in_range) parsed
-            (laws.round_trips p v in_range normal writable)).0 refl };
-
-    // A writable value in range round-trips if and only if it is in normal form.
-    ghost round_trips_iff_normal: { (p : Self.Param) (v : codec.Value) → codec.is_in_range v
-        → codec.is_writable v
-        → (codec.parses (codec.serialized v) p v
-        ↔ codec.is_normal p v) } = { λ p v in_range writable. (
-          λ parsed. (laws.parsed_is_normal (codec.serialized v) p v
-              (laws.serialized_in_range v in_range) parsed).1,
-          λ normal. laws.round_trips p v in_range normal writable,
-        ) };
-
-    // Accepted bytes with writable values serialize to the same bytes if and only if they are
-    // equivalent.
-    ghost same_bytes_iff_equivalent: { (b c : List ℕ) (p : Self.Param) (v w : codec.Value)
-        → IsBytes b
-        → IsBytes c
-        → codec.parses b p v → codec.parses c p w → codec.is_writable v → codec.is_writable w
-        → ((codec.serialized v ≡ codec.serialized w)
-        ↔ codec.equivalent p b c) } = { λ b c p v w b_bytes c_bytes b_parsed c_parsed v_writable
-            w_writable.
-            let equal_iff = laws.equal_iff_equivalent b c p v w b_bytes c_bytes b_parsed c_parsed in
-            let (v_in_range, v_normal) = laws.parsed_is_normal b p v b_bytes b_parsed in
-            let (w_in_range, w_normal) = laws.parsed_is_normal c p w c_bytes c_parsed in (
-              λ same. equal_iff.0 (equal_by_bytes p v w v_in_range w_in_range v_normal w_normal
-                  v_writable w_writable same),
-              λ b_like_c. ap codec.serialized (equal_iff.1 b_like_c),
-            ) };
 }
 
 /// A type that is parsed and serialized as its codec states.

@@ -16,10 +16,9 @@ use Rattle.netlink_core.specs.laws.Byte.{IsBytes-nil}
 use Rattle.netlink_core.specs.Datagram.{SplitsIntoMessages, StartsWithMessage}
 use Rattle.netlink_core.specs.Items.{Item, IsItemOf, AreItemsOf}
 use Rattle.netlink_core.proofs.Datagrams.{one_message, starts_in_concatenation}
-use Rattle.netlink_core.proofs.Framing.{message_or_error_apart, one_message_error}
-use Rattle.netlink_core.proofs.Equivalence.{messages_equal_iff_equivalent}
 use Rattle.netlink_core.proofs.Items.{no_items, items_of, items_of_concatenation}
 use Rattle.netlink_core.proofs.Items.{one_item, one_list_by, items_of_padded_messages}
+use Rattle.netlink_core.proofs.Items.{one_result_of_message}
 use Rattle.netlink_packet_sock_diag.specs.declared.dump.DumpState.TheVariants.{Reading, Failed}
 use Rattle.netlink_packet_sock_diag.specs.declared.dump.DumpError.{DumpError}
 use Rattle.netlink_packet_sock_diag.specs.declared.dump.DumpError.TheVariants.{Ended, Fault}
@@ -464,12 +463,7 @@ module _ (C : Codec ℕ) (laws : KeepsCodecLaws C) where
   -- a message has at most one item
   pub one_item_of : (message : List ℕ) → IsBytes message → (i j : Item C.Value)
       → IsItemOf C message i → IsItemOf C message j → i ≡ j
-  one_item_of =
-      let same = messages_equal_iff_equivalent C laws.equal_iff_equivalent in
-      one_item C (λ b v w in_range r s. (same b b v w in_range in_range r s).1
-      ((same b b v v in_range in_range r r).0 refl))
-      (λ b v e. message_or_error_apart C b v e (λ x t m. laws.is_exclusive x t m e))
-      (λ b e f. one_message_error C b e f (λ x t. laws.error_is_unique x t e f))
+  one_item_of = one_item C (one_result_of_message C laws)
 
   pub one_list_of : OneList (IsItemOf C)
   one_list_of = one_list_by (IsItemOf C) one_item_of

@@ -97,7 +97,7 @@ module _ {A : Type 0} (item_is : List ℕ → Item A → Type 0) where
   abbrev pub FeedLeadsTo : DumpProgress A × List ℕ → DumpProgress A × Result Unit DumpError → Type 0
   FeedLeadsTo (old, datagram) (new, Ok _) =
       IsReading old × ReadsDatagram (old, datagram) (new, Ok (status_of_dump new))
-  FeedLeadsTo (old, datagram) (new, Err Ended) = (¬ IsReading old) × (new ≡ old)
+  FeedLeadsTo (old, datagram) (new, Err Ended) = (old.state ≢ Reading) × (new ≡ old)
   FeedLeadsTo (old, datagram) (new, Err (Fault e)) =
       IsReading old × (status_of_dump new ≡ (Failed, None))
       × (e ≢ Memory → ReadsDatagram (old, datagram) (new, Err e))

@@ -1,17 +1,11 @@
 -- The entries of a dump that continues after invalid messages.
-use Rattle.std.specs.Prelude.{ℕ, List, ◌-◌, take, drop, map, Result, Ok, Err, MatchResult}
+use Rattle.std.specs.Prelude.{ℕ, List, map, Result, Ok, Err, MatchResult}
 use Rattle.netlink_core.specs.Codec.{Codec}
 use Rattle.netlink_core.specs.NetlinkMessage.{ParsesAsPayload}
-use Rattle.netlink_core.specs.Header.{HasHeader}
+use Rattle.netlink_core.specs.Header.{HasHeader, message_payload}
 use Rattle.netlink_core.specs.Items.{Item}
 use Rattle.netlink_core.specs.declared.error.DecodeError.{DecodeError}
 use Rattle.netlink_core.specs.declared.header.NetlinkHeader.{NetlinkHeader}
-use Rattle.netlink_core.specs.declared.header.TheConstants.{NETLINK_HEADER_LEN}
-
--- `payload_after h message`: the payload of a message with the header `h`: the bytes after the
--- header, up to the length `h.length` of the message
-abbrev pub payload_after : NetlinkHeader → List ℕ → List ℕ
-payload_after h message = take (h.length - NETLINK_HEADER_LEN) (drop NETLINK_HEADER_LEN message)
 
 -- `as_lossy_entries messages`: the messages as entries of a dump that continues after invalid
 -- messages: each is `Ok` of a message, because none is invalid
@@ -26,5 +20,5 @@ as_lossy_entries messages = map (λ message. Ok message) messages
 abbrev pub HasLossyEntry : (C : Codec ℕ) → List ℕ → Item (Result C.Value DecodeError) → Type 0
 HasLossyEntry C message (Ok payload) = (h : NetlinkHeader) × HasHeader message h
     × ParsesAsPayload (λ bytes t entry. MatchResult entry (C.parses bytes t) (C.rejects bytes t))
-    (payload_after h message) h.message_type payload
+    (message_payload message h) h.message_type payload
 HasLossyEntry C message (Err e) = ⊥

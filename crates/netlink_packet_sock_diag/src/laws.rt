@@ -24,6 +24,7 @@ ghost use Rattle.netlink_core.specs.declared.header.NetlinkHeader.{NetlinkHeader
 ghost use Rattle.netlink_core.specs.Header.{IsMessageError, header_fields, header_values};
 ghost use Rattle.netlink_core.specs.Table.{FitFields};
 ghost use Rattle.netlink_core.specs.Canonical.{HasCanonicalForm};
+ghost use Rattle.netlink_core.specs.Codec.{HasOneResult};
 ghost use Rattle.netlink_core.specs.NetlinkMessage.{NetlinkMessageModel};
 ghost use Rattle.netlink_core.specs.NetlinkMessage.{HoldsOfInnerMessage};
 ghost use Rattle.netlink_core.specs.NetlinkMessage.{finalized_header};
@@ -160,23 +161,10 @@ pub fn finalized_destroy_value_is_rejected()
         (errors.UnknownMessageType SOCK_DESTROY) }
 {}
 
-/// Each input has one netlink message of sock_diag(7) at its start, or one decode error. It does
-/// not have both, and the error is not `Memory`.
+/// Each input starts with exactly one netlink message of sock_diag(7), or is rejected with exactly
+/// one error.
 pub fn one_message_or_error()
-    ensures is_total { (b : List ℕ) → IsBytes b
-        → ((v : NetlinkMessageModel Message) × netlink_message_codec.parses b tt v)
-        ⊎ ((e : DecodeError) × netlink_message_codec.rejects b tt e) }
-    ensures one_value { (b : List ℕ) (v w : NetlinkMessageModel Message) → IsBytes b
-        → netlink_message_codec.parses b tt v → netlink_message_codec.parses b tt w
-        → v ≡ w }
-    ensures is_exclusive { (b : List ℕ) (v : NetlinkMessageModel Message) (e : DecodeError)
-        → netlink_message_codec.parses b tt v → netlink_message_codec.rejects b tt
-        e → ⊥ }
-    ensures error_is_unique { (b : List ℕ) (e f : DecodeError)
-        → netlink_message_codec.rejects b tt e
-        → netlink_message_codec.rejects b tt f → e ≡ f }
-    ensures error_is_not_memory { (b : List ℕ) → netlink_message_codec.rejects b tt errors.Memory →
-        ⊥ }
+    ensures { (b : List ℕ) → IsBytes b → HasOneResult netlink_message_codec b tt }
 {
     laws::one_message_or_error::<SockDiagMessage>();
 }
@@ -442,8 +430,8 @@ pub fn copied_payload_view<'a>(
 /// Returns the owned reply about a UNIX socket. It serializes to the same bytes as the borrowed
 /// reply, and both or neither are writable. Fails only if an allocation fails.
 pub fn owned_unix_view(
-    view: &UnixResponseView<'_>,
     alloc: Global,
+    view: &UnixResponseView<'_>,
 ) -> Result<UnixResponse, AllocError>
     ensures bytes { IfOk result (λ reply.
         ⟦<UnixResponse as Emitable>⟧.bytes reply
@@ -458,8 +446,8 @@ pub fn owned_unix_view(
 /// Returns the owned reply about an IPv4 or IPv6 socket. It serializes to the same bytes as the
 /// borrowed reply, and both or neither are writable. Fails only if an allocation fails.
 pub fn owned_inet_view(
-    view: &InetResponseView<'_>,
     alloc: Global,
+    view: &InetResponseView<'_>,
 ) -> Result<InetResponse, AllocError>
     ensures bytes { IfOk result (λ reply.
         ⟦<InetResponse as Emitable>⟧.bytes reply
@@ -474,8 +462,8 @@ pub fn owned_inet_view(
 /// Returns the owned message. It serializes to the same bytes as the borrowed message, and both or
 /// neither are writable. Fails only if an allocation fails.
 pub fn owned_message_view(
-    view: &SockDiagView<'_>,
     alloc: Global,
+    view: &SockDiagView<'_>,
 ) -> Result<SockDiagMessage, AllocError>
     // `owned_messages` and `message_views`: the members of `Emitable` for the owned and for the
     // borrowed message.
