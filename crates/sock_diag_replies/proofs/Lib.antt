@@ -3,3 +3,4 @@ mod ErrorTest
 mod Owning
 pub mod CompleteLenientIteration
 mod OneLenientIteration
+mod LenientAgreement

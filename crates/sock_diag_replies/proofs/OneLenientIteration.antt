@@ -13,12 +13,12 @@ use Rattle.sock_diag_replies.specs.Lenient.{HasLenientItems, RejectionModel, fra
 use Rattle.sock_diag_replies.specs.Lenient.{lenient_item_of}
 
 -- The bytes are these attributes, and then nothing (None) or bytes with a framing error.
-abbrev EndsWith : List ℕ → List Attribute → Option DecodeError → Type 0
+abbrev pub EndsWith : List ℕ → List Attribute → Option DecodeError → Type 0
 EndsWith bytes attributes None = SplitsIntoAttributes bytes attributes []
 EndsWith bytes attributes (Some e) = SplitsUntilError IsFramingError bytes attributes e
 
 -- The first attribute is at the start, and the others follow.
-first_and_others : (bytes : List ℕ) (a : Attribute) (others : List Attribute)
+pub first_and_others : (bytes : List ℕ) (a : Attribute) (others : List Attribute)
     (end : Option DecodeError)
     → EndsWith bytes (a ∷ others) end
     → (left : List ℕ) × StartsWithAttribute bytes a left × EndsWith left others end
@@ -66,13 +66,13 @@ one_split bytes (a ∷ xs) (b ∷ ys) x y h k =
 
 module _ (F : AttributeSet) where
   -- The items of attributes and of an end.
-  abbrev items_of : List Attribute → Option DecodeError
+  abbrev pub items_of : List Attribute → Option DecodeError
       → List (Result (AttributeValue F) RejectionModel)
   items_of attributes None = map (lenient_item_of F) attributes
   items_of attributes (Some e) =
       map (lenient_item_of F) attributes ++ Err (framing_rejection e) ∷ []
 
-  split_of_items : (bytes : List ℕ) (items : List (Result (AttributeValue F) RejectionModel))
+  pub split_of_items : (bytes : List ℕ) (items : List (Result (AttributeValue F) RejectionModel))
       → HasLenientItems F bytes items
       → (attributes : List Attribute) × (end : Option DecodeError)
       × EndsWith bytes attributes end × (items ≡ items_of attributes end)

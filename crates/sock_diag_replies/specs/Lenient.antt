@@ -1,11 +1,14 @@
 -- Lenient parsing of attributes: each attribute is parsed independently of the others.
-use Rattle.std.specs.Prelude.{◌≡◌, ◌≢◌, ℕ, ◌⊎◌, List, [], ◌∷◌, ◌++◌, map, Option, None, Some}
-use Rattle.std.specs.Prelude.{Result, Err, MatchOption}
+use Rattle.std.specs.Prelude.{◌≡◌, ◌≢◌, ℕ, ◌⊎◌, ◌↔◌, List, [], ◌∷◌, ◌++◌, map, drop, Option, None}
+use Rattle.std.specs.Prelude.{Some, Result, Ok, Err, MatchOption}
 use Rattle.std.specs.Result.{result_map_both}
 use Rattle.netlink_core.specs.declared.error.DecodeError.{DecodeError}
 use Rattle.netlink_core.specs.Attribute.{Attribute, SplitsIntoAttributes, SplitsUntilError}
 use Rattle.netlink_core.specs.Attribute.{IsFramingError, StartsWithAttribute}
 use Rattle.netlink_core.specs.AttributeSet.{AttributeSet, AttributeValue, decode_attribute}
+use Rattle.netlink_core.specs.Bytes.{IsBytes}
+use Rattle.netlink_core.specs.Codec.{IsOnly}
+use Rattle.netlink_core.specs.Response.{ResponseSpec, ResponseValue, ReplyValue, response_codec}
 use Rattle.netlink_core.specs.Walk.{buffered_attribute}
 use Rattle.sock_diag_replies.specs.LenientModel.{unread_lenient_bytes}
 use Rattle.sock_diag_replies.specs.declared.lenient.LenientNlas.{LenientNlas}
@@ -93,3 +96,43 @@ abbrev pub HasLenientItems : (F : AttributeSet) → List ℕ
     → List (Result (AttributeValue F) RejectionModel)
     → Type 0
 HasLenientItems F = HasLenientItemsBy (decode_attribute F)
+
+-- ---- next to strict parsing
+
+-- `first_rejection items`: the error of the first rejected item; None if each item is a value.
+abbrev pub first_rejection : {V : Type 0} → List (Result V RejectionModel) → Option DecodeError
+first_rejection [] = None
+first_rejection (Ok value ∷ later) = first_rejection later
+first_rejection (Err rejection ∷ later) = Some rejection.error
+
+-- `LenientValue spec`: the value of a lenient reply: the value of its header, and its items
+abbrev pub LenientValue : ResponseSpec → Type 0
+LenientValue spec =
+    ResponseValue spec.header.Value (Result (AttributeValue spec.attribute_set) RejectionModel)
+
+-- `HasLenientReply spec bytes reply`: a lenient parser accepts the bytes, and `reply` has what it
+-- returns: the header, and the items of the bytes after it, in order.
+abbrev pub HasLenientReply : (spec : ResponseSpec) → List ℕ → LenientValue spec → Type 0
+HasLenientReply spec bytes reply = (spec.header.parses tt bytes ≡ Ok reply.header)
+    × HasLenientItems spec.attribute_set (drop spec.size bytes) reply.nlas
+
+-- `LenientAgreesWithStrict spec`: how lenient parsing of replies relates to strict parsing, which
+-- is by the codec of `spec`.
+pub record LenientAgreesWithStrict (spec : ResponseSpec) : Type 0 where
+  -- bytes have exactly one lenient reply, or their header is rejected, and then the strict parser
+  -- rejects them with the same error
+  pub one_reply : (bytes : List ℕ) → IsBytes bytes
+      → ((reply : LenientValue spec) × IsOnly (HasLenientReply spec bytes) reply)
+      ⊎ ((e : DecodeError) × (spec.header.parses tt bytes ≡ Err e)
+      × (response_codec spec).rejects bytes tt e)
+  -- the strict parser accepts the bytes if and only if no item is rejected, and then its value has
+  -- the same header and the same values
+  pub accepted : (bytes : List ℕ) (reply : LenientValue spec)
+      → HasLenientReply spec bytes reply → (strict : ReplyValue spec)
+      → (response_codec spec).parses bytes tt strict
+      ↔ ((strict.header ≡ reply.header) × (reply.nlas ≡ map Ok strict.nlas))
+  -- the strict parser rejects the bytes with the error of the first rejected item, and with no
+  -- other error
+  pub rejected : (bytes : List ℕ) (reply : LenientValue spec)
+      → HasLenientReply spec bytes reply → (e : DecodeError)
+      → (response_codec spec).rejects bytes tt e ↔ (first_rejection reply.nlas ≡ Some e)

@@ -17,7 +17,10 @@ ghost use Rattle.sock_diag_attributes.specs.InetModel.{inet_nla_view_model as in
 ghost use Rattle.sock_diag_attributes.specs.UnixAttributes.{unix_attribute_set};
 ghost use Rattle.sock_diag_attributes.specs.UnixModel.{unix_nla_view_model as unix_view_model};
 ghost use Rattle.sock_diag_replies.specs.Lenient.{StartsWithLenientItem, YieldsLenientItem};
+ghost use Rattle.sock_diag_replies.specs.InetResponseSpec.{inet_response_spec};
+ghost use Rattle.sock_diag_replies.specs.UnixResponseSpec.{unix_response_spec};
 ghost use Rattle.sock_diag_replies.specs.Lenient.{HasLenientItems, RejectionModel};
+ghost use Rattle.sock_diag_replies.specs.Lenient.{LenientAgreesWithStrict};
 ghost use Rattle.sock_diag_replies.specs.Lenient.{lenient_item_model};
 ghost use Rattle.sock_diag_replies.specs.Lenient.{rejection_model};
 ghost use Rattle.sock_diag_replies.specs.LenientModel.{lenient_attribute_bytes, lenient_header};
@@ -64,6 +67,15 @@ pub fn lenient_walk_of_good_bytes<'a, V: FamilyView<'a>>()
         → Drains (YieldsLenientItem V.attribute_set V.model) walk (map Ok views)
         → DecodeTo (decode_attribute V.attribute_set) (unread_lenient_bytes walk)
         (map V.model views) }
+{}
+
+/// Lenient parsing agrees with strict parsing, for replies about UNIX sockets, and about IPv4 and
+/// IPv6 sockets: a strict parser accepts bytes if and only if no item of a lenient reply is
+/// rejected, and then both have the same values. Otherwise its error is that of the header, or of
+/// the first rejected item.
+pub fn lenient_parsing_agrees_with_strict_parsing()
+    ensures unix { LenientAgreesWithStrict unix_response_spec }
+    ensures inet { LenientAgreesWithStrict inet_response_spec }
 {}
 
 /// Returns the lenient reply about an IPv4 or IPv6 socket that `LenientReply::parse` parses, or its
