@@ -89,9 +89,8 @@ as_codec part = record {
 abbrev pub record_codec : {Param Tag Value : Type 0} → Layout Param Tag Value → Codec Param
 record_codec layout = as_codec (value_codec layout)
 
--- The laws of a record: the codec laws (`codec`), and that bytes parse as a value if and only if
--- they contain it (`parsed_iff_contained`). `IsContainedIn` says when: the bytes are long enough
--- and have the value's tag and numbers, and the value is in range and in normal form.
+-- `RecordLaws layout`: the laws of a record: the codec laws (`codec`), and that bytes parse as a
+-- value if and only if they contain it (`parsed_iff_contained`).
 pub record RecordLaws {Param Tag Value : Type 0} (layout : Layout Param Tag Value) : Type 0 where
   pub codec : KeepsCodecLaws (record_codec layout)
   pub parsed_iff_contained : (b : List ℕ) (p : Param) (v : Value) → IsBytes b

@@ -34,7 +34,7 @@ pub record Layout (Param Tag Value : Type 0) : Type 1 where
 -- `plain name least rows value arrays_fit`: the layout of a record with the same rows for all
 -- values. The arguments are the members of `Layout` with these names, `rows` and `value` without a
 -- tag. The only tag is `tt`, so that no bytes are rejected for it, and every value is consistent
--- (`⊤`).
+-- (`⊤`). A record without arrays has `λ value. ⊤` as `arrays_fit`.
 abbrev pub plain : {Value : Type 0} → RecordName → (least : ℕ) → List (Row Value)
     → (List ℕ → Value) → (Value → Type 0) → Layout (Unit {0}) (Unit {0}) Value
 plain name least rows value arrays_fit = record {

@@ -3,6 +3,9 @@
 //! An attribute is a length field (`nla_len`: 4 and the number of the value's bytes), a type field
 //! (`nla_type`), the value, and padding to a multiple of 4. Both fields have 16 bits and are
 //! little-endian.
+//!
+//! In the contracts `little_number 2 bytes` is the length field of an attribute at the start of the
+//! bytes. `buffered_attribute buffer` is the type field and the value of an [`NlaBuffer`].
 
 ghost use Rattle.std.specs.Prelude.{◌≡◌, ◌+◌, ◌/◌, ◌≤◌, ◌<◌, ◌^◌, ◌↔◌, length, IsTrue, IsBitSet};
 ghost use Rattle.std.specs.Prelude.{MatchOption, MatchResult, IfSome, None, []};
@@ -50,9 +53,6 @@ impl<'a> NlaBuffer<'a> {
     /// `AttributeLengthUnder4` if the length field is below 4, then with `AttributeLengthPast` if
     /// it is above the number of bytes.
     pub fn new_checked(bytes: &'a [u8]) -> Result<NlaBuffer<'a>, DecodeError>
-        // `HasAttributePrefix bytes attribute`: the bytes begin with the attribute, and other bytes
-        // may follow. `IsFramingError bytes error`: the bytes do not begin with an attribute, for
-        // this reason. `buffered_attribute`: the type field and the value of the buffer.
         ensures { MatchResult result
             (λ buffer. HasAttributePrefix bytes.entry.now (buffered_attribute buffer))
             (IsFramingError bytes.entry.now) }
@@ -79,11 +79,8 @@ impl<'a> NlaBuffer<'a> {
     /// a test of the length field. This field must be at least 4 and at most the number of bytes.
     #[inline(always)]
     pub fn new(bytes: &'a [u8]) -> NlaBuffer<'a>
-        // `little_number 2 bytes`: the length field, which is the first two bytes.
         requires at_least { 4 ≤ little_number 2 bytes.now }
         requires at_most { little_number 2 bytes.now ≤ length bytes.now }
-        // `HasAttributePrefix bytes attribute`: the bytes begin with the attribute.
-        // `buffered_attribute`: the type field and the value of the buffer.
         ensures { HasAttributePrefix bytes.entry.now (buffered_attribute result) }
     {
         let length = LittleEndian::read_u16(bytes);
@@ -111,7 +108,6 @@ impl<'a> NlaBuffer<'a> {
 
     /// Returns the kind: the lower 14 bits of the type field, without its two flag bits.
     pub fn kind(&self) -> u16
-        // `attribute_kind`: the bits of the type field that are in `NLA_TYPE_MASK`.
         ensures { result ≡ attribute_kind (buffered_attribute self.now) }
     {
         self.type_word & NLA_TYPE_MASK
@@ -165,7 +161,6 @@ impl<'a> NlasIterator<'a> {
 
     /// Returns an iterator over the attributes in the bytes.
     pub fn new(bytes: &'a [u8]) -> NlasIterator<'a>
-        // `unread_bytes`: the bytes that the iterator has not read yet.
         ensures { unread_bytes result ≡ bytes.entry.now }
     {
         NlasIterator { bytes, at: 0 }
@@ -177,15 +172,10 @@ impl<'a> NlasIterator<'a> {
     #[inline(always)]
     #[tactic(auto, using(crate::proofs::Walking::accepted_step_rules))]
     pub fn next_accepted(&mut self) -> Option<NlaBuffer<'a>>
-        // If no bytes are left, nothing is required. `little_number 2 bytes`: the length field,
-        // which is the first two bytes.
         requires at_least { 0 < length (unread_bytes self.old)
             → 4 ≤ little_number 2 (unread_bytes self.old) }
         requires at_most { 0 < length (unread_bytes self.old)
             → little_number 2 (unread_bytes self.old) ≤ length (unread_bytes self.old) }
-        // If the result is `None`, no bytes were left, and none are. If it is `Some nla`, the bytes
-        // that were left start with this attribute. `StartsWithAttribute bytes attribute rest`: the
-        // bytes are the attribute, its padding, and `rest`.
         ensures { MatchOption result ((unread_bytes self.old ≡ []) × (unread_bytes self.new ≡ []))
             (λ nla. StartsWithAttribute (unread_bytes self.old) (buffered_attribute nla)
             (unread_bytes self.new)) }
@@ -207,8 +197,6 @@ impl<'a> Iterator for NlasIterator<'a> {
 
     type Item = Result<NlaBuffer<'a>, DecodeError>;
 
-    // `YieldsAttribute old item new`: a call of `next` returns `item`, and leads from `old` to
-    // `new`.
     ghost next_gives = { YieldsAttribute };
 
     // At most one item for each four bytes that are left, rounded up, since an attribute has at
@@ -237,10 +225,7 @@ impl<'a> Iterator for NlasIterator<'a> {
     /// Returns `(0, None)`: the number of items is known only after iterating.
     fn size_hint(&self) -> (usize, Option<usize>)
         ensures unknown { result ≡ (0, None) }
-        // The clauses of the trait, which follow from `unknown`. `IsWithinCount`: the first number
-        // is at most the number of items. `at_most n`: there are at most `n` items, here one for
-        // each four bytes that are left, rounded up. `UpTo`: the second number, if there is one, is
-        // at least the number of items.
+        // The clauses of the trait, which follow from `unknown`.
         ensures lower { IsWithinCount result.0
             (at_most ((length (unread_bytes self.now) + 3) / 4)) }
         ensures upper { IfSome result.1
@@ -254,7 +239,6 @@ impl<'a> Iterator for NlasIterator<'a> {
 /// so that the sum does not overflow.
 pub fn padded(length: usize) -> usize
     requires { length < 2 ^ 32 }
-    // `padding_length n`: the number of bytes, 0 to 3, from `n` to the next multiple of 4.
     ensures { result ≡ length + padding_length length }
 {
     (length + 3) / 4 * 4

@@ -21,7 +21,6 @@ pub enum CanonError {
 }
 
 impl From<DecodeError> for CanonError {
-    // `Memory` becomes `Memory`, and any other error becomes `Refused` with this error.
     ghost from_gives = { λ error converted.
         (error ≡ errors.Memory → converted ≡ canon_errors.Memory)
         × (error ≢ errors.Memory → converted ≡ canon_errors.Refused error) };
@@ -35,7 +34,6 @@ impl From<DecodeError> for CanonError {
 }
 
 impl From<AllocError> for CanonError {
-    // The result is `Memory`.
     ghost from_gives = { λ _ e. e ≡ canon_errors.Memory };
 
     fn from(_e: AllocError) -> CanonError {
@@ -54,19 +52,15 @@ pub fn canonical<T: Wire + Drop>(
     bytes: &[u8],
     param: T::Param,
 ) -> Result<Vec<u8>, CanonError>
-    // `HasCanonicalForm codec param bytes form`: the bytes parse as a writable value, which
-    // serializes to `form`.
     ensures written { IfOk result (λ form. HasCanonicalForm T.codec param bytes.now form.items) }
     // Other bytes with a canonical form have the same one if and only if they are equivalent to
-    // these bytes. `IsBytes bytes`: each number of the list is below 256.
+    // these bytes.
     ensures same { IfOk result (λ form. (others other_form : List ℕ) → IsBytes others
         → HasCanonicalForm T.codec param others other_form
         → ((other_form ≡ form.items) ↔ T.codec.equivalent param bytes.now others)) }
     // The canonical form is its own canonical form.
     ensures again { IfOk result (λ form.
         IsBytes form.items × HasCanonicalForm T.codec param form.items form.items) }
-    // `CanonicalFormFails codec param bytes error`: no canonical form of the bytes is returned, for
-    // this reason.
     ensures err { IfErr result (CanonicalFormFails T.codec param bytes.now) }
 {
     T::rewrite(alloc, bytes, param)

@@ -24,7 +24,6 @@ impl<'a> FramedMessages<'a> {
 
     /// Returns an iterator over the messages of this datagram.
     pub fn new(datagram: &'a [u8]) -> FramedMessages<'a>
-        // `unread_messages`: the bytes that the iterator has not read yet.
         ensures { unread_messages result ≡ datagram.entry.now }
     {
         FramedMessages {
@@ -42,8 +41,6 @@ impl<'a> Iterator for FramedMessages<'a> {
 
     type Item = Result<(NetlinkHeader, &'a [u8]), DecodeError>;
 
-    // `YieldsFramedMessage old item new`: a call of `next` returns `item`, and leads from `old` to
-    // `new`.
     ghost next_gives = { YieldsFramedMessage };
 
     // At most one item for each sixteen bytes that are left, rounded up, since a message has at
@@ -76,10 +73,7 @@ impl<'a> Iterator for FramedMessages<'a> {
     /// Returns `(0, None)`: the number of items is known only after iterating.
     fn size_hint(&self) -> (usize, Option<usize>)
         ensures unknown { result ≡ (0, None) }
-        // The clauses of the trait, which follow from `unknown`. `IsWithinCount`: the first number
-        // is at most the number of items. `at_most n`: there are at most `n` items, here one for
-        // each sixteen bytes that are left, rounded up. `UpTo`: the second number, if there is one,
-        // is at least the number of items.
+        // The clauses of the trait, which follow from `unknown`.
         ensures lower { IsWithinCount result.0
             (at_most ((length (unread_messages self.now) + 15) / 16)) }
         ensures upper { IfSome result.1
@@ -104,7 +98,6 @@ impl<'a> MessageStrings<'a> {
 
     /// Returns an iterator over the messages of this datagram.
     pub fn new(datagram: &'a [u8]) -> MessageStrings<'a>
-        // `unread_datagram`: the bytes that the iterator has not read yet.
         ensures { unread_datagram result ≡ datagram.entry.now }
     {
         MessageStrings {
@@ -121,7 +114,6 @@ impl<'a> Iterator for MessageStrings<'a> {
 
     type Item = Result<&'a [u8], DecodeError>;
 
-    // `YieldsMessage old item new`: a call of `next` returns `item`, and leads from `old` to `new`.
     ghost next_gives = { YieldsMessage };
 
     // At most one item for each sixteen bytes that are left, rounded up, since a message has at
@@ -143,10 +135,7 @@ impl<'a> Iterator for MessageStrings<'a> {
     /// Returns `(0, None)`: the number of items is known only after iterating.
     fn size_hint(&self) -> (usize, Option<usize>)
         ensures unknown { result ≡ (0, None) }
-        // The clauses of the trait, which follow from `unknown`. `IsWithinCount`: the first number
-        // is at most the number of items. `at_most n`: there are at most `n` items, here one for
-        // each sixteen bytes that are left, rounded up. `UpTo`: the second number, if there is one,
-        // is at least the number of items.
+        // The clauses of the trait, which follow from `unknown`.
         ensures lower { IsWithinCount result.0
             (at_most ((length (unread_datagram self.now) + 15) / 16)) }
         ensures upper { IfSome result.1

@@ -19,11 +19,9 @@ impl<T: PartialEq + Clone, const N: usize> Exact for RecordBuffer<T, N> {
 }
 
 impl Exact for DecodeError {
-    // The three parts of `exact`: `==`, what `clone` returns, and that it cannot fail.
     ghost exact = { (decode_error_equal, Prim.search rules, Prim.search rules) };
 }
 
 impl Exact for CanonError {
-    // The three parts of `exact`: `==`, what `clone` returns, and that it cannot fail.
     ghost exact = { (error_equal, Prim.search rules, Prim.search rules) };
 }

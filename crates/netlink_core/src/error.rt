@@ -149,7 +149,6 @@ pub enum DecodeError {
 impl DecodeError {
     /// Returns the error code, from 1 to 18.
     pub fn number(&self) -> u8
-        // `error_code`: the position of the error among the variants, from 1 on.
         ensures { result ≡ error_code self.now }
     {
         match self {
@@ -177,8 +176,6 @@ impl DecodeError {
     /// Returns the error. If it is a `WrongLength` without a kind, it gets this kind; any other
     /// error is unchanged.
     pub fn with_kind(self, kind: u16) -> Self
-        // `with_missing_kind kind error`: the error, with this kind if it is a `WrongLength`
-        // without.
         ensures { result ≡ with_missing_kind kind self }
     {
         match self {
@@ -197,7 +194,6 @@ impl DecodeError {
 }
 
 impl From<AllocError> for DecodeError {
-    // The result is `Memory`.
     ghost from_gives = { λ _ e. e ≡ Memory };
 
     fn from(_e: AllocError) -> DecodeError {
@@ -206,7 +202,6 @@ impl From<AllocError> for DecodeError {
 }
 
 impl<T: Drop> From<AllocFailed<T>> for DecodeError {
-    // The result is `Memory`.
     ghost from_gives = { λ _ e. e ≡ Memory };
 
     fn from(_e: AllocFailed<T>) -> DecodeError {

@@ -23,9 +23,6 @@ pub trait FamilyView<'a>: Nla + PartialEq + Sized {
     /// kind, or the raw attribute if no type has its kind. Fails with the error of the value if
     /// this type rejects it.
     fn read_view(nla: &NlaBuffer<'a>) -> Result<Self, DecodeError>
-        // `decode_attribute set attribute`: `Ok` of the decoded value, or `Err` of the value's
-        // error. `buffered_attribute`: the type field and the value of `nla`. `model`: the result
-        // as a decoded value.
         ensures value { IfOk result (λ view.
             decode_attribute attribute_set (buffered_attribute nla.now) ≡ Ok (model view)) }
         ensures error { IfErr result (λ e.
@@ -34,9 +31,6 @@ pub trait FamilyView<'a>: Nla + PartialEq + Sized {
     /// Returns what the attribute decodes to by the family's set. The set must accept it:
     /// `read_view` does not fail.
     fn read_accepted(nla: &NlaBuffer<'a>) -> Self
-        // `decode_attribute set attribute`: `Ok` of the decoded value, or `Err` of the value's
-        // error. `buffered_attribute`: the type field and the value of `nla`. `model`: the result
-        // as a decoded value.
         requires { IsOk (decode_attribute attribute_set (buffered_attribute nla.now)) }
         ensures { decode_attribute attribute_set (buffered_attribute nla.now) ≡ Ok (model result) };
 
@@ -60,15 +54,9 @@ pub trait FamilyNla: Nla + PartialEq + MadeWith<Global> + Drop + Sized {
     /// Returns, owned, what the attribute decodes to by the family's set. The set must accept it.
     /// Fails only if an allocation fails, and never for a value that needs no memory.
     fn own_accepted(alloc: Global, nla: &NlaBuffer<'_>) -> Result<Self, AllocError>
-        // `decode_attribute set attribute`: `Ok` of the decoded value, or `Err` of the value's
-        // error. `buffered_attribute`: the type field and the value of `nla`. `model`: the result
-        // as a decoded value.
         requires { IsOk (decode_attribute attribute_set (buffered_attribute nla.now)) }
         ensures equal { IfOk result (λ own.
             decode_attribute attribute_set (buffered_attribute nla.now) ≡ Ok (model own)) }
-        // If the attribute decodes to a value that needs no memory, the call does not fail.
-        // `NeedsNoMemoryIn set value`: the value is of a type whose values are stored without an
-        // allocation. A raw attribute never is.
         ensures needs_no_memory { (value : AttributeValue attribute_set)
             → decode_attribute attribute_set (buffered_attribute nla.now) ≡ Ok value
             → NeedsNoMemoryIn attribute_set value → IsOk result };
@@ -77,15 +65,13 @@ pub trait FamilyNla: Nla + PartialEq + MadeWith<Global> + Drop + Sized {
     /// allocation fails, and never for a value that needs no memory.
     fn copy_nla(&self, alloc: Global) -> Result<Self, AllocError>
         ensures equal { IfOk result (λ copy. model copy ≡ model self.now) }
-        // `NeedsNoMemoryIn set value`: the value is stored without an allocation.
         ensures needs_no_memory { NeedsNoMemoryIn attribute_set (model self.now) → IsOk result };
 
     // An attribute serializes as what it decodes to.
     ghost attribute_by_model: { (nla : Self)
         → Self.Nla.attribute nla ≡ encode_attribute attribute_set (model nla) };
 
-    // An attribute that is in range decodes to a value that is in range: each of its numbers fits
-    // its field (`IsInRangeIn`).
+    // An attribute that is in range decodes to a value that is in range.
     ghost in_range_by_model: { (nla : Self) → Self.Nla.in_range nla
         → IsInRangeIn attribute_set (model nla) };
 

@@ -1,4 +1,7 @@
 //! Reads the fields of a record from its bytes, and writes them.
+//!
+//! Each clause `in_range` holds for all Rust values; `in_range` of [`Emitable`](crate::Emitable)
+//! says why it is stated.
 
 ghost use Rattle.std.specs.Prelude.{◌≡◌, ◌≤◌, ◌<◌, ◌+◌, ◌*◌, ◌^◌, ℕ, length, slice_index};
 ghost use Rattle.std.specs.List.{flat_map};
@@ -12,8 +15,6 @@ use byteorder::{BigEndian, ByteOrder, LittleEndian};
 /// Returns the `N` bytes at the offset. There must be at least `offset + N` bytes.
 pub fn array_at<const N: usize>(bytes: &[u8], offset: usize) -> [u8; N]
     requires { offset + N ≤ length bytes.now }
-    // `bytes_at offset count`: the fields of `count` consecutive bytes, the first at the offset.
-    // `values_of fields bytes`: the numbers in these fields.
     ensures { result ≡ values_of (bytes_at offset N) bytes.now }
 {
     let mut array = [0; N];
@@ -25,8 +26,6 @@ pub fn array_at<const N: usize>(bytes: &[u8], offset: usize) -> [u8; N]
 /// `offset + 4 * N` bytes.
 pub fn u32s_at<const N: usize>(bytes: &[u8], offset: usize) -> [u32; N]
     requires { offset + 4 * N ≤ length bytes.now }
-    // `u32_fields offset count`: `count` consecutive little-endian fields of 4 bytes, the first at
-    // the offset. `values_of fields bytes`: the numbers in these fields.
     ensures { result ≡ values_of (u32_fields offset N) bytes.now }
 {
     let mut numbers = [0; N];
@@ -38,8 +37,6 @@ pub fn u32s_at<const N: usize>(bytes: &[u8], offset: usize) -> [u32; N]
 /// `offset + 8 * N` bytes.
 pub fn u64s_at<const N: usize>(bytes: &[u8], offset: usize) -> [u64; N]
     requires { offset + 8 * N ≤ length bytes.now }
-    // `u64_fields offset count`: `count` consecutive little-endian fields of 8 bytes, the first at
-    // the offset. `values_of fields bytes`: the numbers in these fields.
     ensures { result ≡ values_of (u64_fields offset N) bytes.now }
 {
     let mut numbers = [0; N];
@@ -51,8 +48,6 @@ pub fn u64s_at<const N: usize>(bytes: &[u8], offset: usize) -> [u64; N]
 /// least `offset + 2 * N` bytes.
 pub fn u16s_be_at<const N: usize>(bytes: &[u8], offset: usize) -> [u16; N]
     requires { offset + 2 * N ≤ length bytes.now }
-    // `u16_be_fields offset count`: `count` consecutive fields of 2 bytes in network byte order,
-    // the first at the offset. `values_of fields bytes`: the numbers in these fields.
     ensures { result ≡ values_of (u16_be_fields offset N) bytes.now }
 {
     let mut numbers = [0; N];
@@ -66,9 +61,8 @@ pub fn u16s_be_at<const N: usize>(bytes: &[u8], offset: usize) -> [u16; N]
 pub fn write_bytes(bytes: &[u8], buffer: &mut [u8])
     requires { length buffer.old ≡ length bytes.now }
     ensures written { buffer.new ≡ bytes.now }
-    // Each byte is below 256. This is so for all Rust values; the codec laws require it. It is
-    // stated in two forms: of all elements of the list, and of each index.
     ensures in_range { AreAllBelow (2 ^ 8) bytes.now }
+    // The same by index.
     ensures by_index { IsBytes bytes.now }
 {
     buffer.copy_from_slice(bytes);
@@ -80,9 +74,7 @@ pub fn write_bytes(bytes: &[u8], buffer: &mut [u8])
 #[inline(always)]
 pub fn write_u16s(numbers: &[u16], buffer: &mut [u8])
     requires { length buffer.old ≡ 2 * length numbers.now }
-    // `flat_map (little_bytes 2) numbers`: each number in 2 bytes, little-endian, concatenated.
     ensures written { buffer.new ≡ flat_map (little_bytes 2) numbers.now }
-    // Each number fits 2 bytes. This is so for all Rust values; the codec laws require it.
     ensures in_range { AreAllBelow (2 ^ 16) numbers.now }
 {
     LittleEndian::write_u16_into(numbers, buffer);
@@ -94,9 +86,7 @@ pub fn write_u16s(numbers: &[u16], buffer: &mut [u8])
 #[inline(always)]
 pub fn write_u32s(numbers: &[u32], buffer: &mut [u8])
     requires { length buffer.old ≡ 4 * length numbers.now }
-    // `flat_map (little_bytes 4) numbers`: each number in 4 bytes, little-endian, concatenated.
     ensures written { buffer.new ≡ flat_map (little_bytes 4) numbers.now }
-    // Each number fits 4 bytes. This is so for all Rust values; the codec laws require it.
     ensures in_range { AreAllBelow (2 ^ 32) numbers.now }
 {
     LittleEndian::write_u32_into(numbers, buffer);
@@ -108,9 +98,7 @@ pub fn write_u32s(numbers: &[u32], buffer: &mut [u8])
 #[inline(always)]
 pub fn write_u64s(numbers: &[u64], buffer: &mut [u8])
     requires { length buffer.old ≡ 8 * length numbers.now }
-    // `flat_map (little_bytes 8) numbers`: each number in 8 bytes, little-endian, concatenated.
     ensures written { buffer.new ≡ flat_map (little_bytes 8) numbers.now }
-    // Each number fits 8 bytes. This is so for all Rust values; the codec laws require it.
     ensures in_range { AreAllBelow (2 ^ 64) numbers.now }
 {
     LittleEndian::write_u64_into(numbers, buffer);
@@ -122,12 +110,9 @@ pub fn write_u64s(numbers: &[u64], buffer: &mut [u8])
 #[inline(always)]
 pub fn write_u16s_be(numbers: &[u16], buffer: &mut [u8])
     requires { length buffer.old ≡ 2 * length numbers.now }
-    // `flat_map (big_bytes 2) numbers`: each number in 2 bytes, big-endian, concatenated.
     ensures written { buffer.new ≡ flat_map (big_bytes 2) numbers.now }
-    // Each number fits 2 bytes. This is so for all Rust values; the codec laws require it.
     ensures in_range { AreAllBelow (2 ^ 16) numbers.now }
-    // The same by index, for proofs about one port of a socket id; `slice_index` is 0 for an index
-    // past the end.
+    // The same by index, for proofs about one port of a socket id.
     ensures by_index { (index : ℕ) → slice_index numbers.now index < 2 ^ 16 }
 {
     BigEndian::write_u16_into(numbers, buffer);

@@ -41,8 +41,6 @@ impl NetlinkHeader {
     /// bytes.
     #[inline(always)]
     pub fn from_prefix(bytes: &[u8]) -> Result<Self, DecodeError>
-        // `HasHeader bytes header`: the bytes begin with the header of a complete message.
-        // `IsMessageError bytes error`: they do not, for this reason.
         ensures { MatchResult result (HasHeader bytes.now) (IsMessageError bytes.now) }
     {
         let got = bytes.len();
@@ -68,11 +66,7 @@ impl NetlinkHeader {
     // Replaces the content of the buffer by the five fields. The buffer must have exactly 16 bytes.
     pub(crate) fn write_fields(&self, buffer: &mut [u8])
         requires { length buffer.old ≡ NETLINK_HEADER_LEN }
-        // `header_bytes header`: the 16 bytes of the five fields.
         ensures written { buffer.new ≡ header_bytes self.now }
-        // `FitFields fields numbers`: each number fits the width of its field. Here they are the
-        // five of the header (`header_fields`, `header_values`). This is so for all Rust values;
-        // the codec laws require it.
         ensures in_range { FitFields header_fields (header_values self.now) }
     {
         let (length, after_length) = buffer.split_at_mut(4);

@@ -1,4 +1,12 @@
 //! Properties of attributes, records and messages. Proof only: the contracts state the properties.
+//!
+//! In the contracts `SplitsIntoAttributes bytes attributes rest` states that the bytes are these
+//! attributes, each with its padding, and then `rest`. `SplitsIntoMessages bytes messages end`
+//! states that the bytes are these messages, each with its padding; `end` is `None` if no bytes
+//! follow, else the error of the bytes that follow. `AreItemsOf (IsItemOf I.codec) bytes items`
+//! states that the items of the datagram are the payload or the error of each of its messages, and
+//! then the error of the bytes that follow, if any. `netlink_codec I.codec` is the codec of netlink
+//! messages with inner messages of the type `I`. It has no parameter (`tt`).
 
 ghost use Rattle.std.specs.Prelude.{◌≡◌, ◌≢◌, ◌↔◌, ◌⊎◌, ◌%◌, ◌<◌, ◌++◌, Contains, ℕ, List, []};
 ghost use Rattle.std.specs.Prelude.{◌∷◌, length, map, Option, Some, None, Result, Ok, Err, IsTrue};
@@ -101,13 +109,8 @@ pub fn equivalence_is_an_equivalence_relation<T: HasCodec>()
 /// value fits its length field. Either its padding is complete, and the remaining bytes are split
 /// into the later attributes; or its padding is short, nothing follows, and it is the last one.
 pub fn split_is_as_stated()
-    // `SplitsIntoAttributes bytes attributes rest`: the bytes are these attributes, each with its
-    // padding, and then `rest`; here `rest` is empty.
     ensures none { (bytes : List ℕ) → SplitsIntoAttributes bytes [] [] ↔ (bytes ≡ []) }
-    // The first attribute is `a`; `padding` and `rest` follow it. `header_and_value a`: the bytes
-    // of `a` without its padding. `FitsHeaderFields a`: its type field has 16 bits, and its value
-    // at most 65,531 bytes. `padding_length n`: the number of bytes, 0 to 3, from `n` to the next
-    // multiple of 4.
+    // The first attribute is `a`; `padding` and `rest` follow it.
     ensures some { (bytes : List ℕ) (a : Attribute) (later : List Attribute)
         → SplitsIntoAttributes bytes (a ∷ later) [] ↔ ((padding rest : List ℕ)
         × (bytes ≡ header_and_value a ++ (padding ++ rest))
@@ -118,8 +121,6 @@ pub fn split_is_as_stated()
 
 /// Bytes are split into at most one list of attributes.
 pub fn one_list_of_attributes()
-    // `SplitsIntoAttributes bytes attributes rest`: the bytes are these attributes, each with its
-    // padding, and then `rest`; here `rest` is empty.
     ensures { (bytes : List ℕ) (attributes others : List Attribute)
         → SplitsIntoAttributes bytes attributes [] → SplitsIntoAttributes bytes others []
         → attributes ≡ others }
@@ -129,9 +130,6 @@ pub fn one_list_of_attributes()
 /// This requires that each type field has 16 bits, and that each value fits its length field
 /// (`FitsHeaderFields`).
 pub fn serialized_attributes_are_split()
-    // `SplitsIntoAttributes bytes attributes rest`: the bytes are these attributes, each with its
-    // padding, and then `rest`. `flat_map attribute_bytes attributes`: the bytes of all attributes,
-    // each with zeros as its padding.
     ensures { (attributes : List Attribute) → AllByRecursion FitsHeaderFields attributes
         → (rest : List ℕ)
         → SplitsIntoAttributes (flat_map attribute_bytes attributes ++ rest) attributes rest }
@@ -141,8 +139,6 @@ pub fn serialized_attributes_are_split()
 /// are long enough, they have the tag and the numbers of the value, and the value is in range and
 /// in normal form.
 pub fn parsed_iff_contained<T: Record>()
-    // `parse_record layout param bytes`: `Ok` of the value, or `Err` of the error. `IsBytes`: each
-    // number of the list is below 256.
     ensures { (bytes : List ℕ) (param : T.Param) (value : T) → IsBytes bytes
         → (parse_record T.layout param bytes ≡ Ok value)
         ↔ IsContainedIn T.layout bytes param value }
@@ -168,10 +164,6 @@ pub fn attributes_take_memory() -> bool
 /// kind (`other`). Under a kind that is not in the set it finds nothing (`none`). So it finds a raw
 /// attribute under no kind.
 pub fn value_is_found_under_its_kind<T: FamilyNla>()
-    // `ValueOfKind set k`: the type of the values of the kind `k`; raw attributes if `k` is not in
-    // the set. `kind_numbers set`: the kinds in the set. `value_of_kind set k v`: `Some` of the
-    // value if the decoded value `v` is of the kind `k`, else `None`. `value_as_decoded set k x`:
-    // `x`, a value of the kind `k`, as a decoded value, which is a value of any kind.
     ensures own { (k : ℕ) (x : ValueOfKind T.attribute_set k)
         → Contains (kind_numbers T.attribute_set) k
         → value_of_kind T.attribute_set k (value_as_decoded T.attribute_set k x) ≡ Some x }
@@ -185,18 +177,9 @@ pub fn value_is_found_under_its_kind<T: FamilyNla>()
 /// that its bytes are split into. If it yields an error, it has yielded the attributes before this
 /// error, and no bytes are left.
 pub fn complete_iteration_is_the_split()
-    // `Drains step walk items`: calling `next` on `walk` until it returns `None` yields `items`,
-    // each an `Ok` (`items_without_errors`). `YieldsAttribute`: what one call of `next` does.
-    // `SplitsIntoAttributes bytes attributes rest`: the bytes are these attributes, each with its
-    // padding, and then `rest`, here nothing. `unread_bytes walk`: the bytes that `walk` has not
-    // read yet. `buffered_attribute`: the type field and the value of an attribute that it yields.
     ensures ended { (walk : NlasIterator) (yielded : List NlaBuffer)
         → Drains YieldsAttribute walk (items_without_errors yielded)
         → SplitsIntoAttributes (unread_bytes walk) (map buffered_attribute yielded) [] }
-    // `YieldsThen step walk items item last`: `next` yields `items` and then `item`, here the error
-    // `e`, after which the iterator is `last`. `SplitsUntilError has_error bytes attributes e`: the
-    // bytes are these attributes, and then others, at least one, whose error is `e`. Here it is an
-    // error of the framing (`IsFramingError`): values are not checked.
     ensures error { (walk last : NlasIterator) (yielded : List NlaBuffer) (e : DecodeError)
         → YieldsThen YieldsAttribute walk (items_without_errors yielded) (Some (Err e)) last
         → SplitsUntilError IsFramingError (unread_bytes walk) (map buffered_attribute yielded) e
@@ -223,8 +206,6 @@ pub fn copies_are_the_same<T: Exact>(v: &T) -> Result<T, AllocError>
 /// Returns `v == w`, which is true if and only if the headers and the models of the payloads are
 /// equal.
 pub fn equal_messages<I: HasCodec>(v: &NetlinkMessage<I>, w: &NetlinkMessage<I>) -> bool
-    // `netlink_message_model model message`: the header, and the payload with its bytes as a list,
-    // or with the model of its inner message, which `model` returns.
     ensures { IsTrue result ↔ (netlink_message_model I.model v.now
         ≡ netlink_message_model I.model w.now) }
 {
@@ -233,8 +214,6 @@ pub fn equal_messages<I: HasCodec>(v: &NetlinkMessage<I>, w: &NetlinkMessage<I>)
 
 /// Returns `v == w`, which is true if and only if the models of the payloads are equal.
 pub fn equal_payloads<I: HasCodec>(v: &NetlinkPayload<I>, w: &NetlinkPayload<I>) -> bool
-    // `owned_payload_model model payload`: the payload with its raw bytes as a list, or with the
-    // model of its inner message, which `model` returns.
     ensures { IsTrue result
         ↔ (owned_payload_model I.model v.now ≡ owned_payload_model I.model w.now) }
 {
@@ -244,7 +223,6 @@ pub fn equal_payloads<I: HasCodec>(v: &NetlinkPayload<I>, w: &NetlinkPayload<I>)
 /// Returns `v == w`, which is true if and only if the type fields and the values are equal.
 #[tactic(auto, using(crate::proofs::ValueTests::attribute_test_decides))]
 pub fn equal_buffers(v: &NlaBuffer<'_>, w: &NlaBuffer<'_>) -> bool
-    // `buffered_attribute`: the type field, with its two flag bits, and the bytes of the value.
     ensures { IsTrue result ↔ (buffered_attribute v.now ≡ buffered_attribute w.now) }
 {
     v == w
@@ -303,8 +281,6 @@ pub fn default_header() -> NetlinkHeader
 
 /// Bytes start with exactly one message, or are rejected with exactly one error.
 pub fn one_message_or_error<I: HasCodec<Param = u16>>()
-    // `netlink_codec I.codec`: the codec of netlink messages with inner messages of the type `I`.
-    // It has no parameter, so that its parser's parameter is `tt`.
     ensures { (b : List ℕ) → IsBytes b → HasOneResult (netlink_codec I.codec) b tt }
 {}
 
@@ -312,8 +288,6 @@ pub fn one_message_or_error<I: HasCodec<Param = u16>>()
 /// equivalent if their netlink headers are equal, and their payloads are equivalent under the
 /// message type. A payload ends at the length in the header; what follows is ignored.
 pub fn equal_messages_iff_equivalent<I: HasCodec<Param = u16>>()
-    // `netlink_codec I.codec`: the codec of netlink messages with inner messages of the type `I`.
-    // `v` is the message in `b`, and `w` is the one in `c`.
     ensures { (b c : List ℕ) (v w : NetlinkMessageModel I.codec.Value) → IsBytes b → IsBytes c
         → (netlink_codec I.codec).parses b tt v → (netlink_codec I.codec).parses c tt w
         → ((v ≡ w) ↔ (netlink_codec I.codec).equivalent tt b c) }
@@ -322,8 +296,6 @@ pub fn equal_messages_iff_equivalent<I: HasCodec<Param = u16>>()
 /// Two byte strings that have canonical forms have the same one if and only if they are equivalent
 /// (member `equivalent` of `netlink_codec`, the codec of netlink messages).
 pub fn same_message_bytes_iff_equivalent<I: HasCodec<Param = u16>>()
-    // `HasCanonicalForm codec param bytes form`: the bytes parse as a writable value, which
-    // serializes to `form`.
     ensures { (b c form other_form : List ℕ) → IsBytes b → IsBytes c
         → HasCanonicalForm (netlink_codec I.codec) tt b form
         → HasCanonicalForm (netlink_codec I.codec) tt c other_form
@@ -334,10 +306,6 @@ pub fn same_message_bytes_iff_equivalent<I: HasCodec<Param = u16>>()
 /// if it is in normal form. This requires that the message is writable and in range. It holds for
 /// any function `type_of` that maps inner messages to types.
 pub fn finalized_message_round_trips<I: HasCodec<Param = u16>>()
-    // `netlink_codec I.codec`: the codec of netlink messages with inner messages of the type `I`.
-    // `finalized_header bytes type_of m`: the header of the message `m`, with the length and the
-    // type that the message has. `bytes` and `type_of` return the bytes and the message type of an
-    // inner message.
     ensures { (type_of : I.codec.Value → ℕ) (m : NetlinkMessageModel I.codec.Value)
         → (netlink_codec I.codec).is_in_range m → (netlink_codec I.codec).is_writable m
         → (m.header ≡ finalized_header I.codec.serialized type_of m)
@@ -349,17 +317,9 @@ pub fn finalized_message_round_trips<I: HasCodec<Param = u16>>()
 /// messages that its bytes are split into. If it yields an error, it has yielded the messages
 /// before this error, and no bytes are left.
 pub fn complete_iteration_is_the_datagram()
-    // `Drains step walk items`: calling `next` on `walk` until it returns `None` yields `items`,
-    // each an `Ok` (`items_without_errors`). `YieldsMessage`: what one call of `next` does.
-    // `SplitsIntoMessages bytes messages end`: the bytes are these messages, each with its padding.
-    // `end` is `None` if no bytes are left then, else the error of the bytes that are left.
-    // `unread_datagram walk`: the bytes that `walk` has not read yet. `borrowed_messages`: the
-    // bytes of each message that it yields.
     ensures ended { (walk : MessageStrings) (yielded : List (Bor (List ℕ)))
         → Drains YieldsMessage walk (items_without_errors yielded)
         → SplitsIntoMessages (unread_datagram walk) (borrowed_messages yielded) None }
-    // `YieldsThen step walk items item last`: `next` yields `items` and then `item`, here the error
-    // `e`, after which the iterator is `last`.
     ensures error { (walk last : MessageStrings) (yielded : List (Bor (List ℕ))) (e : DecodeError)
         → YieldsThen YieldsMessage walk (items_without_errors yielded) (Some (Err e)) last
         → SplitsIntoMessages (unread_datagram walk) (borrowed_messages yielded) (Some e)
@@ -369,8 +329,6 @@ pub fn complete_iteration_is_the_datagram()
 /// A datagram is split into at most one list of messages. The error at its end, or that there is
 /// none, is unique too.
 pub fn one_list_of_messages()
-    // `SplitsIntoMessages bytes messages end`: `end` is `None` if no bytes are left after the
-    // messages, else the error of the bytes that are left.
     ensures { (bytes : List ℕ) (messages others : List (List ℕ))
         (end other_end : Option DecodeError)
         → SplitsIntoMessages bytes messages end → SplitsIntoMessages bytes others other_end
@@ -379,17 +337,12 @@ pub fn one_list_of_messages()
 
 /// Each datagram has a list of items: the payload or the error of each of its messages.
 pub fn datagram_has_items<I: HasCodec<Param = u16>>()
-    // `AreItemsOf is_item bytes items`: the items of the datagram. `is_item` relates a message to
-    // its item. `IsItemOf codec message item`: the bytes of the message parse as this payload, or
-    // are rejected with this error; `codec` is the codec of inner messages.
     ensures { (bytes : List ℕ) → IsBytes bytes → (items : List (Item I.codec.Value))
         × AreItemsOf (IsItemOf I.codec) bytes items }
 {}
 
 /// Each datagram has at most one list of items.
 pub fn one_list_of_items<I: HasCodec<Param = u16>>()
-    // `AreItemsOf (IsItemOf I.codec) bytes items`: the items of the datagram are the payload or the
-    // error of each of its messages, and the error of the bytes that are left then, if any.
     ensures { (bytes : List ℕ) → IsBytes bytes
         → (items others : List (Item I.codec.Value))
         → AreItemsOf (IsItemOf I.codec) bytes items → AreItemsOf (IsItemOf I.codec) bytes others
@@ -402,10 +355,7 @@ pub fn one_list_of_items<I: HasCodec<Param = u16>>()
 /// If a datagram consists of complete messages with all their padding (`front`) and of other bytes
 /// (`back`), its items are those of these messages and then those of the other bytes.
 pub fn items_of_concatenation<I: HasCodec<Param = u16>>()
-    // `SplitsIntoMessages front messages None`: `front` is these messages, and no bytes are left
-    // (`None`). Its length is a multiple of 4, so that the last message has all its padding too.
-    // `AreItemsOf (IsItemOf I.codec) bytes items`: the items of the datagram are the payload or the
-    // error of each of its messages, and the error of the bytes that are left then, if any.
+    // The length of `front` is a multiple of 4, so that its last message has all its padding too.
     ensures { (front back : List ℕ) (messages : List (List ℕ))
         (front_items back_items : List (Item I.codec.Value))
         → SplitsIntoMessages front messages None × (length front % 4 ≡ 0)

@@ -1,5 +1,11 @@
 //! Netlink messages: a header and a payload. `I` is the type of the inner messages, those of a
 //! protocol. `I.codec` is their codec, and `I.model` returns the model of one.
+//!
+//! In the contracts `netlink_codec I.codec` is the codec of netlink messages, which has no
+//! parameter (`tt`). `netlink_message_model I.model` and `owned_payload_model I.model` return the
+//! models of a message and of a payload, with raw bytes as a list and an inner message as its
+//! model. `HoldsOfInnerMessage predicate payload` states that the predicate holds of the inner
+//! message, if there is one.
 
 ghost use Rattle.std.specs.Prelude.{◌≡◌, ◌≢◌, ◌≤◌, ◌<◌, ◌↔◌, length, IfOk, IfErr, IsTrue, ⊤};
 ghost use Rattle.netlink_core.specs.Bytes.{HoldsAtStart};
@@ -82,7 +88,6 @@ pub trait NetlinkSerializable: HasCodec<Param = u16> {
 
     /// Returns the type of the message, for the type field of the header (`nlmsg_type`).
     fn message_type(&self) -> u16
-        // `serialized_type`: the type field for each message, a member of `HasCodec`.
         ensures { result ≡ Self.serialized_type (Self.model self.now) };
 
     /// Returns the number of bytes that `serialize` writes. The message must be writable.
@@ -95,12 +100,8 @@ pub trait NetlinkSerializable: HasCodec<Param = u16> {
     fn serialize(&self, buffer: &mut [u8])
         requires writable { Self.codec.is_writable (Self.model self.now) }
         requires room { length (Self.codec.serialized (Self.model self.now)) ≤ length buffer.old }
-        // `HoldsAtStart bytes old new`: `new` is `bytes`, and then what `old` has after as many
-        // bytes.
         ensures written { HoldsAtStart
             (Self.codec.serialized (Self.model self.now)) buffer.old buffer.new }
-        // Each number of the message fits its field. This is so for all Rust values; the codec laws
-        // require it.
         ensures in_range { Self.codec.is_in_range (Self.model self.now) };
 }
 
@@ -115,14 +116,10 @@ pub trait NetlinkDeserializable: HasCodec<Param = u16> {
         header: &NetlinkHeader,
         payload: &[u8],
     ) -> Result<Self, DecodeError>
-        // The parameter of the codec is the header's type.
         ensures value { IfOk result
             (λ m. Self.codec.parses payload.now header.now.message_type (Self.model m)) }
-        // An error is the first error of the payload, unless it is `Memory`.
         ensures error { IfErr result (λ e. e ≢ Memory
             → Self.codec.rejects payload.now header.now.message_type e) }
-        // `Memory` only if the payload has a message, and this message needs to allocate
-        // (`needs_no_memory` does not hold of it).
         ensures memory_needed { IfErr result (λ e. e ≡ Memory → (m : Self.codec.Value)
             × Self.codec.parses payload.now header.now.message_type m
             × ¬ Self.codec.needs_no_memory m) };
@@ -147,10 +144,8 @@ pub enum NetlinkPayload<I, B = Vec<u8>> {
 
 // By hand: a derived impl would give an owned payload a `clone` without an allocator.
 impl<I: Copy, B: Copy> Clone for NetlinkPayload<I, B> {
-    // A clone is equal to the payload.
     ghost is_clone = { λ payload copy. copy ≡ payload };
 
-    // Cloning never fails.
     ghost is_infallible = { λ _. ⊤ };
 
     fn clone(&self) -> Result<Self, AllocError> {
@@ -163,7 +158,6 @@ impl<I: Copy, B: Copy> Clone for NetlinkPayload<I, B> {
 /// (errno(3)). Returns `None` if the payload has fewer than 4 bytes. The bytes after these are
 /// ignored.
 pub fn error_number(payload: &[u8]) -> Option<i32>
-    // `leading_error_number bytes`: the signed number in the first 4 bytes, or `None`.
     ensures { result ≡ leading_error_number payload.now }
 {
     if payload.len() < 4 {
@@ -177,9 +171,6 @@ impl<I: HasCodec> NetlinkPayload<I> {
     /// little-endian, 0 or `-errno` (errno(3)). Returns `None` if this payload has fewer than 4
     /// bytes, and for any other payload.
     pub fn error_number(&self) -> Option<i32>
-        // `error_number_of payload`: the number of an error or an end, and `None` for any other
-        // payload. `owned_payload_model model payload`: the payload with raw bytes as a list, and
-        // an inner message as its model.
         ensures { result ≡ error_number_of (owned_payload_model I.model self.now) }
     {
         match self {
@@ -194,9 +185,6 @@ impl<I> NetlinkPayload<I, &[u8]> {
     /// little-endian, 0 or `-errno` (errno(3)). Returns `None` if this payload has fewer than 4
     /// bytes, and for any other payload.
     pub fn error_number(&self) -> Option<i32>
-        // `error_number_of payload`: the number of an error or an end, and `None` for any other
-        // payload. `borrowed_payload_model payload`: the payload with raw bytes as a list, and an
-        // inner message unchanged.
         ensures { result ≡ error_number_of (borrowed_payload_model self.now) }
     {
         match self {
@@ -210,10 +198,6 @@ impl<I: NetlinkSerializable> NetlinkPayload<I> {
     /// Returns the message type for the header: `NLMSG_DONE`, `NLMSG_ERROR`, `NLMSG_NOOP`,
     /// `NLMSG_OVERRUN`, or the type of the inner message.
     pub fn message_type(&self) -> u16
-        // `payload_type type_of payload`: the constant NLMSG_.. of a control message, or `type_of`
-        // of the inner message. Here this is `serialized_type`, which `message_type` of the inner
-        // message returns. `owned_payload_model model payload`: the payload with raw bytes as a
-        // list, and an inner message as its model.
         ensures { result ≡ payload_type I.serialized_type
             (owned_payload_model I.model self.now) }
     {
@@ -228,9 +212,6 @@ impl<I: NetlinkSerializable> NetlinkPayload<I> {
 
     // Returns whether the inner message is writable, or `true` if there is none.
     fn is_writable(&self) -> bool
-        // `HoldsOfInnerMessage predicate payload`: the predicate holds of the inner message, if
-        // there is one. `owned_payload_model model payload`: the payload with raw bytes as a list,
-        // and an inner message as its model.
         ensures { IsTrue result ↔ HoldsOfInnerMessage I.codec.is_writable
             (owned_payload_model I.model self.now) }
     {
@@ -243,12 +224,8 @@ impl<I: NetlinkSerializable> NetlinkPayload<I> {
     // Returns the number of bytes that `serialize` writes. The inner message, if there is one, must
     // be writable.
     fn buffer_len(&self) -> usize
-        // `HoldsOfInnerMessage predicate payload`: the predicate holds of the inner message, if
-        // there is one. `owned_payload_model model payload`: the payload with raw bytes as a list,
-        // and an inner message as its model.
         requires { HoldsOfInnerMessage I.codec.is_writable
             (owned_payload_model I.model self.now) }
-        // `payload_bytes serialized payload`: the raw bytes, or `serialized` of the inner message.
         ensures { result
             ≡ length (payload_bytes I.codec.serialized (owned_payload_model I.model self.now)) }
     {
@@ -265,21 +242,13 @@ impl<I: NetlinkSerializable> NetlinkPayload<I> {
     // inner message, if there is one, must be writable, and the buffer at least as long as the
     // payload's bytes.
     fn serialize(&self, buffer: &mut [u8])
-        // `HoldsOfInnerMessage predicate payload`: the predicate holds of the inner message, if
-        // there is one. `owned_payload_model model payload`: the payload with raw bytes as a list,
-        // and an inner message as its model.
         requires writable { HoldsOfInnerMessage I.codec.is_writable
             (owned_payload_model I.model self.now) }
-        // `payload_bytes serialized payload`: the raw bytes, or `serialized` of the inner message.
         requires room { length
             (payload_bytes I.codec.serialized (owned_payload_model I.model self.now))
             ≤ length buffer.old }
-        // `HoldsAtStart bytes old new`: `new` is `bytes`, and then what `old` has after as many
-        // bytes.
         ensures written { HoldsAtStart (payload_bytes I.codec.serialized
             (owned_payload_model I.model self.now)) buffer.old buffer.new }
-        // Each number of the inner message fits its field. This is so for all Rust values; the
-        // codec laws require it.
         ensures in_range { HoldsOfInnerMessage I.codec.is_in_range
             (owned_payload_model I.model self.now) }
     {
@@ -297,13 +266,9 @@ impl<I: NetlinkDeserializable> NetlinkPayload<I> {
     // Parses the payload, which has these bytes, under the header's type. Fails with the error of
     // the inner message, or with `Memory` if an allocation fails. An `NLMSG_NOOP` never fails.
     fn read(alloc: Global, header: &NetlinkHeader, bytes: &[u8]) -> Result<Self, DecodeError>
-        // `ParsesAsPayload parses bytes type payload`: the bytes parse as the payload under this
-        // message type; `parses` says how an inner message parses. `owned_payload_model model
-        // payload`: the payload with raw bytes as a list, and an inner message as its model.
         ensures value { IfOk result (λ payload. ParsesAsPayload I.codec.parses bytes.now
             header.now.message_type (owned_payload_model I.model payload)) }
-        // Only an inner message is rejected. `IsInnerMessageType type`: a message of this type has
-        // an inner message.
+        // Only an inner message is rejected.
         ensures error { IfErr result (λ e. e ≢ Memory
             → IsInnerMessageType header.now.message_type
             × I.codec.rejects bytes.now header.now.message_type e) }
@@ -360,18 +325,10 @@ impl<I: NetlinkDeserializable> NetlinkMessage<I> {
     /// `NLMSG_OVERRUN`) have no inner message. Fails with `Memory` only if the bytes have a
     /// message, and its type is not `NLMSG_NOOP`, whose payload is dropped.
     pub fn deserialize(alloc: Global, bytes: &[u8]) -> Result<Self, DecodeError>
-        // The bytes start with this header, and the payload up to the header's length parses by the
-        // header's type. `netlink_codec codec`: the codec of netlink messages, given that of their
-        // inner messages; it has no parameter (`tt`). `netlink_message_model model message`: the
-        // header and the payload, with the raw bytes as a list, or with the model of the inner
-        // message.
         ensures value { IfOk result
             (λ m. (netlink_codec I.codec).parses bytes.now tt (netlink_message_model I.model m)) }
-        // An error is the first error of the bytes, unless it is `Memory`.
         ensures error { IfErr result (λ e. e ≢ Memory
             → (netlink_codec I.codec).rejects bytes.now tt e) }
-        // `Memory` only if the bytes have a message, and this message needs to allocate: it is not
-        // an `NLMSG_NOOP`.
         ensures memory_needed { IfErr result (λ e. e ≡ Memory
             → (m : NetlinkMessageModel I.codec.Value)
             × (netlink_codec I.codec).parses bytes.now tt m
@@ -387,9 +344,7 @@ impl<I: NetlinkDeserializable> NetlinkMessage<I> {
 // after the header, up to the header's length.
 #[inline(always)]
 fn payload_of<'a>(header: &NetlinkHeader, bytes: &'a [u8]) -> &'a [u8]
-    // `HasHeader bytes header`: the bytes begin with the header of a complete message.
     requires { HasHeader bytes.now header.now }
-    // `message_payload bytes header`: the bytes from offset 16 to the header's length.
     ensures { result.now ≡ message_payload bytes.entry.now header.now }
 {
     &bytes[NETLINK_HEADER_LEN..header.length as usize]
@@ -400,13 +355,7 @@ impl<I: NetlinkSerializable> NetlinkMessage<I> {
     /// header, and its type to the payload's type. The other fields of the header and the payload
     /// are unchanged. The message must be writable.
     pub fn finalize(&mut self)
-        // `netlink_codec codec`: the codec of netlink messages, given that of their inner messages.
-        // `netlink_message_model model message`: the header and the payload, with raw bytes as a
-        // list, or with the model of the inner message.
         requires { (netlink_codec I.codec).is_writable (netlink_message_model I.model self.old) }
-        // `finalized_header bytes type_of m`: the header of the message `m`, with the length and
-        // the type that the message has. `bytes` and `type_of` return the bytes and the message
-        // type of an inner message.
         ensures header { self.new.header ≡ finalized_header I.codec.serialized I.serialized_type
             (netlink_message_model I.model self.old) }
         ensures payload { self.new.payload ≡ self.old.payload }
@@ -419,9 +368,6 @@ impl<I: NetlinkSerializable> NetlinkMessage<I> {
     /// Returns whether the message is writable: its inner message is, and the whole has at most
     /// 4,294,967,295 bytes, including the 16 bytes of the header.
     pub fn is_writable(&self) -> bool
-        // `netlink_codec codec`: the codec of netlink messages, given that of their inner messages.
-        // `netlink_message_model model message`: the header and the payload, with raw bytes as a
-        // list, or with the model of the inner message.
         ensures { IsTrue result ↔ (netlink_codec I.codec).is_writable
             (netlink_message_model I.model self.now) }
     {
@@ -432,9 +378,6 @@ impl<I: NetlinkSerializable> NetlinkMessage<I> {
     /// Returns the number of bytes that `serialize` writes, including the 16 of the header. The
     /// message must be writable.
     pub fn buffer_len(&self) -> usize
-        // `netlink_codec codec`: the codec of netlink messages, given that of their inner messages.
-        // `netlink_message_model model message`: the header and the payload, with raw bytes as a
-        // list, or with the model of the inner message.
         requires { (netlink_codec I.codec).is_writable (netlink_message_model I.model self.now) }
         ensures { result ≡ length ((netlink_codec I.codec).serialized
             (netlink_message_model I.model self.now)) }
@@ -446,20 +389,13 @@ impl<I: NetlinkSerializable> NetlinkMessage<I> {
     /// after them are unchanged. The message must be writable, and the buffer at least as long as
     /// its bytes.
     pub fn serialize(&self, buffer: &mut [u8])
-        // `netlink_codec codec`: the codec of netlink messages, given that of their inner messages.
-        // `netlink_message_model model message`: the header and the payload, with raw bytes as a
-        // list, or with the model of the inner message.
         requires writable { (netlink_codec I.codec).is_writable
             (netlink_message_model I.model self.now) }
         requires room { length ((netlink_codec I.codec).serialized
             (netlink_message_model I.model self.now))
             ≤ length buffer.old }
-        // `HoldsAtStart bytes old new`: `new` is `bytes`, and then what `old` has after as many
-        // bytes.
         ensures written { HoldsAtStart ((netlink_codec I.codec).serialized
             (netlink_message_model I.model self.now)) buffer.old buffer.new }
-        // Each number of the message fits its field. This is so for all Rust values; the codec laws
-        // require it.
         ensures in_range { (netlink_codec I.codec).is_in_range
             (netlink_message_model I.model self.now) }
     {

@@ -1,5 +1,10 @@
 //! Serializing attributes, and the attribute of any kind. `T.attribute` is the attribute that a
 //! value of the type `T` serializes as.
+//!
+//! In the contracts `attribute_bytes` are the bytes of an attribute, with its header and its
+//! padding, and `flat_map attribute_bytes` those of a list of attributes. `FitsLengthField` states
+//! that a value has at most 65,531 bytes. `AreWritable` states this of each attribute of a list,
+//! and that all attributes have at most 4,294,967,295 bytes.
 
 ghost use Rattle.std.specs.Prelude.{◌≡◌, ◌≤◌, ◌<◌, ◌↔◌, replicate, length, [], map, true, refl};
 ghost use Rattle.std.specs.Prelude.{IsTrue, IsOk, IfOk, SomeIff, ⊤, ◌^◌};
@@ -27,8 +32,8 @@ pub trait Nla {
     // The attribute that the value serializes as.
     ghost attribute: { Self → Attribute };
 
-    // Each number of the value fits its field. A type with a codec defines this member, for the
-    // codec's laws (`in_range_by_codec` of `Wire`). By default it holds of every value.
+    // Each number of the value fits its field, like `in_range` of `Emitable`. By default it holds
+    // of every value.
     ghost in_range: { Self → Type 0 } = { λ _. ⊤ };
 
     /// Returns the number of the value's bytes, without header and padding.
@@ -44,14 +49,9 @@ pub trait Nla {
     /// after it are unchanged. The value must have at most 65,531 bytes, and the buffer at least as
     /// many as the value.
     fn emit_value(&self, buffer: &mut [u8])
-        // `FitsLengthField`: the value has at most 65,531 bytes.
         requires fits { FitsLengthField (attribute self.now) }
         requires room { length (attribute self.now).value ≤ length buffer.old }
-        // `HoldsAtStart bytes old new`: `new` is `bytes`, and then what `old` has after as many
-        // bytes.
         ensures written { HoldsAtStart (attribute self.now).value buffer.old buffer.new }
-        // Each number of the value fits its field. This is so for all Rust values; the codec laws
-        // require it.
         ensures in_range { in_range self.now };
 
     /// Returns whether the value has at most 65,531 bytes, so that its length fits the length
@@ -69,7 +69,6 @@ pub trait WireNla: Nla + Wire {
     // The value serializes to its attribute: header, value and padding of zeros.
     ghost bytes_by_attribute: { (v : Self) → Self.bytes v ≡ attribute_bytes (Self.attribute v) };
 
-    // It is writable if and only if its value has at most 65,531 bytes (`FitsLengthField`).
     ghost writable_by_attribute: { (v : Self) → (Self.writable v
         ↔ FitsLengthField (Self.attribute v)) };
 }
@@ -77,9 +76,7 @@ pub trait WireNla: Nla + Wire {
 /// Returns the number of the attribute's bytes, with header and padding. Its value must fit its
 /// length field: it has at most 65,531 bytes.
 pub fn nla_len<T: Nla>(nla: &T) -> usize
-    // `FitsLengthField`: the value has at most 65,531 bytes.
     requires { FitsLengthField (T.attribute nla.now) }
-    // `attribute_bytes`: the header, the value and the padding of the attribute.
     ensures { result ≡ length (attribute_bytes (T.attribute nla.now)) }
 {
     padded(NLA_HEADER_SIZE + nla.value_len())
@@ -89,14 +86,9 @@ pub fn nla_len<T: Nla>(nla: &T) -> usize
 /// it are unchanged. Its value must have at most 65,531 bytes, and the buffer at least as many as
 /// the attribute with its padding.
 pub fn emit_nla<T: Nla>(nla: &T, buffer: &mut [u8])
-    // `FitsLengthField`: the value has at most 65,531 bytes.
     requires fits { FitsLengthField (T.attribute nla.now) }
-    // `attribute_bytes`: the header, the value and the padding of the attribute.
     requires room { length (attribute_bytes (T.attribute nla.now)) ≤ length buffer.old }
-    // `HoldsAtStart bytes old new`: `new` is `bytes`, and then what `old` has after as many bytes.
     ensures written { HoldsAtStart (attribute_bytes (T.attribute nla.now)) buffer.old buffer.new }
-    // The type field has 16 bits, and each number of the value fits its field. This is so for all
-    // Rust values; the codec laws require it.
     ensures kind { (T.attribute nla.now).type_word < 2 ^ 16 }
     ensures in_range { T.in_range nla.now }
 {
@@ -135,10 +127,6 @@ fn zero_padding(padding: &mut [u8])
 /// Returns the number of the attributes' bytes, with headers and paddings, or `None` if a value
 /// does not fit its length field or the attributes have more than `limit` bytes.
 pub fn nlas_len_within<T: Nla>(nlas: &[T], limit: usize) -> Option<usize>
-    // `SomeIff option condition value`: `option` is `Some value` if the condition holds, else
-    // `None`. `AreWritableWithin attributes limit`: each value has at most 65,531 bytes, and all
-    // attributes with headers and paddings have at most `limit` bytes. `flat_map attribute_bytes`:
-    // the bytes of all attributes, concatenated.
     ensures { SomeIff result (AreWritableWithin (map T.attribute nlas.now) limit)
         (length (flat_map attribute_bytes (map T.attribute nlas.now))) }
 {
@@ -160,7 +148,6 @@ pub fn nlas_len_within<T: Nla>(nlas: &[T], limit: usize) -> Option<usize>
 /// Returns whether each value fits its length field (at most 65,531 bytes), and all attributes,
 /// with headers and paddings, have at most 4,294,967,295 bytes.
 pub fn nlas_writable<T: Nla>(nlas: &[T]) -> bool
-    // `AreWritable`: each value has at most 65,531 bytes, and all attributes have at most 2^32 - 1.
     ensures { IsTrue result ↔ AreWritable (map T.attribute nlas.now) }
 {
     nlas_len_within(nlas, u32::MAX as usize).is_some()
@@ -169,9 +156,7 @@ pub fn nlas_writable<T: Nla>(nlas: &[T]) -> bool
 /// Returns the number of the attributes' bytes, with headers and paddings. The attributes must be
 /// writable: [`nlas_writable`] returns `true`.
 pub fn nlas_len<T: Nla>(nlas: &[T]) -> usize
-    // `AreWritable`: each value has at most 65,531 bytes, and all attributes have at most 2^32 - 1.
     requires { AreWritable (map T.attribute nlas.now) }
-    // `flat_map attribute_bytes`: the bytes of all attributes, concatenated.
     ensures { result ≡ length (flat_map attribute_bytes (map T.attribute nlas.now)) }
 {
     let mut len = 0;
@@ -185,16 +170,11 @@ pub fn nlas_len<T: Nla>(nlas: &[T]) -> usize
 /// buffer. The bytes after them are unchanged. They must be writable ([`nlas_writable`] returns
 /// `true`), and the buffer must be at least as long as their bytes.
 pub fn emit_nlas<T: Nla>(nlas: &[T], buffer: &mut [u8])
-    // `AreWritable`: each value has at most 65,531 bytes, and all attributes have at most 2^32 - 1.
     requires fits { AreWritable (map T.attribute nlas.now) }
-    // `flat_map attribute_bytes`: the bytes of all attributes, concatenated.
     requires room { length (flat_map attribute_bytes (map T.attribute nlas.now))
         ≤ length buffer.old }
-    // `HoldsAtStart bytes old new`: `new` is `bytes`, and then what `old` has after as many bytes.
     ensures written { HoldsAtStart (flat_map attribute_bytes (map T.attribute nlas.now)) buffer.old
         buffer.new }
-    // Each number of each value fits its field. This is so for all Rust values; the codec laws
-    // require it.
     ensures in_range { AllByRecursion T.in_range nlas.now }
 {
     let mut at = 0;
@@ -219,7 +199,6 @@ impl DefaultNla {
 
     /// Returns the attribute with this type field and this value.
     pub fn new(kind: u16, value: Vec<u8>) -> DefaultNla
-        // `raw_attribute`: the type field and the bytes of the value.
         ensures { raw_attribute result ≡ record { type_word = kind; value = value.items } }
     {
         DefaultNla { kind, value }
@@ -227,8 +206,6 @@ impl DefaultNla {
 
     // Copies the attribute. Fails only if an allocation fails, and never if the value is empty.
     fn from_buffer(alloc: Global, nla: &NlaBuffer<'_>) -> Result<DefaultNla, AllocError>
-        // `raw_attribute` and `buffered_attribute`: the type field and the value, of the copy and
-        // of the buffer.
         ensures equal { IfOk result (λ copy. raw_attribute copy ≡ buffered_attribute nla.now) }
         ensures needs_no_memory { (buffered_attribute nla.now).value ≡ [] → IsOk result }
     {
@@ -297,7 +274,6 @@ impl Nla for DefaultNla {
 
     ghost attribute = { raw_attribute };
 
-    // Each byte of the value is below 256.
     ghost in_range = { λ v. IsBytes (raw_attribute v).value };
 
     fn value_len(&self) -> usize {
@@ -320,8 +296,6 @@ impl Emitable for DefaultNla {
 
     ghost writable = { λ v. FitsLengthField (raw_attribute v) };
 
-    // `[]` is the set without types, in which each attribute is raw: its type field has 16 bits,
-    // and each byte of its value is below 256.
     ghost in_range = { λ v. IsInRangeIn [] (raw_attribute v) };
 
     fn is_writable(&self) -> bool {

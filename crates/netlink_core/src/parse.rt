@@ -14,8 +14,6 @@ use std::str;
 /// Parses a number of exactly one byte. Any other length is `WrongLength` without a kind, with the
 /// number of bytes and the 1 that is needed.
 pub fn parse_u8(payload: &[u8]) -> Result<u8, DecodeError>
-    // `number_of_width kind width bytes`: `Ok` of the little-endian number of exactly `width`
-    // bytes, or the error. `None`: the error has no kind.
     ensures { result ≡ number_of_width None 1 payload.now }
 {
     match payload {
@@ -27,8 +25,6 @@ pub fn parse_u8(payload: &[u8]) -> Result<u8, DecodeError>
 /// Parses a little-endian number of exactly four bytes. Any other length is `WrongLength` without a
 /// kind, with the number of bytes and the 4 that are needed.
 pub fn parse_u32(payload: &[u8]) -> Result<u32, DecodeError>
-    // `number_of_width kind width bytes`: `Ok` of the little-endian number of exactly `width`
-    // bytes, or the error. `None`: the error has no kind.
     ensures { result ≡ number_of_width None 4 payload.now }
 {
     if payload.len() != 4 {
@@ -53,12 +49,8 @@ fn wrong_length(payload: &[u8], need: usize) -> DecodeError
 ///
 /// Fails with `NotUtf8` if this is not valid UTF-8, and with `Memory` only if the bytes are a text.
 pub fn parse_string(alloc: Global, payload: &[u8]) -> Result<String, DecodeError>
-    // `parse_text`: `Ok` of the text's bytes, or `Err NotUtf8`. `string_bytes`: the bytes of a
-    // `String`.
     ensures value { IfOk result (λ text. parse_text payload.now ≡ Ok (string_bytes text)) }
-    // An error is `NotUtf8`, unless it is `Memory`.
     ensures error { IfErr result (λ e. e ≢ Memory → parse_text payload.now ≡ Err e) }
-    // `Memory` only if the bytes are a text.
     ensures memory { IfErr result (λ e. e ≡ Memory → IsOk (parse_text payload.now)) }
 {
     Ok(String::from_str(alloc, parse_str(payload)?)?)
@@ -69,7 +61,6 @@ pub fn parse_string(alloc: Global, payload: &[u8]) -> Result<String, DecodeError
 #[tactic(auto, using(crate::proofs::Texts::utf8_text_rules))]
 #[inline(always)]
 pub fn parse_str(payload: &[u8]) -> Result<&str, DecodeError>
-    // `parse_text`: `Ok` of the text's bytes, or `Err NotUtf8`.
     ensures value { IfOk result (λ text. parse_text payload.entry.now ≡ Ok text.now) }
     ensures error { IfErr result (λ e. parse_text payload.entry.now ≡ Err e) }
 {
@@ -81,7 +72,6 @@ pub fn parse_str(payload: &[u8]) -> Result<&str, DecodeError>
 
 /// Returns the bytes without one terminating NUL, if there is one.
 pub fn text_bytes(payload: &[u8]) -> &[u8]
-    // `without_terminating_nul bytes`: the bytes without their last byte, if this is NUL.
     ensures { result.now ≡ without_terminating_nul payload.entry.now }
 {
     match payload.split_last() {
@@ -94,7 +84,6 @@ pub fn text_bytes(payload: &[u8]) -> &[u8]
 /// are unchanged. The buffer must have at least four bytes.
 pub fn emit_u32(buffer: &mut [u8], value: u32)
     requires { 4 ≤ length buffer.old }
-    // `little_bytes width number`: the number in `width` bytes, little-endian.
     ensures { buffer.new ≡ little_bytes 4 value ++ drop 4 buffer.old }
 {
     LittleEndian::write_u32(buffer, value);

@@ -34,30 +34,21 @@ pub trait Record: Exact + Sized {
 
     /// Returns the number of bytes that the value serializes to.
     fn size(&self) -> usize
-        // `record_bytes layout value`: the bytes that the value serializes to.
         ensures { result ≡ length (record_bytes layout self.now) };
 
     /// Parses a value, or returns the error that the layout has for these bytes, for example an
     /// unsupported family. There must be at least as many bytes as the layout needs (`least`).
     fn from_fields(bytes: &[u8], param: Self::Param) -> Result<Self, DecodeError>
         requires { layout.least ≤ length bytes.now }
-        // `parse_fields layout param bytes`: `Ok` of the value with the numbers in the layout's
-        // fields, or `Err` of the error that the layout has for these bytes. The length is not
-        // checked.
         ensures { result ≡ parse_fields layout param bytes.now };
 
     /// Replaces the content of the buffer by the bytes that the value serializes to. The buffer
     /// must have exactly their length.
     fn write_fields(&self, buffer: &mut [u8])
-        // `record_bytes layout value`: the bytes that the value serializes to.
         requires { length buffer.old ≡ length (record_bytes layout self.now) }
         ensures written { buffer.new ≡ record_bytes layout self.now }
-        // `IsInRange layout value`: arrays have their lengths, and each number fits its field. This
-        // is so for all Rust values; the codec laws require it.
         ensures in_range { IsInRange layout self.now };
 
-    // `RecordLaws layout`: the codec laws hold, and bytes parse as a value if and only if they
-    // contain it.
     ghost laws: { RecordLaws layout };
 }
 
@@ -67,7 +58,6 @@ pub trait Record: Exact + Sized {
 /// `Memory`.
 #[inline(always)]
 pub fn read_record<T: Record>(bytes: &[u8], param: T::Param) -> Result<T, DecodeError>
-    // `parse_record layout param bytes`: `Ok` of the value, or `Err` of the first error.
     ensures value { result ≡ parse_record T.layout param bytes.now }
     ensures not_memory { IfErr result (λ error. error ≢ Memory) }
 {
@@ -123,7 +113,6 @@ impl<T: Record> HasCodec for T {
 
     ghost codec = { record_codec T.layout };
 
-    // The model of a value is the value itself.
     ghost model = { λ value. value };
 
     // A record is not a message.
@@ -132,7 +121,6 @@ impl<T: Record> HasCodec for T {
     // The part of `Exact` that is about `==`.
     ghost eq_is_model = { T.exact.0 };
 
-    // The part of `RecordLaws` with the codec laws.
     ghost laws = { T.Record.laws.codec };
 }
 
@@ -174,10 +162,8 @@ pub struct RecordBuffer<T, const N: usize> {
 }
 
 impl<T, const N: usize> Clone for RecordBuffer<T, N> {
-    // A clone has the same bytes.
     ghost is_clone = { λ buffer copy. copy ≡ buffer };
 
-    // Cloning never fails.
     ghost is_infallible = { λ _. ⊤ };
 
     fn clone(&self) -> Result<Self, AllocError> {
@@ -201,8 +187,6 @@ impl<T, const N: usize> Model for RecordBuffer<T, N> {
 impl<T, const N: usize> RecordBuffer<T, N> {
     /// Returns the first `N` bytes, or `None` if there are fewer.
     pub fn read_prefix(payload: &[u8]) -> Option<Self>
-        // `SomeIff option condition value`: the option is `Some value` if the condition holds, else
-        // `None`. The value is the list of the buffer's bytes.
         ensures { SomeIff result (N ≤ length payload.now) (take N payload.now) }
     {
         let bytes = *payload.first_chunk()?;
@@ -214,7 +198,6 @@ impl<T, const N: usize> RecordBuffer<T, N> {
 
     /// Returns the bytes.
     pub fn to_bytes(&self) -> [u8; N]
-        // In contracts `self.now` is the list of the bytes (`impl Model` above).
         ensures { result ≡ self.now }
     {
         self.bytes
@@ -222,8 +205,7 @@ impl<T, const N: usize> RecordBuffer<T, N> {
 }
 
 impl<T: Fills<N>, const N: usize> From<&T> for RecordBuffer<T, N> {
-    // The buffer contains the bytes that the record serializes to. Each number of the record fits
-    // its field (`IsInRange`): this is so for all Rust values, and the codec laws require it.
+    // `IsInRange` is stated for the same reason as `in_range` of `Emitable`.
     ghost from_gives = { λ value buffer. (buffer ≡ record_bytes T.layout value.now)
         × IsInRange T.layout value.now };
 

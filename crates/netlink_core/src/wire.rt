@@ -50,13 +50,9 @@ pub trait Wire: HasCodec + Readable + Emitable {
         // Each byte is below 256. This is so for all Rust values; it is stated for the proofs of
         // callers, as the codec laws require it.
         ensures in_range { IsBytes bytes.now }
-        // The bytes parse as the model of the value, by the codec and with this parameter.
         ensures value { IfOk result (λ v. Self.codec.parses bytes.now param (Self.model v)) }
-        // An error is the first error of the bytes, unless it is `Memory`.
         ensures error { IfErr result (λ e. e ≢ Memory → Self.codec.rejects bytes.now param e) }
         ensures memory { IfErr result (λ e. e ≡ Memory → IsTrue Self.TAKES_MEMORY) }
-        // `Memory` only if the bytes have a value, and this value needs to allocate
-        // (`needs_no_memory` does not hold of it).
         ensures memory_needed { IfErr result (λ e. e ≡ Memory
             → (v : Self.codec.Value) × Self.codec.parses bytes.now param v
             × ¬ Self.codec.needs_no_memory v) };
@@ -70,15 +66,9 @@ pub trait Wire: HasCodec + Readable + Emitable {
     fn rewrite(alloc: Global, bytes: &[u8], param: Self::Param) -> Result<Vec<u8>, CanonError>
     where
         Self: Drop,
-        // Each byte is below 256. This is so for all Rust values; it is stated for the proofs of
-        // callers, as the codec laws require it.
         ensures in_range { IsBytes bytes.now }
-        // `HasCanonicalForm codec param bytes form`: the bytes parse as a writable value, which
-        // serializes to `form`.
         ensures written { IfOk result (λ form.
             HasCanonicalForm Self.codec param bytes.now form.items) }
-        // `CanonicalFormFails codec param bytes error`: no canonical form of the bytes is returned,
-        // for this reason.
         ensures err { IfErr result (CanonicalFormFails Self.codec param bytes.now) };
 
     // `Emitable` serializes to the bytes that the codec states.
@@ -96,14 +86,9 @@ pub trait Wire: HasCodec + Readable + Emitable {
 /// Serializes a value to a new vector of exactly its bytes. Fails with `Unwritable` if the value is
 /// not writable, and with `Memory` only if it is.
 pub fn write_new<T: Emitable>(alloc: Global, value: &T) -> Result<Vec<u8>, CanonError>
-    // `T.writable value`: the value is writable. `T.bytes value`: the bytes that it serializes to.
     ensures written { IfOk result (λ written.
         T.writable value.now × (written.items ≡ T.bytes value.now)) }
-    // Each number of the value fits its field. This is so for all Rust values; the codec laws
-    // require it.
     ensures in_range { OnOk result (T.in_range value.now) }
-    // `SerializingFails is_writable value error`: `Unwritable` if the value is not writable,
-    // `Memory` if it is.
     ensures err { IfErr result (SerializingFails T.writable value.now) }
 {
     let Some(len) = value.writable_len() else {
