@@ -24,10 +24,7 @@ netlink_header_of values = record {
 
 -- `struct netlink_diag_msg` (linux/netlink_diag.h). `ndiag_family` at 0 is ignored, and serialized
 -- as AF_NETLINK. The other rows are, in order, `ndiag_type`, `ndiag_protocol`, `ndiag_state`,
--- `ndiag_portid`, `ndiag_dst_portid`, `ndiag_dst_group`, `ndiag_ino`, `ndiag_cookie`. Arguments of
--- `plain`: the name in errors, the length in bytes, the rows, their inverse, and the condition on
--- arrays (`⊤`, since there are none). The types `Unit {0}`: there is no parameter, and only one
--- tag.
+-- `ndiag_portid`, `ndiag_dst_portid`, `ndiag_dst_group`, `ndiag_ino`, `ndiag_cookie`.
 abbrev pub netlink_header : Layout (Unit {0}) (Unit {0}) NetlinkResponseHeader
 netlink_header = plain (name.FamilyResponseHeader AF_NETLINK) 28 (
     skip 0 (AF_NETLINK ∷ []) ∷

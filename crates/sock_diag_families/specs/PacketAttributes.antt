@@ -1,7 +1,5 @@
--- The values of attributes of a reply about a packet socket. Arguments of `parse_if_long_enough`:
--- the name in errors, with the family and the kind of the attribute; the length of the record in
--- bytes; a function from the bytes to the record; and, left out in the equations, the value. More
--- bytes may follow each record: newer kernels append members.
+-- The values of attributes of a reply about a packet socket. More bytes may follow each record:
+-- newer kernels append members.
 use Rattle.std.specs.Prelude.{ℕ, List, Result}
 use Rattle.netlink_core.specs.declared.error.DecodeError.{DecodeError}
 use Rattle.netlink_core.specs.declared.error.RecordName.TheVariants.{FamilyAttribute}

@@ -20,9 +20,6 @@ packet_header_of values = record {
 
 -- `struct packet_diag_msg` (linux/packet_diag.h). `pdiag_family` at 0 is ignored, and serialized as
 -- AF_PACKET. The other rows are, in order, `pdiag_type`, `pdiag_num`, `pdiag_ino`, `pdiag_cookie`.
--- Arguments of `plain`: the name in errors, the length in bytes, the rows, their inverse, and the
--- condition on arrays (`⊤`, since there are none). The types `Unit {0}`: there is no parameter, and
--- only one tag.
 abbrev pub packet_header : Layout (Unit {0}) (Unit {0}) PacketResponseHeader
 packet_header = plain (name.FamilyResponseHeader AF_PACKET) 16 (
     skip 0 (AF_PACKET ∷ []) ∷

@@ -25,9 +25,6 @@ show_request_of values = record {
 --   4   `*_ino`
 --   8   `*_show`
 --   12  `*_cookie`
--- Arguments of `plain`: the name in errors, the length in bytes, the rows, their inverse, and the
--- condition on arrays (`⊤`, since there are none). The types `Unit {0}`: there is no parameter, and
--- only one tag.
 abbrev pub show_request : (family : ℕ) → Layout (Unit {0}) (Unit {0}) (ShowRequest family)
 show_request family = plain (name.FamilyRequest family) 20 (
     skip 0 (family % 256 ∷ []) ∷

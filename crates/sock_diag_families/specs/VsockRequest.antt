@@ -17,9 +17,6 @@ vsock_request_of values = record { states = slice_index values 0; cookie = slice
 --   4   `vdiag_states`
 --   8   `vdiag_ino` and `vdiag_show`, eight bytes: ignored, and serialized as 0
 --   16  `vdiag_cookie`
--- Arguments of `plain`: the name in errors, the length in bytes, the rows, their inverse, and the
--- condition on arrays (`⊤`, since there are none). The types `Unit {0}`: there is no parameter, and
--- only one tag.
 abbrev pub vsock_request : Layout (Unit {0}) (Unit {0}) VsockRequest
 vsock_request = plain (name.FamilyRequest AF_VSOCK) 24 (
     skip 0 (AF_VSOCK ∷ 0 ∷ 0 ∷ 0 ∷ []) ∷

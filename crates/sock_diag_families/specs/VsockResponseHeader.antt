@@ -26,9 +26,7 @@ vsock_header_of values = record {
 -- `struct vsock_diag_msg` (linux/vm_sockets_diag.h). `vdiag_family` at 0 is ignored, and serialized
 -- as AF_VSOCK. The other rows are, in order, `vdiag_type`, `vdiag_state`, `vdiag_shutdown`,
 -- `vdiag_src_cid`, `vdiag_src_port`, `vdiag_dst_cid`, `vdiag_dst_port`, `vdiag_ino`,
--- `vdiag_cookie`. Arguments of `plain`: the name in errors, the length in bytes, the rows, their
--- inverse, and the condition on arrays (`⊤`, since there are none). The types `Unit {0}`: there is
--- no parameter, and only one tag.
+-- `vdiag_cookie`.
 abbrev pub vsock_header : Layout (Unit {0}) (Unit {0}) VsockResponseHeader
 vsock_header = plain (name.FamilyResponseHeader AF_VSOCK) 32 (
     skip 0 (AF_VSOCK ∷ []) ∷

@@ -21,9 +21,6 @@ xdp_header_of values = record {
 --   2  `pad`, two bytes: ignored, and serialized as 0
 --   4  `xdiag_ino`
 --   8  `xdiag_cookie`
--- Arguments of `plain`: the name in errors, the length in bytes, the rows, their inverse, and the
--- condition on arrays (`⊤`, since there are none). The types `Unit {0}`: there is no parameter, and
--- only one tag.
 abbrev pub xdp_header : Layout (Unit {0}) (Unit {0}) XdpResponseHeader
 xdp_header = plain (name.FamilyResponseHeader AF_XDP) 16 (
     skip 0 (AF_XDP ∷ []) ∷

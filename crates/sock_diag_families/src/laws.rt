@@ -37,7 +37,6 @@ use std::alloc::AllocError;
 /// with its two flag bits, and the same bytes in their values.
 #[tactic(auto, using(netlink_core::proofs::ValueTests::attribute_test_decides))]
 pub fn equal_raw_nlas(left: &RawNla<'_>, right: &RawNla<'_>) -> bool
-    // `buffered_attribute`: the type field and the bytes of the value. `.0` is the `NlaBuffer`.
     ensures { IsTrue result ↔ (buffered_attribute left.now.0 ≡ buffered_attribute right.now.0) }
 {
     left == right
@@ -47,7 +46,6 @@ pub fn equal_raw_nlas(left: &RawNla<'_>, right: &RawNla<'_>) -> bool
 /// flag bits, and the same bytes in its value.
 pub fn copied_raw_nla<'a>(nla: &RawNla<'a>) -> Result<RawNla<'a>, AllocError>
     ensures ok { IsOk result }
-    // `buffered_attribute`: the type field and the bytes of the value.
     ensures same { IfOk result (λ copy. buffered_attribute copy.0 ≡ buffered_attribute nla.now.0) }
 {
     nla.clone()

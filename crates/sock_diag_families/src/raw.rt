@@ -10,7 +10,6 @@ use netlink_core::{DecodeError, FamilyView, Nla, NlaBuffer};
 pub struct RawNla<'a>(pub NlaBuffer<'a>);
 
 impl Nla for RawNla<'_> {
-    // The type field and the value are unchanged.
     ghost attribute = { λ nla. buffered_attribute nla.0 };
 
     fn value_len(&self) -> usize {
@@ -31,10 +30,8 @@ impl<'a> FamilyView<'a> for RawNla<'a> {
     // The set of attribute types is empty, so that each attribute is raw.
     ghost attribute_set = { [] };
 
-    // What an attribute decodes to by the empty set: itself.
     ghost model = { λ nla. buffered_attribute nla.0 };
 
-    // Proof that the attribute serializes as what it decodes to.
     ghost attribute_by_model = { λ _. refl };
 
     fn read_view(nla: &NlaBuffer<'a>) -> Result<Self, DecodeError> {

@@ -29,14 +29,12 @@ pub struct ShowRequest<const FAMILY: u8> {
 }
 
 impl<const FAMILY: u8> Exact for ShowRequest<FAMILY> {
-    // Proof that `==` is equality, and that `clone` returns the value and cannot fail.
     ghost exact = { Prim.search rules };
 }
 
 impl<const FAMILY: u8> Record for ShowRequest<FAMILY> {
     type Param = ();
 
-    // `show_request` is the layout of all three requests, for the family.
     ghost layout = { show_request FAMILY };
 
     fn name_and_least() -> (RecordName, usize) {
@@ -71,6 +69,5 @@ impl<const FAMILY: u8> Record for ShowRequest<FAMILY> {
         write_u64s(&[self.cookie], cookie);
     }
 
-    // Proof of the laws of the record.
     ghost laws = { record_laws (show_request FAMILY) (show_request_sound FAMILY) };
 }

@@ -15,9 +15,6 @@ pub(crate) fn enough_in(
     kind: u16,
     need: usize,
 ) -> Result<&[u8], DecodeError>
-    // `map_ok (λ value. value.now) result`: the result, with the bytes of the value as a list.
-    // `with_length_at_least name need bytes`: `Ok` of the bytes, or `Err` of `BufferTooSmall` with
-    // the name, here of an attribute of this family and kind (`FamilyAttribute`).
     ensures { map_ok (λ value. value.now) result
         ≡ with_length_at_least (FamilyAttribute family kind) need value.entry.now }
 {

@@ -40,7 +40,6 @@ pub struct NetlinkResponseHeader {
 }
 
 impl Exact for NetlinkResponseHeader {
-    // Proof that `==` is equality, and that `clone` returns the value and cannot fail.
     ghost exact = { Prim.search rules };
 }
 
@@ -91,6 +90,5 @@ impl Record for NetlinkResponseHeader {
         write_u64s(&[self.cookie], cookie);
     }
 
-    // Proof of the laws of the record.
     ghost laws = { record_laws netlink_header netlink_header_sound };
 }

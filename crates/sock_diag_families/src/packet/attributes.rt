@@ -41,7 +41,6 @@ pub struct PacketInfo {
 }
 
 impl Exact for PacketInfo {
-    // Proof that `==` is equality, and that `clone` returns the value and cannot fail.
     ghost exact = { Prim.search rules };
 }
 
@@ -49,8 +48,6 @@ impl PacketInfo {
     /// Parses the first 24 bytes of the value of an attribute `PACKET_DIAG_INFO`, and ignores the
     /// bytes after them. Fewer bytes are [`DecodeError::BufferTooSmall`].
     pub fn parse(value: &[u8]) -> Result<PacketInfo, DecodeError>
-        // `parse_packet_info value`: `Ok` of the record in the first 24 bytes, or `Err` of the
-        // error.
         ensures { result ≡ parse_packet_info value.now }
     {
         let value = enough_in(value, AF_PACKET, PACKET_DIAG_INFO, PACKET_INFO_LEN)?;
@@ -99,7 +96,6 @@ pub struct PacketRing {
 }
 
 impl Exact for PacketRing {
-    // Proof that `==` is equality, and that `clone` returns the value and cannot fail.
     ghost exact = { Prim.search rules };
 }
 
@@ -108,8 +104,6 @@ impl PacketRing {
     /// `PACKET_DIAG_TX_RING`, and ignores the bytes after them. Fewer bytes are `BufferTooSmall`,
     /// which contains `kind`, the kind of the attribute. The kind has no other effect.
     pub fn parse(value: &[u8], kind: u16) -> Result<PacketRing, DecodeError>
-        // `parse_packet_ring kind value`: `Ok` of the record in the first 28 bytes, or `Err` of the
-        // error, with this kind.
         ensures { result ≡ parse_packet_ring kind value.now }
     {
         let value = enough_in(value, AF_PACKET, kind, PACKET_RING_LEN)?;

@@ -32,7 +32,6 @@ pub struct PacketResponseHeader {
 }
 
 impl Exact for PacketResponseHeader {
-    // Proof that `==` is equality, and that `clone` returns the value and cannot fail.
     ghost exact = { Prim.search rules };
 }
 
@@ -75,6 +74,5 @@ impl Record for PacketResponseHeader {
         write_u64s(&[self.cookie], cookie);
     }
 
-    // Proof of the laws of the record.
     ghost laws = { record_laws packet_header packet_header_sound };
 }

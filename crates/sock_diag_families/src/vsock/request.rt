@@ -26,7 +26,6 @@ pub struct VsockRequest {
 }
 
 impl Exact for VsockRequest {
-    // Proof that `==` is equality, and that `clone` returns the value and cannot fail.
     ghost exact = { Prim.search rules };
 }
 
@@ -62,6 +61,5 @@ impl Record for VsockRequest {
         write_u64s(&[self.cookie], cookie);
     }
 
-    // Proof of the laws of the record.
     ghost laws = { record_laws vsock_request vsock_request_sound };
 }

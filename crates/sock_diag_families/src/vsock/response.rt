@@ -42,7 +42,6 @@ pub struct VsockResponseHeader {
 }
 
 impl Exact for VsockResponseHeader {
-    // Proof that `==` is equality, and that `clone` returns the value and cannot fail.
     ghost exact = { Prim.search rules };
 }
 
@@ -101,6 +100,5 @@ impl Record for VsockResponseHeader {
         write_u64s(&[self.cookie], cookie);
     }
 
-    // Proof of the laws of the record.
     ghost laws = { record_laws vsock_header vsock_header_sound };
 }

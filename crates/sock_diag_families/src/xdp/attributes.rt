@@ -35,7 +35,6 @@ pub struct XdpInfo {
 }
 
 impl Exact for XdpInfo {
-    // Proof that `==` is equality, and that `clone` returns the value and cannot fail.
     ghost exact = { Prim.search rules };
 }
 
@@ -43,7 +42,6 @@ impl XdpInfo {
     /// Parses the first 8 bytes of the value of an attribute `XDP_DIAG_INFO`, and ignores the bytes
     /// after them. Fewer bytes are `BufferTooSmall`.
     pub fn parse(value: &[u8]) -> Result<XdpInfo, DecodeError>
-        // `parse_xdp_info value`: `Ok` of the record in the first 8 bytes, or `Err` of the error.
         ensures { result ≡ parse_xdp_info value.now }
     {
         let value = enough_in(value, AF_XDP, XDP_DIAG_INFO, XDP_INFO_LEN)?;
@@ -80,7 +78,6 @@ pub struct XdpUmem {
 }
 
 impl Exact for XdpUmem {
-    // Proof that `==` is equality, and that `clone` returns the value and cannot fail.
     ghost exact = { Prim.search rules };
 }
 
@@ -88,7 +85,6 @@ impl XdpUmem {
     /// Parses the first 40 bytes of the value of an attribute `XDP_DIAG_UMEM`, and ignores the
     /// bytes after them. Fewer bytes are `BufferTooSmall`.
     pub fn parse(value: &[u8]) -> Result<XdpUmem, DecodeError>
-        // `parse_xdp_umem value`: `Ok` of the record in the first 40 bytes, or `Err` of the error.
         ensures { result ≡ parse_xdp_umem value.now }
     {
         let value = enough_in(value, AF_XDP, XDP_DIAG_UMEM, XDP_UMEM_LEN)?;
@@ -122,7 +118,6 @@ pub struct XdpStatistics {
 }
 
 impl Exact for XdpStatistics {
-    // Proof that `==` is equality, and that `clone` returns the value and cannot fail.
     ghost exact = { Prim.search rules };
 }
 
@@ -130,8 +125,6 @@ impl XdpStatistics {
     /// Parses the first 48 bytes of the value of an attribute `XDP_DIAG_STATS`, and ignores the
     /// bytes after them. Fewer bytes are `BufferTooSmall`.
     pub fn parse(value: &[u8]) -> Result<XdpStatistics, DecodeError>
-        // `parse_xdp_statistics value`: `Ok` of the record in the first 48 bytes, or `Err` of the
-        // error.
         ensures { result ≡ parse_xdp_statistics value.now }
     {
         let value = enough_in(value, AF_XDP, XDP_DIAG_STATS, XDP_STATISTICS_LEN)?;
@@ -142,7 +135,6 @@ impl XdpStatistics {
 // Parses the `struct xdp_diag_umem` at the start of the value. Requires that the value contains it.
 fn umem_in(value: &[u8]) -> XdpUmem
     requires { XDP_UMEM_LEN ≤ length value.now }
-    // `xdp_umem_fields value`: the record whose members are the numbers at their offsets.
     ensures { result ≡ xdp_umem_fields value.now }
 {
     let [size] = u64s_at::<1>(value, 0);
@@ -173,7 +165,6 @@ fn umem_in(value: &[u8]) -> XdpUmem
 // it.
 fn statistics_in(value: &[u8]) -> XdpStatistics
     requires { XDP_STATISTICS_LEN ≤ length value.now }
-    // `xdp_statistics_fields value`: the record whose members are the numbers at their offsets.
     ensures { result ≡ xdp_statistics_fields value.now }
 {
     let [

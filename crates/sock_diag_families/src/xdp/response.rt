@@ -28,7 +28,6 @@ pub struct XdpResponseHeader {
 }
 
 impl Exact for XdpResponseHeader {
-    // Proof that `==` is equality, and that `clone` returns the value and cannot fail.
     ghost exact = { Prim.search rules };
 }
 
@@ -68,6 +67,5 @@ impl Record for XdpResponseHeader {
         write_u64s(&[self.cookie], cookie);
     }
 
-    // Proof of the laws of the record.
     ghost laws = { record_laws xdp_header xdp_header_sound };
 }
