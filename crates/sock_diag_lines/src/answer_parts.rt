@@ -38,7 +38,6 @@ pub(crate) fn push_number(text: &mut Vec<u8>, number: u64) -> Result<(), AllocEr
 
 /// Appends bytes as a hex field: `-` for no bytes, else two hex digits for each byte.
 pub(crate) fn push_field(text: &mut Vec<u8>, bytes: &[u8]) -> Result<(), AllocError>
-    // `hex_field_of bytes`: this hex field.
     ensures { OnOk result (text.new.items ≡ text.old.items ++ hex_field_of bytes.now) }
 {
     if bytes.is_empty() {
@@ -69,7 +68,6 @@ fn push_digits(text: &mut Vec<u8>, bytes: &[u8]) -> Result<(), AllocError>
 
 /// Appends `ok` and bytes as a hex field.
 pub(crate) fn push_accepted(text: &mut Vec<u8>, bytes: &[u8]) -> Result<(), AllocError>
-    // `ok_text text`: `ok `, and then the text. `hex_field_of bytes`: the hex field of the bytes.
     ensures { OnOk result (text.new.items ≡ text.old.items ++ ok_text (hex_field_of bytes.now)) }
 {
     text.extend_from_slice(OK)?;
@@ -79,8 +77,7 @@ pub(crate) fn push_accepted(text: &mut Vec<u8>, bytes: &[u8]) -> Result<(), Allo
 /// Appends `refused` and the code of a decode error. Returns an `Err` if the error is `Memory`,
 /// which is not an error of the bytes.
 pub(crate) fn push_refused(text: &mut Vec<u8>, error: &DecodeError) -> Result<(), AllocError>
-    // `Ok` also says that the error was not `Memory`. `refused_text error`: `refused ` and the
-    // code.
+    // `Ok` also says that the error was not `Memory`.
     ensures { OnOk result ((error.now ≢ Memory)
         × (text.new.items ≡ text.old.items ++ refused_text error.now)) }
 {
@@ -98,7 +95,6 @@ pub(crate) fn push_optional_number(
     text: &mut Vec<u8>,
     number: Option<u32>,
 ) -> Result<(), AllocError>
-    // `value_field text_of value`: a space and the text of the value, here in decimal, or ` none`.
     ensures { OnOk result (text.new.items ≡ text.old.items ++ value_field decimal number) }
 {
     let Some(number) = number else {
@@ -113,9 +109,6 @@ pub(crate) fn push_name_field(
     text: &mut Vec<u8>,
     name: Option<NameView<'_>>,
 ) -> Result<(), AllocError>
-    // `value_field text_of value`: a space and the text of the value, or ` none`. The text of a
-    // name (`socket_name_text`) is `path:` or `abstract:`, and its hex field. `name_view_model`:
-    // the borrowed name, with its bytes as a list.
     ensures { OnOk result (text.new.items
         ≡ text.old.items ++ value_field socket_name_text (option_map name_view_model name.entry)) }
 {
@@ -137,9 +130,6 @@ pub(crate) fn push_numbers_field(
     text: &mut Vec<u8>,
     numbers: Option<NumbersView<'_>>,
 ) -> Result<(), AllocError>
-    // `value_field text_of value`: a space and the text of the value, or ` none`. The text of
-    // numbers (`comma_list`) has commas between them, and is `-` for an empty list.
-    // `numbers_view_model`: the borrowed numbers as a list.
     ensures { OnOk result (text.new.items
         ≡ text.old.items
         ++ value_field comma_list (option_map numbers_view_model numbers.entry)) }
@@ -153,8 +143,6 @@ pub(crate) fn push_numbers_field(
 
 /// Appends numbers separated by commas, or `-` for an empty list.
 fn push_numbers(text: &mut Vec<u8>, numbers: NumbersView<'_>) -> Result<(), AllocError>
-    // `comma_list numbers`: the numbers in decimal, separated by commas, or `-`.
-    // `numbers_view_model`: the borrowed numbers as a list.
     ensures { OnOk result (text.new.items ≡ text.old.items
         ++ comma_list (numbers_view_model numbers.entry)) }
 {

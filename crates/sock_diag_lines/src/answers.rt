@@ -1,5 +1,10 @@
 //! The answer to one line. A function that returns a `Result` fails only if an allocation fails. A
 //! part of what it appends to a text may then have been appended.
+//!
+//! In the contracts `AppendsSome old new Holds` states that bytes were appended to a text, and that
+//! they have the property `Holds`. `codec_of_name name` is how the bytes after a name are parsed
+//! and shown. `IsAnswerUnder answers bytes text` states that the text answers the bytes, as these
+//! are parsed and shown.
 
 ghost use Rattle.sock_diag_lines.specs.declared.answers.Name.{Name};
 ghost use Rattle.sock_diag_lines.specs.declared.answers.Name.TheVariants.{NetlinkMessage, UnixView};
@@ -85,14 +90,12 @@ const BAD_LINE: &[u8] = b"bad line";
 /// number of its messages and each serialized message; or `unwritable` if one of them is not
 /// writable. It is `bad line` for any other line.
 pub fn answer(alloc: Global, line: &[u8]) -> Result<Vec<u8>, AllocError>
-    // `IsAnswerOf line text`: the text answers the line.
     ensures answers { IfOk result (λ text. IsAnswerOf line.now text.items) }
 
     // Two inputs of one name other than `unixview`, both with writable values, have the same answer
     // if and only if they are equivalent by the codec of this name (`AreEquivalentUnder`).
-    // `unixview` does not show the whole value. `other` is any other line, `bytes'` are the bytes
-    // of its field, and `text'` is its answer. `IsWritableRequest line name bytes`: the line is
-    // this name and a hex field of these bytes, which parse as a writable value.
+    // `unixview` does not show the whole value. In this clause and the next ones `other` is any
+    // other line, `bytes'` or `datagrams'` are what it contains, and `text'` is its answer.
     ensures same { IfOk result (λ text. (name : Name) → name ≢ UnixView
         → (other bytes bytes' text' : List ℕ)
         → IsWritableRequest line.now name bytes → IsWritableRequest other name bytes'
@@ -106,9 +109,7 @@ pub fn answer(alloc: Global, line: &[u8]) -> Result<Vec<u8>, AllocError>
         → IsAnswerOf other text'
         → AreEquivalentUnder (codec_of_name name) bytes bytes' → text.items ≡ text') }
     // Two dumps have the same answer if their datagrams have the same items (`HaveSameItems`): the
-    // payload or the error of each message, of all datagrams in order. `other` is any other line,
-    // `datagrams'` are its datagrams, and `text'` is its answer. `IsDumpRequest line datagrams`:
-    // the line is `dump` and the hex fields of these datagrams.
+    // payload or the error of each message, of all datagrams in order.
     ensures dumps { IfOk result
         (λ text. (other text' : List ℕ) (datagrams datagrams' : List (List ℕ))
         → IsDumpRequest line.now datagrams → IsDumpRequest other datagrams'
@@ -116,8 +117,7 @@ pub fn answer(alloc: Global, line: &[u8]) -> Result<Vec<u8>, AllocError>
         → IsAnswerOf other text' → text.items ≡ text') }
     // Two dumps of the same concatenated bytes have the same answer, if each of their datagrams
     // except the last consists of complete messages with all their padding
-    // (`AreCompleteExceptLast`). `other` is any other line, `datagrams'` are its datagrams, and
-    // `text'` is its answer.
+    // (`AreCompleteExceptLast`).
     ensures split { IfOk result
         (λ text. (other text' : List ℕ) (datagrams datagrams' : List (List ℕ))
         → IsDumpRequest line.now datagrams → IsDumpRequest other datagrams'
@@ -146,8 +146,6 @@ pub(crate) fn push_answer(
     text: &mut Vec<u8>,
     line: &[u8],
 ) -> Result<(), AllocError>
-    // `AppendsSome old new Holds`: some bytes were appended, which have the property `Holds`: here,
-    // they answer the line (`IsAnswerOf line text`).
     ensures { OnOk result (AppendsSome text.old.items text.new.items (IsAnswerOf line.now)) }
 {
     let request = read_request(alloc, bytes, line)?;
@@ -161,7 +159,6 @@ pub(crate) fn read_request(
     bytes: &mut Vec<u8>,
     line: &[u8],
 ) -> Result<LineRequest, AllocError>
-    // `IsParsedAs line request bytes`: the line has this request, and these bytes in its field.
     ensures { IfOk result (λ request. IsParsedAs line.now request bytes.new.items) }
 {
     let Some(space) = find_space(line) else {
@@ -187,8 +184,6 @@ fn read_dump_request(
     bytes: &mut Vec<u8>,
     fields: &[u8],
 ) -> Result<LineRequest, AllocError>
-    // `IsParsedAs line request bytes`: the line has this request. Here it is `dump`, a space and
-    // the fields. The bytes of the buffer do not matter for a dump.
     ensures { IfOk result (λ request.
         IsParsedAs (codes "dump" ++ space ∷ fields.now) request bytes.new.items) }
 {
@@ -206,8 +201,6 @@ pub(crate) fn push_answer_text(
     request: LineRequest,
     bytes: &[u8],
 ) -> Result<(), AllocError>
-    // Some bytes were appended (`AppendsSome old new Holds`), which answer the request
-    // (`IsAnswerTo request bytes text`).
     ensures { OnOk result
         (AppendsSome text.old.items text.new.items (IsAnswerTo request bytes.now)) }
 {
@@ -220,9 +213,6 @@ pub(crate) fn push_answer_text(
 
 /// Appends the answer to a name and the bytes of its field.
 fn push_named(alloc: Global, text: &mut Vec<u8>, name: Name, bytes: &[u8]) -> Result<(), AllocError>
-    // Some bytes were appended (`AppendsSome old new Holds`), which answer `bytes`, as these are
-    // parsed and shown under the name (`IsAnswerUnder answers bytes text`). `codec_of_name name`:
-    // how they are parsed and shown.
     ensures { OnOk result (AppendsSome text.old.items text.new.items
         (IsAnswerUnder (codec_of_name name) bytes.now)) }
 {
@@ -249,9 +239,6 @@ fn push_canonical<T: Wire + Drop>(
     bytes: &[u8],
     param: T::Param,
 ) -> Result<(), AllocError>
-    // Some bytes were appended (`AppendsSome old new Holds`), which answer `bytes`, as these are
-    // parsed and shown (`IsAnswerUnder answers bytes text`): parsed by the codec with this
-    // parameter, and shown as the canonical form in hex (`answer_codec codec param`).
     ensures { OnOk result (AppendsSome text.old.items text.new.items
         (IsAnswerUnder (answer_codec T.codec param) bytes.now)) }
 {
@@ -266,9 +253,6 @@ fn push_canonical<T: Wire + Drop>(
 /// Appends `ok` and the text of a netlink message, `unwritable`, or `refused` and the code of the
 /// error.
 fn push_netlink_message(alloc: Global, text: &mut Vec<u8>, bytes: &[u8]) -> Result<(), AllocError>
-    // Some bytes were appended (`AppendsSome old new Holds`), which answer `bytes`, as these are
-    // parsed and shown under the name `netlink` (`IsAnswerUnder answers bytes text`).
-    // `codec_of_name name`: how they are parsed and shown.
     ensures { OnOk result (AppendsSome text.old.items text.new.items
         (IsAnswerUnder (codec_of_name NetlinkMessage) bytes.now)) }
 {
@@ -284,10 +268,6 @@ fn push_message_text(
     text: &mut Vec<u8>,
     message: &MessageView<'_>,
 ) -> Result<(), AllocError>
-    // Some bytes were appended (`AppendsSome old new Holds`), which answer this value
-    // (`IsAnswerToValue is_writable value_text text`): `ok ` and its text (`netlink_message_text`)
-    // if it is writable, else `unwritable`. `netlink_message_view_model`: the borrowed message,
-    // with its bytes as lists.
     ensures { OnOk result (AppendsSome text.old.items text.new.items (IsAnswerToValue
         (netlink_message_codec.is_writable (netlink_message_view_model message.now))
         (netlink_message_text (netlink_message_view_model message.now)))) }
@@ -312,9 +292,6 @@ fn push_inner(
     header: &NetlinkHeader,
     inner: &SockDiagView<'_>,
 ) -> Result<(), AllocError>
-    // `message_view_model`: the borrowed message, with its bytes as lists. `ok_text text`: `ok `,
-    // and then the text. `netlink_message_text message`: the fields of the header in decimal, and
-    // the serialized payload as a hex field, separated by spaces.
     requires { message_codec.is_writable (message_view_model inner.now) }
     ensures { OnOk result (text.new.items ≡ text.old.items ++ ok_text
         (netlink_message_text (record {
@@ -333,9 +310,6 @@ fn push_message_fields(
     header: &NetlinkHeader,
     payload: &[u8],
 ) -> Result<(), AllocError>
-    // `ok_text text`: `ok `, and then the text. `number_then_text number text`: the number in
-    // decimal, a space, and then the text, here five times. `hex_field_of bytes`: the hex field of
-    // the bytes.
     ensures { OnOk result (text.new.items ≡ text.old.items ++ ok_text
         (number_then_text header.now.length
         (number_then_text header.now.message_type (number_then_text header.now.flags
@@ -361,8 +335,6 @@ fn push_number_and_space(text: &mut Vec<u8>, number: u32) -> Result<(), AllocErr
 
 /// Returns the name that is spelled in this way, or `None` if there is none.
 fn find_name(spelling: &[u8]) -> Option<Name>
-    // `spelling_of name`: the name as it is spelled in a line. `None` only if no name is spelled
-    // so.
     ensures { MatchOption result ((name : Name) → spelling.now ≢ spelling_of name)
         (λ name. spelling.now ≡ spelling_of name) }
 {

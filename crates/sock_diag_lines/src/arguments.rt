@@ -50,7 +50,6 @@ impl Exact for Choice {
 /// `Help` or `Version` if and only if the only argument is `--strict`, `--help` or `--version`;
 /// else `Answer`.
 pub fn choose(arguments: &[String]) -> Choice
-    // `map string_bytes arguments`: the bytes of each argument. `codes`: the bytes of a text.
     ensures strict { (result ≡ Strict) ↔ (map string_bytes arguments.now ≡ codes "--strict" ∷ []) }
     ensures help { (result ≡ Help) ↔ (map string_bytes arguments.now ≡ codes "--help" ∷ []) }
     ensures version { (result ≡ Version)

@@ -41,9 +41,6 @@ pub(crate) fn read_dump(
     bytes: &mut Vec<u8>,
     fields: &[u8],
 ) -> Result<Option<ReadDump>, AllocError>
-    // `AreHexFields text datagrams`: the text is the hex fields of these datagrams, separated by
-    // one space. `None` only if it is not, whatever the datagrams. Otherwise there are such
-    // datagrams, and the dump has read these (`IsReadDump datagrams dump`).
     ensures { IfOk result (λ read. MatchOption read ((datagrams : List (List ℕ))
         → ¬ AreHexFields fields.now datagrams)
         (λ dump. (datagrams : List (List ℕ)) × AreHexFields fields.now datagrams
@@ -75,8 +72,6 @@ pub(crate) fn read_dump(
 /// Feeds the datagram in a hex field to the dump. Returns whether the field is a hex field. `bytes`
 /// is a buffer for the datagram.
 fn feed_field(dump: &mut ReadDump, bytes: &mut Vec<u8>, field: &[u8]) -> Result<bool, AllocError>
-    // If true, the field is the hex field of some datagram (`IsHexField`), and the dump has read it
-    // (`FeedsOneDatagram old datagram new`). If false, it is not a hex field (`IsNoHexField`).
     ensures { IfOk result (λ is_field. MatchBool is_field
         ((datagram : List ℕ) × IsHexField field.now datagram
         × FeedsOneDatagram dump.old datagram dump.new)
@@ -91,7 +86,6 @@ fn feed_field(dump: &mut ReadDump, bytes: &mut Vec<u8>, field: &[u8]) -> Result<
 
 /// Feeds a datagram to the dump. A dump that has ended is unchanged.
 fn feed_datagram(dump: &mut ReadDump, datagram: &[u8]) -> Result<(), AllocError>
-    // `FeedsOneDatagram old datagram new`: `new` has read what `old` has read, and this datagram.
     ensures { OnOk result (FeedsOneDatagram dump.old datagram.now dump.new) }
 {
     if is_reading(dump) {
@@ -112,7 +106,6 @@ fn is_reading(dump: &ReadDump) -> bool
 /// not have ended.
 fn feed_messages(dump: &mut ReadDump, datagram: &[u8]) -> Result<(), AllocError>
     requires { dump.old.end ≡ Ok Reading }
-    // `FeedsOneDatagram old datagram new`: `new` has read what `old` has read, and this datagram.
     ensures { OnOk result (FeedsOneDatagram dump.old datagram.now dump.new) }
 {
     for item in DumpViews::new(datagram) {
@@ -146,8 +139,6 @@ fn feed_messages(dump: &mut ReadDump, datagram: &[u8]) -> Result<(), AllocError>
 /// Serializes a message and adds it to the dump. If this message or an earlier one is not writable,
 /// it is not serialized, and `is_writable` is false then.
 fn push_message(dump: &mut ReadDump, message: &SockDiagView<'_>) -> Result<(), AllocError>
-    // `AppendsMessage old message new`: `new` has the end and the messages of `old`, and then this
-    // message. `message_view_model`: the borrowed message, with its bytes as lists.
     ensures { OnOk result (AppendsMessage dump.old (message_view_model message.now) dump.new) }
 {
     if !dump.is_writable {
@@ -169,7 +160,6 @@ fn push_bytes(
     message: &SockDiagView<'_>,
     len: usize,
 ) -> Result<(), AllocError>
-    // `message_view_model`: the borrowed message, with its bytes as lists.
     requires writable { message_codec.is_writable (message_view_model message.now) }
     requires len { len ≡ length (message_codec.serialized (message_view_model message.now)) }
     ensures { OnOk result (bytes.new.items ≡ bytes.old.items
@@ -183,8 +173,6 @@ fn push_bytes(
 /// Appends `ok`, the state of the dump, the number of its messages and the bytes of each, or
 /// `unwritable`.
 pub(crate) fn push_dump(text: &mut Vec<u8>, dump: &ReadDump) -> Result<(), AllocError>
-    // Some bytes were appended (`AppendsSome old new Holds`), which answer the dump
-    // (`AnswersDump dump text`).
     ensures { OnOk result (AppendsSome text.old.items text.new.items (AnswersDump dump.now)) }
 {
     if !dump.is_writable {
@@ -200,8 +188,6 @@ pub(crate) fn push_dump(text: &mut Vec<u8>, dump: &ReadDump) -> Result<(), Alloc
 /// Appends a space and the bytes as a hex field, for each message. `bytes` are the bytes of all
 /// messages, which have these lengths.
 fn push_messages(text: &mut Vec<u8>, lengths: &[usize], bytes: &[u8]) -> Result<(), AllocError>
-    // `texts_in lengths bytes`: a space and a hex field for each part, if the bytes are split into
-    // parts of these lengths.
     ensures { OnOk result (text.new.items ≡ text.old.items ++ texts_in lengths.now bytes.now) }
 {
     // A space for each message, two digits for each byte, and the line feed after the answer. If
@@ -222,8 +208,6 @@ fn push_messages(text: &mut Vec<u8>, lengths: &[usize], bytes: &[u8]) -> Result<
 
 /// Appends the name of the state, or `failed:` and the code of the error.
 fn push_end(text: &mut Vec<u8>, dump: &ReadDump) -> Result<(), AllocError>
-    // `shown_end dump`: the end of the dump, its state or its error. `dump_state_text end`: the
-    // text of this end.
     ensures { OnOk result (text.new.items
         ≡ text.old.items ++ dump_state_text (shown_end dump.now)) }
 {
@@ -238,8 +222,7 @@ fn push_end(text: &mut Vec<u8>, dump: &ReadDump) -> Result<(), AllocError>
 
 /// Returns the name of a state.
 fn name_of_dump_state(state: DumpState) -> &'static [u8]
-    // `dump_state_text end`: the text of an end, here of this state and an error number. The text
-    // does not show the number, so that this holds for any.
+    // The text does not show the error number, so that this holds for any.
     ensures { (number : Option ℤ) → result.now ≡ dump_state_text (Ok (state, number)) }
 {
     match state {

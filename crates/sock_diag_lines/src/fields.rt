@@ -12,9 +12,7 @@ use std::alloc::AllocError;
 
 /// Returns the offset of the first space, or `None` if there is none.
 pub(crate) fn find_space(line: &[u8]) -> Option<usize>
-    // `None`: the line, split at its spaces (`slice_split is_space`), is one field.
-    // `IsFirstSpace line offset`: the first space is at this offset, and ends the first field of
-    // the line.
+    // `None`: the line, split at its spaces, is one field.
     ensures { MatchOption result (slice_split is_space line.now ≡ line.now ∷ [])
         (IsFirstSpace line.now) }
 {
@@ -26,9 +24,6 @@ pub(crate) fn find_space(line: &[u8]) -> Option<usize>
 /// fails.
 #[tactic(auto, using(crate::proofs::FieldLists::empty_is_no_hex_field))]
 pub(crate) fn read_field(bytes: &mut Vec<u8>, field: &[u8]) -> Result<bool, AllocError>
-    // If true, the field is the hex field of the new content (`IsHexField field bytes`): `-` for no
-    // bytes, or two hex digits for each byte. If false, it is not the hex field of any bytes
-    // (`IsNoHexField field`).
     ensures { IfOk result (λ is_field. MatchBool is_field (IsHexField field.now bytes.new.items)
         (IsNoHexField field.now)) }
 {

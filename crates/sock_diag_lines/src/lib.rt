@@ -87,8 +87,6 @@ pub fn run_to_status<R: PromptRead, W: Sink, E: Sink>(
 /// Returns the exit status of a run: 1 if it failed, 3 if `is_strict` and an answer is not good,
 /// else 0.
 fn exit_code(outcome: &Result<bool, RunError>, is_strict: bool) -> ExitCode
-    // `exit_status code`: the number of an `ExitCode`. `exit_status_of is_strict outcome`: 0, 1 or
-    // 3, as described above.
     ensures { exit_status result ≡ exit_status_of is_strict outcome.now }
 {
     match outcome {

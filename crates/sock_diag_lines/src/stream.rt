@@ -24,13 +24,10 @@ struct Protocol;
 impl LineAnswers for Protocol {
     type Request = LineRequest;
 
-    // `IsAnswerOf line text`: the text answers the line.
     ghost is_answer = { IsAnswerOf };
 
-    // `IsParsedAs line request bytes`: the line has this request, and these bytes in its field.
     ghost parses_as = { IsParsedAs };
 
-    // `is_good text`: the answer starts with `ok`, and is not that of a dump that failed.
     ghost good = { is_good };
 
     fn read_request(
@@ -75,15 +72,12 @@ fn is_good(answer: &[u8]) -> bool
 /// repeated; no contract states this.
 pub fn run<R: Read, W: Write>(alloc: Global, input: &mut R, output: &mut W) -> Result<(), RunError>
     // If the run succeeds, no bytes of the reader are left, if these are known, and the answers to
-    // all lines have been written (`WritesAllAnswers left held held'`). `R.remaining reader`: the
-    // bytes that are left to read, if they are known. `W.contents writer`: the bytes that have been
-    // written, if they are known.
+    // all lines have been written.
     ensures ended { OnOk result (IsAtEnd (R.remaining input.new)) }
     ensures complete { OnOk result (WritesAllAnswers (R.remaining input.old)
         (W.contents output.old) (W.contents output.new)) }
-    // There is an outcome of the run: whether each answer is good, or the failure.
-    // `RunEnds streams outcome`: what was read and written for this outcome. The result is the
-    // outcome, without the `bool`.
+    // There is an outcome of the run: whether each answer is good, or the failure. The result is
+    // the outcome, without the `bool`.
     ensures answered { (outcome : Result Bool RunError)
         × RunEnds (record {
           left_before = R.remaining input.old;
@@ -105,17 +99,13 @@ pub(crate) fn answer_all<R: PromptRead, W: Sink>(
     input: &mut R,
     output: &mut W,
 ) -> Result<bool, RunError>
-    // `R.reads reader n`: `n` reads were made, here none.
     requires start { R.reads input.old 0 }
-    // If the run succeeds, no bytes are left to read, if it is known which are left (`R.left`). The
-    // answers to all lines have been written (`WritesAllAnswers left held held'`), if it was known
-    // what was left to read. `W.held`: the bytes that have been written, if they are known.
+    // If the run succeeds, no bytes are left to read, if it is known which are left. The answers to
+    // all lines have been written, if it was known what was left to read.
     ensures ended { OnOk result (IsAtEnd (R.left input.new)) }
     ensures complete { OnOk result
         (WritesAllAnswers (R.left input.old) (W.held output.old) (W.held output.new)) }
-    // If the run succeeds, the last call on `output` was a flush that succeeded.
     ensures flushed { OnOk result (W.flushed output.new) }
-    // `RunEnds streams outcome`: what was read and written for this outcome.
     ensures answered { RunEnds (record {
       left_before = R.left input.old;
       left_after = R.left input.new;
@@ -135,11 +125,7 @@ pub(crate) fn answer_all<R: PromptRead, W: Sink>(
 /// Writes the line that names the failure, if the run failed. If a write fails, a prefix of it has
 /// been written.
 pub(crate) fn report<E: Sink>(errors: &mut E, outcome: &Result<bool, RunError>)
-    // If the run succeeded, nothing was written. `E.held`: the bytes that have been written, if
-    // they are known. `Keeps old new`: they are unchanged.
     ensures silent { OnOk outcome.now (Keeps (E.held errors.old) (E.held errors.new)) }
-    // If it failed with `e`, the line (`failure_line e`) was written, or a prefix of it if a write
-    // failed, with some error (`E.failed`). `WritesAllOrFails held held' failed text` says this.
     ensures reported { IfErr outcome.now
         (λ e. WritesAllOrFails (E.held errors.old) (E.held errors.new)
         ((error : WriteError) × E.failed errors.new error) (failure_line e)) }

@@ -20,9 +20,6 @@ use std::alloc::AllocError;
 
 /// Appends `ok` and thirteen values of the reply, or `refused` and the code of the error.
 pub(crate) fn push_view(text: &mut Vec<u8>, bytes: &[u8]) -> Result<(), AllocError>
-    // Some bytes were appended (`AppendsSome old new Holds`), which answer `bytes`, as these are
-    // parsed and shown under the name `unixview` (`IsAnswerUnder answers bytes text`).
-    // `codec_of_name name`: how they are parsed and shown.
     ensures { OnOk result (AppendsSome text.old.items text.new.items
         (IsAnswerUnder (codec_of_name UnixView) bytes.now)) }
 {
@@ -34,8 +31,6 @@ pub(crate) fn push_view(text: &mut Vec<u8>, bytes: &[u8]) -> Result<(), AllocErr
 
 /// Appends `ok` and the values of a reply.
 fn push_reply(text: &mut Vec<u8>, view: &UnixResponseView<'_>) -> Result<(), AllocError>
-    // `reply_text reply`: the thirteen values, separated by spaces. `ok_text text`: `ok `, and then
-    // this text.
     ensures { OnOk result (text.new.items ≡ text.old.items
         ++ ok_text (reply_text (view_model view.now))) }
 {
@@ -49,7 +44,6 @@ fn push_reply(text: &mut Vec<u8>, view: &UnixResponseView<'_>) -> Result<(), All
 /// Appends the peer, the name, the pending connections and the directions that are shut down, each
 /// after a space, or ` none` for one that the reply does not have.
 fn push_details(text: &mut Vec<u8>, view: &UnixResponseView<'_>) -> Result<(), AllocError>
-    // `with_socket_details text reply`: the text, and then these four values.
     ensures { OnOk result (text.new.items
         ≡ with_socket_details text.old.items (view_model view.now)) }
 {
@@ -62,7 +56,6 @@ fn push_details(text: &mut Vec<u8>, view: &UnixResponseView<'_>) -> Result<(), A
 /// Appends the queue lengths: two values of a listening socket, then two values of any other
 /// socket. Each is after a space. Two of the four are always ` none`.
 fn push_queues(text: &mut Vec<u8>, view: &UnixResponseView<'_>) -> Result<(), AllocError>
-    // `with_queues text reply`: the text, and then these four values.
     ensures { OnOk result (text.new.items ≡ with_queues text.old.items (view_model view.now)) }
 {
     push_optional_number(text, view.number_of_pending_connection())?;
@@ -74,7 +67,6 @@ fn push_queues(text: &mut Vec<u8>, view: &UnixResponseView<'_>) -> Result<(), Al
 /// Appends two values of the socket's memory, `SK_MEMINFO_SNDBUF` and `SK_MEMINFO_WMEM_QUEUED`,
 /// each after a space, or ` none` if the reply does not have them.
 fn push_memory(text: &mut Vec<u8>, view: &UnixResponseView<'_>) -> Result<(), AllocError>
-    // `with_memory text reply`: the text, and then these two values.
     ensures { OnOk result (text.new.items ≡ with_memory text.old.items (view_model view.now)) }
 {
     push_optional_number(text, view.max_datagram_size())?;
