@@ -150,7 +150,6 @@ pub fn emit_values<T: FamilyNla>(nlas: &[T], buffer: &mut [u8])
         ≤ length buffer.old }
     ensures written { HoldsAtStart (flat_map attribute_bytes (map (encode_attribute T.attribute_set)
         (map T.model nlas.now))) buffer.old buffer.new }
-    // This is so for all Rust values; the codec laws require it.
     ensures in_range { AllByRecursion (IsInRangeIn T.attribute_set) (map T.model nlas.now) }
 {
     emit_nlas(nlas, buffer);
