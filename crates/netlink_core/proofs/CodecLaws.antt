@@ -19,9 +19,12 @@ module _ {Param : Type 0} (C : Codec Param) (b : List ℕ) (p : Param) where
   only_result one_value exclusive one_error not_memory (inl (v, parsed)) =
       inl (v, (parsed, λ w also. one_value w v also parsed), λ e. exclusive v e parsed)
   only_result one_value exclusive one_error not_memory (inr (e, rejected)) =
-      inr (e, (rejected, λ f also. one_error f e also rejected),
-      λ is_memory. not_memory (subst (λ (f : DecodeError). C.rejects b p f) is_memory rejected),
-      λ v parsed. exclusive v e parsed rejected)
+      inr (
+        e,
+        (rejected, λ f also. one_error f e also rejected),
+        λ is_memory. not_memory (subst (λ (f : DecodeError). C.rejects b p f) is_memory rejected),
+        λ v parsed. exclusive v e parsed rejected,
+      )
 
   -- of one result: the values are equal
   pub equal_values : HasOneResult C b p → (v w : C.Value) → C.parses b p v → C.parses b p w → v ≡ w
@@ -102,14 +105,14 @@ module _ {Param : Type 0} (C : Codec Param) (laws : KeepsCodecLaws C) where
       let (in_range, normal) = laws.parsed_is_normal b p v b_bytes parsed in
       let form_bytes = subst IsBytes (sym is) (laws.serialized_in_range v in_range) in
       let form_parsed = subst (λ (c : List ℕ). C.parses c p v) (sym is)
-          (laws.round_trips p v in_range normal writable) in (
+      (laws.round_trips p v in_range normal writable) in (
         form_bytes,
         (laws.equal_iff_equivalent b form p v v b_bytes form_bytes parsed form_parsed).0 refl,
         (v, form_parsed, writable, is),
       )
 
-  -- if a canonical form is returned, other bytes with a canonical form have the same one if and only
-  -- if they are equivalent
+  -- if a canonical form is returned, other bytes with a canonical form have the same one if and
+  -- only if they are equivalent
   pub returned_form_is_shared : {W E : Type 0} (items : W → List ℕ) (returned : Result W E)
       (b : List ℕ) (p : Param) → IsBytes b
       → IfOk returned (λ form. HasCanonicalForm C p b (items form))

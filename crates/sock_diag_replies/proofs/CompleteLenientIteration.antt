@@ -66,7 +66,8 @@ module _ (F : AttributeSet) where
   item_of_decoded_attribute a item same (Err e) h ok = absurd cc
 
   -- An attribute whose item is a value decodes to this value.
-  pub attribute_of_decoded_item : (a : Attribute) (v : AttributeValue F) → Ok v ≡ lenient_item_of F a
+  pub attribute_of_decoded_item : (a : Attribute) (v : AttributeValue F)
+      → Ok v ≡ lenient_item_of F a
       → (answer : Result (AttributeValue F) DecodeError) → decode_attribute F a ≡ answer
       → decode_attribute F a ≡ Ok v
   attribute_of_decoded_item a v same (Ok w) h = let t = rw h at same in cc

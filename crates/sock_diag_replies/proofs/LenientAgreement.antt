@@ -1,13 +1,13 @@
 -- Lenient parsing agrees with strict parsing.
-use Rattle.std.proofs.Common.{◌≡◌, ◌≢◌, ◌∙◌, ◌↔◌, ◌⊎◌, ℕ, List, [], ◌∷◌, inl, inr, refl, sym, ap}
+use Rattle.std.proofs.Common.{◌≡◌, ◌∙◌, ◌↔◌, ◌⊎◌, ℕ, List, [], ◌∷◌, inl, inr, refl, sym, ap}
 use Rattle.std.proofs.Common.{subst, Option, Some, None, Result, Ok, Err, drop}
 use Rattle.std.specs.Prelude.{map}
 use Rattle.netlink_core.specs.Attribute.{Attribute, DecodeTo, HasAttributeError, IsFramingError}
-use Rattle.netlink_core.specs.Attribute.{SplitsIntoAttributes, StartsWithAttribute}
+use Rattle.netlink_core.specs.Attribute.{StartsWithAttribute}
 use Rattle.netlink_core.specs.AttributeSet.{AttributeSet, AttributeValue, decode_attribute}
 use Rattle.netlink_core.specs.Bytes.{IsBytes}
 use Rattle.netlink_core.specs.Codec.{IsOnly}
-use Rattle.netlink_core.specs.Response.{ResponseSpec, ReplyValue, response_codec}
+use Rattle.netlink_core.specs.Response.{ResponseSpec, response_codec}
 use Rattle.netlink_core.specs.declared.error.DecodeError.{DecodeError}
 use Rattle.netlink_core.proofs.TableLaws.{AreBytes-drop}
 use Rattle.netlink_core.proofs.Iterating.{StartsWithAttribute-nonempty, attribute_prefix_of_start}
@@ -17,7 +17,7 @@ use Rattle.netlink_core.proofs.Splitting.{one_error_of_attributes}
 use Rattle.attribute_lists.proofs.Finding.{decoded_values_are_found}
 use Rattle.sock_diag_replies.specs.Lenient.{HasLenientItems, HasLenientReply, LenientValue}
 use Rattle.sock_diag_replies.specs.Lenient.{LenientAgreesWithStrict, RejectionModel}
-use Rattle.sock_diag_replies.specs.Lenient.{first_rejection, framing_rejection, lenient_item_of}
+use Rattle.sock_diag_replies.specs.Lenient.{first_rejection, lenient_item_of}
 use Rattle.sock_diag_replies.proofs.CompleteLenientIteration.{attribute_of_decoded_item}
 use Rattle.sock_diag_replies.proofs.OneLenientIteration.{EndsWith, first_and_others, items_of}
 use Rattle.sock_diag_replies.proofs.OneLenientIteration.{split_of_items, one_list_of_items}
@@ -48,8 +48,7 @@ module _ (F : AttributeSet) where
       let first = first_and_others bytes a others end ends in
       let head : Ok v ≡ lenient_item_of F a = cc same in
       let tail : items_of F others end ≡ map Ok values = cc same in
-      let later = values_decode first.0 others end values first.2 tail in
-      (
+      let later = values_decode first.0 others end values first.2 tail in (
         a ∷ later.0,
         (first.0, first.1, later.1),
         (attribute_of_decoded_item F a v head (decode_attribute F a) refl, later.2),
@@ -77,9 +76,11 @@ module _ (F : AttributeSet) where
       → HasAttributeError (decode_attribute F) bytes e
   rejection_is_error bytes [] None e ends is = absurd cc
   rejection_is_error bytes [] (Some f) e (rest, split, some, error) is =
-      let same : f ≡ e = cc is in
-      ([], (rest, split, some, inl (subst (λ (g : DecodeError). IsFramingError rest g) same error)),
-      tt)
+      let same : f ≡ e = cc is in (
+        [],
+        (rest, split, some, inl (subst (λ (g : DecodeError). IsFramingError rest g) same error)),
+        tt,
+      )
   rejection_is_error bytes (a ∷ others) end e ends is =
       let first = first_and_others bytes a others end ends in
       first_attribute_error bytes first.0 a (items_of F others end) e (decode_attribute F a) first.1
@@ -147,8 +148,10 @@ module _ (F : AttributeSet) where
     | inl (values, (attributes, split, same)) ↦
         (items_of F attributes None, (attributes, inl (split, refl)))
     | inr (e, (attributes, (rest, split, some, error), good)) ↦ elim error [
-      | inl framing ↦ (items_of F attributes (Some e),
-          (attributes, inr (e, (rest, split, some, framing), refl)))
+      | inl framing ↦ (
+        items_of F attributes (Some e),
+        (attributes, inr (e, (rest, split, some, framing), refl)),
+      )
       | inr (a, prefix, wrong) ↦ absurd cc
     ]
   ]

@@ -73,7 +73,7 @@ pub fn lenient_walk_of_good_bytes<'a, V: FamilyView<'a>>()
 /// IPv6 sockets: a strict parser accepts bytes if and only if no item of a lenient reply is
 /// rejected, and then both have the same values. Otherwise its error is that of the header, or of
 /// the first rejected item.
-pub fn lenient_parsing_agrees_with_strict_parsing()
+pub fn lenient_agrees_with_strict()
     ensures unix { LenientAgreesWithStrict unix_response_spec }
     ensures inet { LenientAgreesWithStrict inet_response_spec }
 {}

@@ -1,7 +1,7 @@
 use Rattle.sock_diag_replies.specs.InetResponseSpec.{inet_response_spec}
 use Rattle.sock_diag_replies.specs.UnixResponseSpec.{unix_response_spec}
 use Rattle.sock_diag_replies.proofs.LenientAgreement.{lenient_agrees}
-use Rattle.sock_diag_replies.proofs.lenient.laws.lenient_parsing_agrees_with_strict_parsing.Goals as goal
+use Rattle.sock_diag_replies.proofs.lenient.laws.lenient_agrees_with_strict.Goals as goal
 
 pub returns : goal.returns
 returns c = record {
