@@ -33,6 +33,7 @@ import os
 import re
 import subprocess
 import sys
+from functools import cache
 from pathlib import Path
 
 ROOT = Path(__file__).resolve().parent.parent / "crates"
@@ -130,6 +131,7 @@ class Item:
         text = "\n".join(self.lines)
         return re.split(rf"(?m)^ {{{self.indent}}}{re.escape(self.name)}(?=\s)", text)[0]
 
+    @cache
     def result(self):
         """Returns the type after the last arrow that is outside of brackets."""
         head, depth, start = self.head(), 0, 0
@@ -187,6 +189,14 @@ class Module:
                        for part in it.labels()} | self.items
         full_name = f"Rattle.{self.name}"
         self.names = imports(text) | {thing: (full_name, thing) for thing in self.things}
+
+    def text_of(self, item):
+        """Returns the text of an item and of the module heads around it, without comments and line
+        breaks, followed by what each of its names refers to."""
+        lines = [line for one in [*item.heads, item] for line in one.lines]
+        named = {path.split(".")[0] for path in paths_in("\n".join(lines))}
+        lines += [f"{name} {self.names[name]}" for name in sorted(named & self.names.keys())]
+        return " ".join(" ".join(lines).split())
 
 
 class Source:
@@ -369,6 +379,12 @@ class Specs:
                 for other in one.paths():
                     self.reach(other, module.names, one)
 
+    def reached(self, crates):
+        """Yields each reached item of these crates, with its module."""
+        for module in self.modules.values():
+            if module.name.split(".")[0] in crates:
+                yield from ((module, item) for item in module.items.values() if item.reached)
+
 
 class Outline:
     """The definitions that one contract depends on. Those in the crates `ends` are not followed."""
@@ -434,8 +450,7 @@ def misplaced(specs):
 def sums(specs, crates):
     """Returns the number of reached definitions in specs/ of these crates, and the numbers of their
     lines and of their tokens."""
-    reached = [item for module in specs.modules.values() for item in module.items.values()
-               if item.reached and ".specs." in module.name and module.name.split(".")[0] in crates]
+    reached = [item for module, item in specs.reached(crates) if ".specs." in module.name]
     lines = [line for item in reached for line in item.lines]
     tokens = sum(len(TOKEN.findall(line)) for line in lines)
     definitions = sum(item.kind != "module" for item in reached)
@@ -489,19 +504,23 @@ def print_of(path):
     return 0
 
 
-def print_all():
-    """Prints all definitions that must be believed, and their numbers."""
+def follow_promises():
+    """Returns all sources, and all modules, in which what the promises reach is marked."""
     specs, files = Specs(), sources()
     for source in files:
         for path, names in source.roots(source.promises()):
             specs.reach(path, names)
-    for module in specs.modules.values():
-        for item in module.items.values():
-            if item.reached and module.name.split(".")[0] in CRATES:
-                name = item.name
-                if item.kind == "module":
-                    name = f"not a definition, arguments of those below: {item.lines[0].strip()}"
-                print(f"{module.name}: {name}, {len(item.lines)}, {item.comment}")
+    return files, specs
+
+
+def print_all():
+    """Prints all definitions that must be believed, and their numbers."""
+    files, specs = follow_promises()
+    for module, item in specs.reached(CRATES):
+        name = item.name
+        if item.kind == "module":
+            name = f"not a definition, arguments of those below: {item.lines[0].strip()}"
+        print(f"{module.name}: {name}, {len(item.lines)}, {item.comment}")
     members = {name for source in files for _, name, is_impl in source.ghosts() if is_impl}
     print(f"members of impls that name definitions: {', '.join(sorted(members))}")
     for title, crates in (("the port", PORT), ("the program sockdiag", PROGRAM),

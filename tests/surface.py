@@ -24,7 +24,9 @@ The lists have
 
 A line ends with the names of the clauses, ghost members and invariants, and with a sum of their
 text, without comments, and of the imports that rename by `as` what the text names. So a contract
-that changes is a difference. The sum does not cover the definitions that the text names.
+that changes is a difference. Each definition that a promise reaches, by the rules of believed.py,
+has a line too, with its module, its name and a sum of its text and of what its names refer to. So a
+definition that becomes weaker is a difference, if no contract that names it changes.
 """
 
 import difflib
@@ -33,6 +35,8 @@ import re
 import sys
 from itertools import accumulate, islice
 from pathlib import Path
+
+import believed
 
 TOP = Path(__file__).resolve().parent.parent
 # Comments, string literals, character literals, words, blanks, and other single characters.
@@ -178,6 +182,11 @@ def items(tokens, module):
         at = end + 1
 
 
+def short_sum(text):
+    """Returns the sum of a text as a list has it."""
+    return hashlib.sha256(text.encode()).hexdigest()[:8]
+
+
 def sum_of(contract, module):
     """Returns the names in a contract and the sum of its text, to be appended to a line."""
     names, whole = {}, " ".join(text for _, _, text in contract)
@@ -186,7 +195,7 @@ def sum_of(contract, module):
     text = "".join(f"; {kind} {', '.join(them)}" for kind, them in names.items())
     words = {*re.findall(r"\w+", whole)}
     whole += "".join(f"{name} {path}" for name, path in sorted(module.given) if name in words)
-    return text + f"; {hashlib.sha256(whole.encode()).hexdigest()[:8]}" if contract else ""
+    return text + f"; {short_sum(whole)}" if contract else ""
 
 
 class Module:
@@ -386,6 +395,14 @@ def facts_of(item):
     return text + "".join(f"; {it}" for it in item.attributes if not QUIET.match(it))
 
 
+def definition_lines():
+    """Yields the line of each definition that a promise reaches."""
+    _, specs = believed.follow_promises()
+    for module, item in specs.reached(believed.CRATES + believed.OTHERS):
+        if item.kind != "module":
+            yield f"{module.name}: {item.name}; {short_sum(module.text_of(item))}"
+
+
 def header_lines(text, contracts):
     """Yields the lines of the C header. The functions have the contracts of the crate."""
     text = re.sub(r"/\*.*?\*/", "", text, flags=re.S)
@@ -426,7 +443,7 @@ def main():
     contracts = {it.name: sum_of([*it.contract()], it.module) for it in exports}
     header = (TOP / "include/sockdiag.h").read_text(encoding="utf-8")
     lists = {
-        "surface.txt": [line for crate in crates for line in crate.lines],
+        "surface.txt": [*definition_lines(), *(line for crate in crates for line in crate.lines)],
         "surface_c.txt": header_lines(header, contracts),
         "surface_rust.txt": Surface(TOP / "rust/sockdiag", ".rs").lines,
     }
