@@ -1,8 +1,11 @@
 #!/usr/bin/env python3
-"""Refuses two changes that no proof and no list of public items shows:
+"""Refuses three changes that no proof and no list of public items shows:
 
 - an import that gives an item the name of another one. `use a::{X as Y, Y as X}` exchanges two
   constants in a body and in its clauses at once, so it is proved;
+- a private constant with the name of a public item of its crate or of a crate that it uses. In
+  place of an import it changes a body and its clauses at once, so it is proved. It is allowed if
+  `specs/laws/Constants.antt` of its crate states its number;
 - in crates.txt a dependency that is neither a crate above it nor in the lines `# kit:` there. No
   clause excludes a side effect, such as a call of `libc::write`.
 """
@@ -12,6 +15,8 @@ import sys
 from collections import defaultdict
 from pathlib import Path
 
+from surface import Item, Surface, libraries
+
 TOP = Path(__file__).resolve().parent.parent
 COMMENT = re.compile(r"//.*|^\s*--.*", re.M)
 # An import of Rattle, and one of a specification, which ends with a brace or the line.
@@ -19,6 +24,9 @@ IMPORTS = {
     ".rt": re.compile(r"^\s*(?:pub(?:\(.*?\))? )?(?:ghost )?use ([^;]*);", re.M),
     ".antt": re.compile(r"^use ([^{\n]*(?:\{[^}]*\})?.*)", re.M),
 }
+# In the laws about constants: the name of a module of constants, and a constant with its number.
+CONSTANTS = re.compile(r"^use Rattle\.([\w.]+)\.TheConstants as (\w+)", re.M)
+NUMBER = re.compile(r"\b(\w+)\.(\w+) ≡ \d")
 # The name of an item or a definition, and the name of a variant, which is indented.
 DECLARED = re.compile(
     r"^(?:(?:pub(?:\(.*?\))?|abbrev|record|data|unsafe|extern \"C\"|const|static|fn|struct|enum"
@@ -64,6 +72,30 @@ def renamed(crates):
             yield f"{path}: gives {name} of {crate} the name of another item, {given}"
 
 
+def stated(crate):
+    """Returns the module and the name of each constant whose number a law of the crate states."""
+    path = TOP / "crates" / crate / "specs/laws/Constants.antt"
+    text = COMMENT.sub("", path.read_text(encoding="utf-8")) if path.exists() else ""
+    modules = {alias: of.replace("specs.declared.", "") for of, alias in CONSTANTS.findall(text)}
+    return {(modules.get(alias), name) for alias, name in NUMBER.findall(text)}
+
+
+def shadowing(crates):
+    """Yields the constants that no user reaches, with the name of an item that users of their crate
+    reach, or users of a crate that it uses."""
+    surfaces = {crate: Surface(TOP / "crates" / crate) for crate in libraries()}
+    reached = {crate: {it.name for it in surface.paths if isinstance(it, Item)}
+        for crate, surface in surfaces.items()}
+    for crate, surface in surfaces.items():
+        numbers = stated(crate)
+        names = reached[crate].union(*(reached.get(used, ()) for used in crates[crate]))
+        for module in surface.root.all():
+            own = {(module.path.replace("::", "."), name) for name, item in module.items.items()
+                if item.kind in ("const", "static") and item not in surface.paths}
+            yield from (f"{path}: {name} is the name of a public item, and no law states its number"
+                for path, name in sorted(own - numbers) if name in names)
+
+
 def unlisted(crates, kit):
     """Yields the dependencies that are neither crates in lines above nor listed."""
     above = set(kit)
@@ -77,7 +109,7 @@ def main():
     found = re.findall(r"^(\w+)[\w ]*:(.*)$", text, re.M)
     crates = {name: used.split() for name, used in found}
     kit = [name for line in re.findall(r"^# kit:(.*)$", text, re.M) for name in line.split()]
-    wrong = [*renamed(crates), *unlisted(crates, kit)]
+    wrong = [*renamed(crates), *shadowing(crates), *unlisted(crates, kit)]
     print(*wrong, f"tests/imports.py: {len(wrong)} errors", sep="\n")
     return 1 if wrong else 0
 
