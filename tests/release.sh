@@ -4,14 +4,17 @@
 #
 # - tests/release.txt lists the members of each archive and package in order, with modes, owners and
 #   times, and the files that tools/install installs. --write writes a new list.
-# - Two copies at different paths, with other times and modes, are packed to the same bytes.
+# - Two copies at different paths, with other times and modes, are packed to the same bytes, also
+#   with another umask and locale, and variables that gzip, tar and dpkg-deb read. A link at the
+#   path of an archive is replaced. CDPATH has no effect.
 # - The command of INSTALL.md unpacks the archive of proof results over the sources, and changes no
 #   file of them.
 # - The archive for users and the packages have no broken link. The archive's examples in C and Rust
 #   can be built, but not with a library of another version, and its Rust crate can be packaged.
 # - lintian reports no error and no warning for the packages, with and without a maintainer.
 # - The packages can be installed into another root and removed from it (skipped without root).
-# - tools/pack fails if a file or the date of the version is missing.
+# - tools/pack fails, and leaves no file, if a file or the date of the version is missing, or the
+#   time or the maintainer's address is wrong.
 # - tools/release packs what a gate left that is made here, with --proofs also the results of an rt
 #   that is made here. It refuses an rt of another logic, an edit that is not rejected, and a gate
 #   that left too little, or whose sources changed.
@@ -84,11 +87,21 @@ pack() {
     "$1/tools/pack" built "$2" netlink_core program_streams >/dev/null
 }
 
+# With this CDPATH, these cd would lead into other folders.
+mkdir -p other_top/tools other_top/one/tools other_top/crates/low other_top/crates/checked
 export SOURCE_DATE_EPOCH=86400
-(cd one && tools/pack ../built - netlink_core program_streams >/dev/null)
+(cd one && CDPATH=$work/other_top tools/pack ../built - netlink_core program_streams >/dev/null)
 mv one/- first
-TZ=Asia/Tokyo pack 'elsewhere/a tree' second
+# A locale by which sort orders the names in another way.
+localedef -i en_US -f UTF-8 ./en_US.UTF-8 2>said || echo "release.sh: skipped: no locale en_US" >&2
+mkdir second
+echo unchanged >unchanged
+ln -s "$work/unchanged" "second/$users.tar.gz"
+(umask 077 && export LOCPATH="$work" LC_ALL=en_US.UTF-8 TZ=Asia/Tokyo GZIP=-1 \
+    TAR_OPTIONS=--exclude=docs DPKG_DEB_COMPRESSOR_LEVEL=1 DPKG_DEB_COMPRESSOR_TYPE=none_such &&
+    pack 'elsewhere/a tree' second)
 diff -r first second || fail "two trees are not packed to the same bytes"
+[ "$(cat unchanged)" = unchanged ] || fail "the file of a link is changed"
 (cd first && cat ./*.sha256 | sha256sum -c --quiet) || fail "a sum is wrong"
 
 # The sources, with an archive and without proof results.
@@ -238,6 +251,8 @@ done
 echo library >one/crates/sockdiag_c/out/libsockdiag_c.a
 echo 12 >one/LOGIC
 echo out/ >one/.gitignore
+# A file whose name is an option of find.
+touch one/-delete
 printf 'import os\nraise SystemExit(int(os.environ["EDITS"]))\n' >one/tests/edits.py
 chmod +x bin/rt
 git -C one init -q
@@ -249,7 +264,8 @@ touch one/out/gate-passed
 release() {
     logic=$1 edits=$2
     shift 2
-    KIT_LOGIC=$logic EDITS=$edits PATH="$work/bin:$PATH" one/tools/release "$@" >/dev/null
+    KIT_LOGIC=$logic EDITS=$edits PATH="$work/bin:$PATH" CDPATH=$work/other_top \
+        one/tools/release "$@" >/dev/null
 }
 # refuses WHAT LOGIC: fails if tools/release packs with a kit of this logic, or if what it says does
 # not contain WHAT.
@@ -268,7 +284,7 @@ for file in out/gate-passed crates/sslist/out/sslist crates/sockdiag_c/out/libso
     mv missing "one/$file"
 done
 touch -d '1 hour' one/crates.txt
-refuses 'run .ci/run again, since it began before this changed: crates.txt' 12
+refuses 'run .ci/run again, since it began before this changed: ./crates.txt' 12
 touch -d @86400 one/crates.txt
 git -C one add crates.txt
 mv one/crates.txt missing
@@ -289,9 +305,19 @@ done >built.txt
 printf 'built sockdiag\nbuilt sslist\nlibrary\n' | diff - built.txt ||
     fail "built files of a release"
 
+# packs_nothing WHAT STATUS: fails if tools/pack does not end with the status, or leaves a file.
+packs_nothing() {
+    status=0
+    pack one nothing 2>said || status=$?
+    [ $status -eq "$2" ] || fail "it packs $1: status $status, $(cat said)"
+    [ ! -d nothing ] || [ -z "$(ls -A nothing)" ] || fail "it leaves files: $1"
+}
+SOURCE_DATE_EPOCH=x packs_nothing 'with a wrong time' 2
+! has dpkg-deb || DEBEMAIL='a
+b' packs_nothing 'with a wrong address' 2
 mv one/docs/LINES.md one/docs/OTHER.md
-if pack one lacking 2>/dev/null; then fail "it packs without a page"; fi
+packs_nothing 'without a page' 1
 mv one/docs/OTHER.md one/docs/LINES.md
 echo '## [Unreleased]' >one/CHANGELOG.md
-if SOURCE_DATE_EPOCH='' pack one undated 2>said; then fail "it packs without a date"; fi
+SOURCE_DATE_EPOCH='' packs_nothing 'without a date' 1
 grep -q "no date of $version in CHANGELOG.md" said || fail "no date: $(cat said)"

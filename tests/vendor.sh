@@ -70,6 +70,11 @@ for words in '' --option 'one two'; do
 done
 [ -z "$(ls -A nothing)" ] || fail "wrong arguments: $(ls -A nothing)"
 
+# With CDPATH the shell's cd could lead into another folder.
+mkdir -p other/tools
+(cd from && CDPATH=$work/other tools/libraries netlink_packet_sock_diag) >listed || fail CDPATH
+printf 'netlink_core\nsock_diag_replies\n' | diff - listed || fail CDPATH
+
 { head -n 3 from/crates.txt; echo 'mine: netlink_core'; } >expected
 # The last target does not exist yet.
 for target in to to new; do
