@@ -141,7 +141,7 @@ members() {
         for package in first/*.deb; do
             dpkg-deb --fsys-tarfile "$package" | members "$package"
             dpkg-deb --ctrl-tarfile "$package" | members "control of $package"
-            dpkg-deb -f "$package" Package Version Architecture Depends
+            dpkg-deb -f "$package" Package Version Architecture Maintainer Section Priority Depends
         done
     fi
     for folder in staged prefix; do
@@ -198,6 +198,10 @@ if has dpkg-deb; then
         (cd tree && md5sum -c --quiet DEBIAN/md5sums) || fail "$package: a sum is wrong"
         [ "$(find tree/usr -type f | wc -l)" -eq "$(wc -l <tree/DEBIAN/md5sums)" ] ||
             fail "$package: a file has no sum"
+        size=$(find tree/usr -type f -exec du --apparent-size -k {} + |
+            awk '{ sum += $1 } END { print sum }')
+        [ "$(dpkg-deb -f "$package" Installed-Size)" = "$size" ] ||
+            fail "$package: the size in KiB is $size"
         python3 "$top/tests/tidy.py" --links tree || fail "$package has broken links"
         rm -r tree
     done
@@ -259,12 +263,15 @@ git -C one init -q
 mkdir one/out
 touch one/out/gate-passed
 
+# A C compiler that needs the option -O2, with which sockdump is compiled.
+printf '#!/bin/sh\ncase " $* " in *" -O2 "*) exec %s "$@" ;; esac\nexit 1\n' "${CC:-cc}" >bin/cc_O2
+chmod +x bin/cc_O2
 # release LOGIC EDITS ARGUMENT..: runs tools/release, with a kit of this logic, and with an edits.py
 # that has the exit status EDITS.
 release() {
     logic=$1 edits=$2
     shift 2
-    KIT_LOGIC=$logic EDITS=$edits PATH="$work/bin:$PATH" CDPATH=$work/other_top \
+    KIT_LOGIC=$logic EDITS=$edits PATH="$work/bin:$PATH" CC=cc_O2 CDPATH=$work/other_top \
         one/tools/release "$@" >/dev/null
 }
 # refuses WHAT LOGIC: fails if tools/release packs with a kit of this logic, or if what it says does
