@@ -5,7 +5,7 @@
 # INSTALL.md describes. Takes seconds, and needs no kit. Without a C compiler, make and pkg-config
 # it is skipped.
 set -eu
-cd "$(dirname -- "$0")/.."
+CDPATH='' cd -- "$(dirname -- "$0")/.."
 for command in "${CC:=cc}" make pkg-config; do
     command -v "$command" >/dev/null || { echo "skipped: tools/install: no $command"; exit 0; }
 done
@@ -57,7 +57,10 @@ grep -q '^usage: ' "$work/out" || fail "--help"
 fails 2 "an empty prefix" "$install" ''
 fails 2 "an unknown option" "$install" --prefix
 fails 2 "two prefixes" "$install" "$work/none" "$work/none"
-fails 2 "an absolute LIBDIR" env LIBDIR=/lib "$install" "$work/none"
+for folder in /lib .. ../lib lib/.. lib/../../lib; do
+    fails 2 "the LIBDIR $folder" env LIBDIR=$folder "$install" "$work/none"
+    fails 2 "--uninstall, $folder" env LIBDIR=$folder "$install" --uninstall "$work/none"
+done
 # Characters that would change the meaning of a line of sockdiag.pc.
 for character in '"' '#' '$' '(' ')' ':' "\\" '`' '
 ' "$(printf '\t')" ' /'; do
@@ -65,6 +68,7 @@ for character in '"' '#' '$' '(' ')' ':' "\\" '`' '
     fails 2 "the LIBDIR a${character}b" env "LIBDIR=a${character}b" "$install" "$work/none"
 done
 fails 1 "a compiler that fails" env CC=false "$install" "$work/none"
+fails 1 "no compiler" env CC="$work/none/cc" "$install" "$work/none"
 for signal in INT TERM HUP; do
     # shellcheck disable=SC2016
     printf '#!/bin/sh\nkill -%s $PPID\n' "$signal" >"$work/killer"
