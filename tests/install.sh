@@ -89,7 +89,7 @@ if nm -D "$prefix/lib/libsockdiag.so" | grep -q of_no_header; then
 fi
 grep -q "LD_LIBRARY_PATH=$prefix/lib" "$work/out" || fail "the hint for another folder"
 grep -q "PKG_CONFIG_PATH=$prefix/lib/pkgconfig" "$work/out" || fail "the hint for pkg-config"
-PKG_CONFIG_PATH="/none:$prefix/lib/pkgconfig" "$install" "$prefix" >"$work/out"
+PKG_CONFIG_PATH="/none:$prefix/lib/pkgconfig" "$install" "$prefix/" >"$work/out"
 if grep -q pkg-config "$work/out"; then fail "the hint for a folder of pkg-config"; fi
 [ "$(PKG_CONFIG_PATH="$prefix/lib/pkgconfig" pkg-config --modversion sockdiag)" = "$version" ] ||
     fail "the version that pkg-config prints"
@@ -124,6 +124,17 @@ mkdir "$work/blocked"
 touch "$work/blocked/share"
 if "$install" "$work/blocked" >"$work/out" 2>&1; then fail "it installs below a file"; fi
 [ "$(ls "$work/blocked")" = share ] || fail "files are installed beside a file"
+# Root can write in each folder.
+as_user=
+[ "$(id -u)" != 0 ] || as_user='setpriv --reuid=65534 --regid=65534 --clear-groups'
+chmod -R a+rX "$work"
+chmod 1777 "$TMPDIR"
+mkdir -m 777 "$work/sealed" "$work/sealed/include"
+mkdir -m 555 "$work/sealed/share"
+# shellcheck disable=SC2086
+fails 1 "a folder that cannot be written" $as_user "$install" "$work/sealed"
+grep -qF "cannot create a file in $work/sealed/share" "$work/out" || fail "$(cat "$work/out")"
+[ -z "$(find "$work/sealed" ! -type d)" ] || fail "files are installed beside a sealed folder"
 if "$install" --uninstall "$work/partial" >"$work/out" 2>&1; then
     fail "the status of --uninstall with a folder"
 fi
@@ -135,8 +146,19 @@ grep -qF "nothing was removed: $work/none has no file" "$work/out" || fail "$(ca
 mkdir "$work/commands"
 printf '#!/bin/sh\necho "%s/lib: (from a file)"\n' "$prefix" >"$work/commands/ldconfig"
 chmod +x "$work/commands/ldconfig"
-PATH="$work/commands:$PATH" "$install" "$prefix" | grep -q 'run ldconfig as root' ||
-    fail "the hint for a folder of the loader"
+PATH="$work/commands:$PATH" "$install" "$prefix" >"$work/out"
+grep -q 'run ldconfig as root' "$work/out" || fail "the hint for a folder of the loader"
+# That of the system is found though the folders of PATH lack it.
+ldconfig=$(PATH=/sbin:/usr/sbin command -v ldconfig)
+without=$(echo "$PATH" | tr : '\n' | grep -v '/sbin$' | paste -sd :)
+if unshare -rm mount --bind "$work/commands/ldconfig" "$ldconfig" 2>/dev/null; then
+    # shellcheck disable=SC2016
+    unshare -rm sh -c 'mount --bind "$1" "$2" && PATH=$3 && "$4" "$5"' - \
+        "$work/commands/ldconfig" "$ldconfig" "$without" "$install" "$prefix" >"$work/out"
+    grep -q 'run ldconfig as root' "$work/out" || fail "ldconfig is not found"
+else
+    echo "skipped: tools/install: unshare is not allowed to mount"
+fi
 
 # exported PREFIX: prints the functions that a shared library exports, with the version that added
 # them.
@@ -178,6 +200,15 @@ if LD_LIBRARY_PATH="$prefix/lib" "$work/new" 2>"$work/out"; then
 fi
 grep -q "SOCKDIAG_$next' not found" "$work/out" || fail "an older library: $(cat "$work/out")"
 
+# No shared library is made if a symbol is undefined, or a loader would have to write in its code.
+cp -R "$tree" "$work/faulty"
+for fault in 'call nowhere' 'movabs mine, %rax'; do
+    tests/stand_in.sh "$work/faulty/lib/libsockdiag.a"
+    printf '.globl mine\nmine: %s\nret\n' "$fault" | $CC -x assembler -c -o "$work/other.o" -
+    ar r "$work/faulty/lib/libsockdiag.a" "$work/other.o"
+    fails 1 "a library with $fault" "$work/faulty/tools/install" "$work/none"
+done
+
 count=$(find "$prefix" ! -type d | wc -l)
 "$install" --uninstall "$prefix" >"$work/out"
 [ -z "$(find "$prefix" ! -type d)" ] || fail "--uninstall"
@@ -198,6 +229,23 @@ cp "$work/commands/lib/libsockdiag.a" "$tree/crates/sockdiag_c/out/libsockdiag_c
 "$work/sources/bin/sockdump" --help | grep -q '^usage: sockdump' || fail "sockdump of the sources"
 SHARED=no CC=false "$install" "$work/without" >"$work/out" || fail "the sources without a compiler"
 [ ! -e "$work/without/bin" ] || fail "programs that are not built"
+# What is older than a source is not installed: the library is built again, which needs rt.
+mkdir -p "$tree/crates/sslist/out" "$tree/crates/sslist/specs"
+cp "$work/commands/bin/sslist" "$tree/crates/sslist/out"
+printf '#!/bin/sh\n[ "$*" = lib ] && touch -d "3 hours" out/libsockdiag_c.a\n' >"$work/commands/rt"
+chmod +x "$work/commands/rt"
+"$install" "$work/current" >"$work/out"
+[ -x "$work/current/bin/sslist" ] || fail "a program that is built: $(cat "$work/out")"
+for source in lib.rt specs/Sockets.antt; do
+    touch -d '1 hour' "$tree/crates/sslist/$source"
+    fails 1 "without rt" env PATH=/usr/bin:/bin "$install" "$work/none"
+    grep -q 'rt not found' "$work/out" || fail "without rt: $(cat "$work/out")"
+    PATH="$work/commands:$PATH" "$install" "$work/again" >"$work/out" 2>&1 ||
+        fail "an old library: $(cat "$work/out")"
+    [ ! -e "$work/again/bin/sslist" ] || fail "an old program is installed"
+    rm "$tree/crates/sslist/$source"
+    touch "$tree/crates/sockdiag_c/out/libsockdiag_c.a"
+done
 mv "$work/commands/bin" "$work/commands/lib" "$tree"
 rm -r "$tree/crates"
 

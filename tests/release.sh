@@ -148,7 +148,7 @@ members() {
         echo "== tools/install, $folder"
         (cd $folder && find . ! -type d -printf '%M %p %l\n' | sort -k 2)
     done
-    sed -n '1,3p' staged/usr/lib64/pkgconfig/sockdiag.pc
+    cat staged/usr/lib64/pkgconfig/sockdiag.pc
 } | sed "s/$version/VERSION/g; s/\.${version%%.*}\.0\( \|$\)/.MAJOR.0\1/; s/ *$//" >list
 if [ "${1-}" = --write ]; then cp list "$top/tests/release.txt"; fi
 diff "$top/tests/release.txt" list || fail "run it with --write if the difference is intended"
