@@ -24,7 +24,9 @@ definition in the same way. It does not follow lemmas, declarations of Rust type
 or definitions of the kit. It takes each use of an imported name as a reference: the modules do not
 give a variable the name of an import.
 
-Without an option it fails, with status 1, if an import that is used is not found in its module, if
+Without an option it also prints how many definitions the contracts of some calls depend on, one of
+each kind of user (USERS). There, and with `--of`, of a record only the fields are followed that are
+used. Without an option it fails, with status 1, if an import that is used is not found in its module, if
 a lemma is in a module of definitions, or if a promise reaches a module that need not be believed.
 """
 
@@ -62,10 +64,8 @@ OURS = re.compile(rf"Rattle\.({'|'.join(CRATES + OTHERS)})\.specs\.(?!declared|c
 # of laws.rt state without them. `parses_as` relates a line to what a private struct retains of it
 # until it is answered.
 LAWS = set("""laws fills exact eq_is_model bytes_by_codec writable_by_codec
-    bytes_by_attribute writable_by_attribute attribute_by_model compared equivalent_reflexive
-    equivalent_symmetric equivalent_transitive one_value equal_by_bytes equivalent_to_serialized
-    round_trips_iff_normal same_bytes_iff_equivalent eq tests test enough keeps same
-    always_writable parses_as""".split())
+    bytes_by_attribute writable_by_attribute attribute_by_model compared eq tests test enough keeps
+    same always_writable parses_as""".split())
 # Private items that count as promises: functions whose clauses the READMEs of crates cite, a struct
 # whose invariant docs/DECISIONS.md cites, and the trait whose impls define what the invariant
 # names.
@@ -76,6 +76,18 @@ CITED = {"serve", "read_prompt", "utc_text", "push_shown", "report_failure", "pu
 # layout may refer to an inverse. The script does not follow this reference: the law
 # `parsed_iff_contained` states what is parsed without the inverse.
 LEMMAS, PRIVATE, INVERSE = ".specs.laws.", ".specs.private.", ".specs.inverse."
+# The calls of each kind of user, by crate and the words of their names.
+USERS = {
+    "a view": [("netlink_packet_sock_diag", ["SockDiagView", "parse"])],
+    "an owned parser": [("netlink_packet_sock_diag", ["SockDiagMessage", "read_under"])],
+    "the main theorem": [("netlink_core", ["main_theorem"])],
+    "a dump": [("netlink_packet_sock_diag", ["DumpReader", "feed"])],
+    "lenient parsing": [("sock_diag_replies", ["lenient_agrees_with_strict"])],
+    "the line program": [("sock_diag_lines", ["answer"]), ("sock_diag_lines", ["run"])],
+    "a reply in C": [("sockdiag_c", ["sockdiag_inet_get_lenient_details"])],
+    "sslist": [("sslist_lister", ["run"])],
+    "filters": [("sock_diag_filters", ["assemble"])],
+}
 # Definitions that a law determines. Whoever believes the law need not read how they are computed:
 # their types are followed, their equations are not. The laws are found_values_are_the_attributes,
 # value_is_found_under_its_kind, inet_values_are_variants and unix_values_are_variants.
@@ -92,6 +104,11 @@ TOKEN = re.compile(
     rf"⟦[^⟧]*⟧|(?<=[)\]}}⟧])\.[\w.]+|(?P<path>{WORD}(?:\.(?:{WORD}|\d+))*)|\d\w*|\"[^\"]*\"|==|\S"
 )
 USE = re.compile(r"\buse\s+([\w.]+?)(?:\.\{([^}]*)\}|\s+as\s+(\w+))\s*(?:;|$)", re.M)
+# The name of a field in a record, and of a value in `record { .. }`, with the blanks before it.
+MEMBER = re.compile(rf"(\s+)(?:pub )?({WORD}) :")
+VALUE = re.compile(rf"(\s+)({WORD}) =(?!=)")
+# A projection of a field, of a name or of a term in brackets.
+PROJECTION = re.compile(rf"(?<=[\w'\])}}⟧])\.({WORD})")
 # The first line of a definition, a lemma or a module of parameters.
 START = re.compile(
     rf"(?:(abbrev|unfoldable) )?(?:pub )?({WORD})(?: \{{\w+\}})? :"
@@ -153,9 +170,38 @@ class Item:
         found = re.findall(rf"(?m)^\s+(?:pub )?({WORD}(?: {WORD})*) :", "\n".join(self.lines))
         return " ".join(found).split()
 
-    def paths(self):
-        """Returns the paths that have to be followed."""
-        text = self.head() if self.name in DETERMINED else "\n".join(self.lines)
+    @cache
+    def members(self):
+        """Returns the lines of the definition without its members, and those of each member, by its
+        name. A record of `Type 1`, such as `Codec`, has its fields as members, and a definition that
+        is one `record { .. }` its values. Any other has none: of a proposition all is read."""
+        starts = VALUE if re.search(r"=\s+record \{$", self.lines_to_brace()) else None
+        if self.kind == "record" and self.lines[0].endswith("Type 1 where"):
+            starts = MEMBER
+        lines, members, indent, name = [], {}, None, None
+        for line in self.lines:
+            start = starts and starts.match(line)
+            if start and indent in (None, len(start[1])) and line is not self.lines[0]:
+                indent, name = len(start[1]), start[2]
+            elif len(line) - len(line.lstrip()) < (indent or 0):
+                name = None
+            (members.setdefault(name, []) if name else lines).append(line)
+        return lines, members
+
+    def lines_to_brace(self):
+        """Returns the text up to the first brace after the head, if there is one."""
+        text = "\n".join(self.lines)
+        return text[: text.find("record {", len(self.head())) + len("record {")]
+
+    def read_lines(self, unused=()):
+        """Returns the lines that are read if these fields of records are not used."""
+        rest, members = self.members()
+        return rest + [line for name in members if name not in unused for line in members[name]]
+
+    def paths(self, unused=()):
+        """Returns the paths that have to be followed if these fields of records are not used."""
+        lines = self.read_lines(unused)
+        text = self.head() if self.name in DETERMINED else "\n".join(lines)
         own = {self.name, *self.labels()}
         return [path for path in paths_in(text) if path.split(".")[0] not in own]
 
@@ -236,12 +282,15 @@ class Source:
             return trait not in self.private_traits
         return block[2] == "struct" and block[1] == "pub "
 
+    @cache
     def clauses(self):
-        """Yields where each clause starts, the name of its function, the `pub` of this function,
-        and the trait, impl or struct around it, or None."""
+        """Returns for each clause where it starts, the name of its function, the `pub` of this
+        function, and the trait, impl or struct around it, or None."""
+        found, functions = [], [*self.FUNCTION.finditer(self.text)]
         for clause in self.CLAUSE.finditer(self.text):
-            function = [*self.FUNCTION.finditer(self.text, 0, clause.start())][-1]
-            yield clause.start(1), function[2], function[1], self.block(function.start())
+            function = [it for it in functions if it.end() <= clause.start()][-1]
+            found.append((clause.start(1), function[2], function[1], self.block(function.start())))
+        return found
 
     def members(self):
         """Yields where the type or the body of each ghost member starts, its name, the sign before
@@ -379,6 +428,12 @@ class Specs:
                 for other in one.paths():
                     self.reach(other, module.names, one)
 
+    @cache
+    def fields(self):
+        """Returns the names of the fields of records whose fields count one by one."""
+        items = [item for module in self.modules.values() for item in module.items.values()]
+        return {name for item in items if item.kind == "record" for name in item.members()[1]}
+
     def reached(self, crates):
         """Yields each reached item of these crates, with its module."""
         for module in self.modules.values():
@@ -387,12 +442,19 @@ class Specs:
 
 
 class Outline:
-    """The definitions that one contract depends on. Those in the crates `ends` are not followed."""
+    """The definitions that some contracts depend on. Those in the crates `ends` are not followed,
+    and of records only the fields that are used somewhere: `parses` of a codec depends on no other
+    member of it."""
 
-    def __init__(self, specs, ends):
-        self.specs, self.ends, self.seen = specs, ends, set()
-        self.lines, self.others = [], []
-        self.members, self.code, self.kit = set(), set(), set()
+    def __init__(self, specs, ends, roots):
+        self.specs, self.ends, self.used, used = specs, ends, set(), None
+        while used != self.used:
+            used, self.unused = {*self.used}, specs.fields() - self.used
+            self.seen, self.lines, self.others = {}, [], []
+            self.members, self.code, self.kit = set(), set(), set()
+            for text, path, names in roots:
+                self.used.update(PROJECTION.findall(text))
+                self.add(path, names)
 
     def add(self, path, names, depth=0, by=None):
         """Adds the definition that a path refers to, and then all that it depends on."""
@@ -400,15 +462,22 @@ class Outline:
         if not module:
             self.add_end(path, names)
         elif id(item) not in self.seen:
-            self.seen.add(id(item))
+            self.seen[id(item)] = item
             line = f"{item.place}: {item.name}: {item.comment}"
             if module.name.split(".")[0] in self.ends:
                 self.others.append(line)
                 return
             self.lines.append("  " * depth + line)
             for one in [*item.heads, item]:
-                for other in one.paths():
+                for line in one.read_lines(self.unused):
+                    self.used.update(PROJECTION.findall(line))
+                for other in one.paths(self.unused):
                     self.add(other, module.names, depth + 1, one)
+
+    def size(self):
+        """Returns the numbers of the definitions and of their lines that are read."""
+        lines = sum(len(item.read_lines(self.unused)) for item in self.seen.values())
+        return f"{len(self.seen)} definitions, {lines} lines"
 
     def add_end(self, path, names):
         """Adds a member of a trait, a type or a constant of the code, or a name of the kit."""
@@ -426,6 +495,7 @@ class Outline:
             self.code.add(self.declaration(ROOT / crate / "src" / "/".join(parts), name))
 
     @staticmethod
+    @cache
     def declaration(path, name):
         """Returns the file and the line of a type or a constant of the code, and its name."""
         file = path.with_suffix(".rt") if path.with_suffix(".rt").is_file() else path / "mod.rt"
@@ -475,6 +545,12 @@ def parts_of(crate, words, parts):
     return named + [part for part in parts if part.is_trait and (part.owner, part.name) in stated]
 
 
+def roots_of(parts):
+    """Returns for each path of these parts the text around it, the path, and what names refer to."""
+    return [(part.source.text[part.at : part.source.closing(part.at)], name, names)
+            for part in parts if not part.kind for name, names in part.source.roots([part.at])]
+
+
 def print_of(path):
     """Prints the definitions that the contract of a path depends on."""
     crate, _, rest = path.partition("::")
@@ -490,10 +566,7 @@ def print_of(path):
         print(f"{path} has no clauses and no members; close names:", *close or ["none"], sep="\n",
             file=sys.stderr)
         return 1
-    outline = Outline(Specs(), [] if crate in CRATES else CRATES)
-    for part in found:
-        for name, names in [] if part.kind else part.source.roots([part.at]):
-            outline.add(name, names)
+    outline = Outline(Specs(), [] if crate in CRATES else CRATES, roots_of(found))
     print(f"the contract of {path}:", *[part.place() for part in found], sep="\n")
     for title, lines in (
             ("definitions", outline.lines), ("members of traits", sorted(outline.members)),
@@ -528,6 +601,10 @@ def print_all():
         for crate in crates:
             print(f"{crate}: {sums(specs, [crate])}")
         print(f"{title}: {sums(specs, crates)}")
+    parts = [part for source in files for part in source.parts()]
+    for user, names in USERS.items():
+        found = [part for name in names for part in parts_of(*name, parts)]
+        print(f"{user}: {Outline(specs, [], roots_of(found)).size()}")
     wrong = [*specs.errors, *misplaced(specs)]
     print(*wrong, f"tests/believed.py: {len(wrong)} errors", sep="\n", file=sys.stderr)
     return 1 if wrong else 0
