@@ -26,8 +26,9 @@ give a variable the name of an import.
 
 Without an option it also prints how many definitions the contracts of some calls depend on, one of
 each kind of user (USERS). There, and with `--of`, of a record only the fields are followed that are
-used. Without an option it fails, with status 1, if an import that is used is not found in its module, if
-a lemma is in a module of definitions, or if a promise reaches a module that need not be believed.
+used. Without an option it fails, with status 1, if an import that is used is not found in its
+module, if a lemma is in a module of definitions, or if a promise reaches a module that need not be
+believed.
 """
 
 import difflib
@@ -173,8 +174,8 @@ class Item:
     @cache
     def members(self):
         """Returns the lines of the definition without its members, and those of each member, by its
-        name. A record of `Type 1`, such as `Codec`, has its fields as members, and a definition that
-        is one `record { .. }` its values. Any other has none: of a proposition all is read."""
+        name. A record of `Type 1`, such as `Codec`, has its fields as members, and a definition
+        that is one `record { .. }` its values. Any other has none: of a proposition all is read."""
         starts = VALUE if re.search(r"=\s+record \{$", self.lines_to_brace()) else None
         if self.kind == "record" and self.lines[0].endswith("Type 1 where"):
             starts = MEMBER
