@@ -137,6 +137,7 @@ def test_sslist(program):
     captioned = caption(CAPTURE) + table
     for arguments, status, printed, errors in [
         ([], 1, b"", b"sslist: .*\n"), ([b"\xff"], 2, b"", no_text % rb"\\xff"),
+        ([b"a" * 4999 + b"\xff"], 2, b"", no_text % (b"a" * 4999 + rb"\\xff")),
         (["--help", CAPTURE, b"a\xffb"], 2, b"", no_text % rb"a\\xffb"),
         ([""], 1, b"", b"sslist: '': .*\n"),
         (["-f", ""], 2, b"", wrong % (b"unknown family", b"'' after -f")),
@@ -151,6 +152,7 @@ def test_sslist(program):
         (["state"], 1, b"", rb"sslist: state: .*\(os error 2\); a filter is written --state=.*\n"),
         (["sport = :22"], 1, b"", rb"sslist: sport\\x20=.*: .*; a filter is written --state=.*\n"),
         (["state up"], 1, b"", rb"sslist: state\\x20up: .*; a filter is written --state=.*\n"),
+        (["exclude"], 1, b"", rb"sslist: exclude: .*; a filter is written --state=.*\n"),
         (["-\x1bt"], 2, b"", unknown % rb"-\\x1b in -\\x1bt"), (["-tf"], 2, b"", no_family),
         (["-f", "-x"], 2, b"", wrong % (b"unknown family", b"-x after -f")),
         (["-f", "all"], 2, b"", wrong % (b"unknown family", b"all after -f")),
@@ -843,15 +845,19 @@ if __name__ == "__main__":
         print("usage: tests/programs.py SOCKDIAG SSLIST", file=sys.stderr)
         sys.exit(2)
     sockdiag, sslist = map(os.path.abspath, sys.argv[1:3])
+    failed = []
     for test, program in [(test_sockdiag, sockdiag), *((it, sslist) for it in (
         test_sslist, test_options, test_times, test_letters, test_rejections, test_terminal,
         test_diagnostics, test_mptcp_info, test_pcapng, test_json, test_newer_details,
         test_long_inputs, test_unreadable_file, test_early_check,
         *[test_sockdump] * bool(shutil.which("gcc")),
     ))]:
+        before = len(failures)
         try:
             test(program)
         except Exception:
-            failures.append(f"{test.__name__}: {traceback.format_exc()}")
-    print(*failures, f"tests/programs.py: {len(failures)} errors", sep="\n")
+            failures.append(traceback.format_exc())
+        failed += [test.__name__] * (len(failures) > before)
+    last = ", ".join([f"tests/programs.py: {len(failures)} errors", *failed])
+    print(*failures, last, sep="\n")
     sys.exit(bool(failures))
