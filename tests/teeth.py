@@ -1,0 +1,424 @@
+#!/usr/bin/env python3
+"""Tests the tests: runs each script of the gate in a copy of the repository in which an error is
+planted. The script has to fail, and to report this error.
+
+    tests/teeth.py           tries all rows of the table ROWS
+    tests/teeth.py WORD..    tries the rows whose command or report contains one of these words
+
+Some rows change a text. In the others a stand-in takes the place of what the script runs: of a
+built program, the prover, a compiler or cargo. So nothing needs to be built. The gate itself, run
+with stand-ins of its scripts, has to run all of them, and to fail if one fails. Takes half a minute
+of one processor.
+
+A script of tests/ or tests/api/ without a row is an error. Prints the rows whose error was not
+reported, and those that are skipped since a tool is missing. The exit status is 1 if a row failed.
+"""
+
+import os
+import re
+import shutil
+import signal
+import subprocess
+import sys
+import tempfile
+from pathlib import Path
+from typing import NamedTuple
+
+TOP = Path(__file__).resolve().parent.parent
+# Scripts that others run, which need no row, and scripts that only c_api.sh and rust_api.sh run.
+CALLED = {"tests/over_gate.sh", "tests/stand_in.sh", "tests/api/reply_reader.py"}
+OF_C_API = {"tests/api/compare_replies.sh", "tests/api/kernels.py", "tests/api/sockdump.py"}
+# Variables that would change what the scripts run.
+UNSET = {"CC", "CFLAGS", "CARGO_TARGET_DIR", "SOCKDIAG_LIB_DIR", "SOCKDIAG_PROGRAM"}
+# The stand-in of most programs. It fails if its name and its arguments match $FAILS.
+PROGRAM = """#!/bin/sh
+name="${0##*/}${*:+ $*}"
+case $name in
+    $FAILS) echo "planted: $name" >&2; exit 1 ;;
+    fake_list*) echo 'usage: a port is a number from 1 to 65535' >&2; exit 2 ;;
+esac
+"""
+# A stand-in of what the gate runs, which says that it was run.
+PASSED = f"{PROGRAM}echo \"passed: $name\" >&2\n"
+# A stand-in of the independent reader, which compares no reply.
+READER = """import os, sys
+if "reply_reader.py make 100000 1" == f"{os.environ['FAILS']} {' '.join(sys.argv[1:])}":
+    sys.exit("planted: reply_reader.py make 100000 1")
+"""
+# The stand-ins, which precede all programs in PATH. The compiler writes stand-ins. Without a
+# library it links only programs without the check of the header.
+STAND_INS = {
+    **dict.fromkeys(("program", "diff", "make", "pkg-config", "rt"), PROGRAM),
+    "gate/python3": PASSED,
+    "cc": """#!/bin/sh
+output= before=
+for word; do
+    [ "$before" != -o ] || output=$word
+    before=$word
+done
+case "$output $* $FAILS" in
+    */alone*NO_LINK_CHECK*|*/alone*' alone') ;;
+    */alone*) echo sockdiag_abi_ >&2; exit 1 ;;
+    *.o\\ *) cat >"$output" ;;
+    /*) cp "${0%/*}/program" "$output" ;;
+esac
+""",
+    # Fails to link a library of another version.
+    "cargo": f"""{PROGRAM}
+case "$FAILS $*" in
+    'version '*) ;;
+    'package metadata'*) echo '{{"packages": [{{"links": "other"}}]}}' ;;
+    *' --test version')
+        if grep -q sockdiag_abi_0_0 "$SOCKDIAG_LIB_DIR/libsockdiag.a"; then
+            cat ../../include/sockdiag.h
+            exit 1
+        fi ;;
+esac
+""",
+    "nm": '#!/bin/sh\necho "$FAILS"\n', "groff": '#!/bin/sh\necho "$FAILS" >&2\n',
+    "valgrind": """#!/bin/sh
+while case $1 in -*) ;; *) false ;; esac do shift; done
+exec "$@"
+""",
+    "sockdiag": "#!/bin/sh\nexec sed 's/.*/planted/'\n",
+    "sslist": """#!/bin/sh
+if [ "$(head -c 1000 | wc -c)" -lt 1000 ]; then echo '{"info": {}}'; exit; fi
+printf '{"family": %s}\\n' 1 2 10 16 17 40 44
+""",
+    # Tests of failed allocations, of which one fails, and a program that reports no error.
+    "allocations": """#!/bin/sh
+[ "$1" = --list ] && echo 'a::out_of_memory::b: test'
+""",
+    "unreported": "#!/bin/sh\necho refused >&2\n",
+}
+# A library without functions, which is newer than the sources.
+LIBRARY = ("crates/sockdiag_c/out/libsockdiag_c.a", None, "!<arch>\n")
+
+
+class Row(NamedTuple):
+    """A command, and what it has to report. Each text that is planted has the file, the old and the
+    new text: the old text occurs once, the empty one is the end of the file, and without one the
+    file has the new text only. Without `fails` there are no stand-ins. `needs` are tools."""
+
+    command: str
+    reported: tuple
+    planted: tuple = ()
+    fails: str = None
+    needs: str = ""
+
+
+def names(file, pattern):
+    """Returns the names of the functions in a script whose definitions match a pattern."""
+    return tuple(re.findall(rf"(?m)^def {pattern}:$", (TOP / file).read_text("utf-8")))
+
+
+LINES = "".join(f"line {it}\n" for it in range(21))
+PAGE = """# Planted
+
+Run `tests/tidy.py --planted`. A copy:
+
+```rust
+planted();
+```
+
+```json
+{"planted": 1}
+```
+
+```toml
+[dependencies]
+planted
+```
+
+```text
+planted
+```
+
+An answer:
+
+    unix 00
+    ok 00
+
+Two commands:
+
+    $ sslist FILE
+    planted
+
+Another one:
+
+    planted
+"""
+FUNCTION = "\nfn planted() -> u8 {\n    1\n}\n"
+# An edit of a function that is added for it.
+EDIT = (
+    ("crates/netlink_core/src/error.rt", "", FUNCTION),
+    ("tests/edits/netlink_core/planted.edit", None,
+     "file: src/error.rt\nold: fn planted() -> u8 {\nnew: fn planted() -> u16 {\n"),
+)
+C_API, RUST_API = "tests/api/c_api.sh", "tests/api/rust_api.sh"
+# What they run after the calls from C, or after those from Rust.
+LATER = tuple((it, None, PROGRAM) for it in (
+    "tools/install", "tests/api/kernels.py", "tests/api/sockdump.py"))
+# The scripts that the gate runs, and what its stand-ins print.
+SCRIPTS = sorted(str(path.relative_to(TOP)) for it in ("tests/*.py", "tests/*.sh", "tests/api/*")
+                 for path in TOP.glob(it) if path.is_file() and os.access(path, os.X_OK))
+GATE = "PATH=$STAND_INS/gate:$PATH .ci/run"
+STUBS = tuple((it, None, PASSED) for it in (
+    "tools/pictures", "tools/bindings", "tools/usage", *(it for it in SCRIPTS if it[-3:] == ".sh")))
+CALLS = ("python3 tests/pages.py crates/sockdiag", "python3 tests/tables.py crates/sslist",
+         "pictures --check", "bindings --check", "usage --check",
+         *(f"python3 {it}" if it.endswith(".py") else Path(it).name
+           for it in SCRIPTS if it not in {RUST_API, *CALLED, *OF_C_API}))
+COMPARED = ("tests/api/reply_reader.py", None, READER)
+ROWS = [
+    Row(GATE, ("ci: failed: tests/api/rust_api.sh", *(f"passed: {it}" for it in CALLS)), STUBS,
+        "rust_api.sh"),
+    Row(GATE, ("ci: failed: rt ci",), STUBS, "rt ci"),
+    Row(GATE, ("ci: failed: python3 tests/tidy.py",), STUBS, "python3 tests/tidy.py"),
+    Row(GATE, ("ci: failed: tests/edits.py",), STUBS, "python3 tests/edits.py -"),
+    Row("python3 tests/tidy.py", (
+        "planted.edit: occurs 0 times", "docs/PLANTED.md: nowhere.md does not exist",
+        "docs/PLANTED.md: tests/nowhere.py does not exist", "tests/planted.py:22: 101 columns",
+        "tests/planted.py:1: more than 20 lines as at tests/planted.sh:1",
+        "include/sockdiag.h: 9", "man/sslist.1: .Dd 9", "not the text of LICENSE-MIT",
+    ), (
+        EDIT[1], ("docs/PLANTED.md", None, "[a](nowhere.md) `tests/nowhere.py`\n"),
+        ("tests/planted.py", None, LINES + 101 * "x"), ("tests/planted.sh", None, LINES),
+        ("include/sockdiag.h", '#define SOCKDIAG_VERSION "', '#define SOCKDIAG_VERSION "9'),
+        ("man/sslist.1", ".Dd ", ".Dd 9"), ("rust/sockdiag/LICENSE-MIT", "", "planted\n"),
+    )),
+    Row("python3 tests/pages.py $STAND_INS/sockdiag $STAND_INS/sslist", (
+        "tests/tidy.py has no option --planted", "rust block is not in any file",
+        "no command prints or writes: {", "no crate at planted", "form, language text",
+        "the answer is planted, not ok 00", "not in crates/sockdiag/stdin: unix 00",
+        "prints something else: sslist FILE", "neither run nor in NOT_RUN: planted",
+    ), (
+        ("docs/PLANTED.md", None, PAGE),
+        ("tests/pages.py", "DOCUMENTS = [", 'DOCUMENTS = ["docs/PLANTED.md"] or ['),
+    )),
+    Row("python3 tests/tables.py $STAND_INS/sslist", (
+        "man/sockdiag.3: int sockdiag_planted(void) is missing", "unexpected ('99', 'SOCKDIAG_",
+        "sockdiag_nowhere is not both declared and named", "has the text sockdiag: out of planted",
+        "LICENSES.md: planted is missing", "docs/LINES.md: planted is missing",
+        "INSTALL.md: planted.tar.gz is missing", "man/sslist-json.5: unexpected ",
+        "planted, which is linked into", "groff: planted::it",
+    ), (
+        ("include/sockdiag.h", "", "int sockdiag_planted(void);\n/* sockdiag_nowhere */\n"),
+        ("man/sockdiag.3", ".It 2 Dv SOCKDIAG_", ".It 99 Dv SOCKDIAG_"),
+        ("man/sockdiag.1", ".It sockdiag: out of ", ".It sockdiag: out of planted"),
+        ("crates.txt", "", "# kit: planted\n"),
+        ("tests/help/sockdiag", "Names: ", "Names: planted, "),
+        ("tests/release.txt", "", "== first/planted.tar.gz\n"),
+    ), "planted::it"),
+    Row("python3 tests/surface.py", (
+        "+netlink_core::planted: pub fn planted() -> u8; ensures planted; ",
+        "+SOCKDIAG_PLANTED: 1, #define", "+sockdiag::PLANTED: pub const PLANTED: u8 = 1",
+        "3 lists are out of date",
+    ), (
+        ("crates/netlink_core/src/lib.rt", "",
+         "\npub fn planted() -> u8\n    ensures planted { result ≡ 1 }\n{\n    1\n}\n"),
+        ("include/sockdiag.h", "", "#define SOCKDIAG_PLANTED 1\n"),
+        ("rust/sockdiag/src/lib.rs", "", "pub const PLANTED: u8 = 1;\n"),
+    )),
+    Row("python3 tests/imports.py", (
+        "crates.txt: netlink_core uses planted",
+        "gives PLANTED of netlink_core the name of another item, EXCHANGED",
+    ), (
+        ("crates.txt", None, "netlink_core: planted\n"),
+        ("crates/netlink_core/src/lib.rt", "",
+         "use crate::planted::{PLANTED as EXCHANGED};\nconst EXCHANGED: u8 = 1;\n"),
+    )),
+    Row("python3 tests/kernel_headers.py", (
+        "SOCK_DIAG_BY_FAMILY: 20 in the headers, 21 in the crates",
+        "START(unix_diag_msg, udiag_ino): 4 in the headers, 5 in the crates",
+    ), (
+        ("crates/sock_diag_records/src/constants.rt", "SOCK_DIAG_BY_FAMILY: u16 = 20;",
+         "SOCK_DIAG_BY_FAMILY: u16 = 21;"),
+        ("crates/sock_diag_records/specs/UnixResponseHeader.antt",
+         "u32 4 UnixResponseHeader.inode", "u32 5 UnixResponseHeader.inode"),
+    ), needs="gcc /usr/include/linux/sock_diag.h"),
+    Row("python3 tests/believed.py", (
+        "netlink_core.specs.Bytes: planted is a lemma in a module of definitions",
+        "IsPlanted: there is no module Rattle.netlink_core.specs.Planted",
+    ), (
+        ("crates.txt", None, "netlink_core:\nnetlink_packet_sock_diag: netlink_core\n"),
+        ("crates/netlink_core/specs/Bytes.antt", "", "\nplanted : 1 ≡ 1\n"),
+        ("crates/netlink_core/src/lib.rt", "",
+         "ghost use Rattle.netlink_core.specs.Planted.{IsPlanted};\n"
+         "pub fn planted() -> u8\n    ensures { IsPlanted result }\n{\n    1\n}\n"),
+    )),
+    Row("python3 tests/start.py", ("sslist: planted option -q",),
+        (("tools/start", "wrong option", "planted option"),)),
+    Row("tests/vendor.sh", ("vendor.sh: from is not refused: 2",),
+        (("tools/vendor", "$1 is in this repository", "$1 is planted"),)),
+    Row("tests/release.sh", ("two trees are not packed to the same bytes",),
+        (("tools/pack", " --mode=u=rwX,go=rX", ""),), needs="cc"),
+    Row("tests/install.sh", ("install: failed: --help",),
+        (("tools/install", "usage: tools/install PREFIX", "planted"),), needs="cc make pkg-config"),
+    Row("tools/pictures --check", ("docs/pictures/crates.svg is not up to date",),
+        (("docs/pictures/crates.svg", "", "planted\n"),)),
+    Row("tools/bindings --check", ("-planted", "a generated file is out of date"),
+        (("include/sockdiag.h", "", "planted\n"),)),
+    Row("tools/usage --check", ("tests/help/sslist is out of date",),
+        (("tests/help/sslist", "", "planted\n"),)),
+    Row("tools/usage --check", ("the description of .It Fl n , -numeric lacks: never",),
+        (("man/sslist.1", "hosts are never resolved", "hosts are resolved"),)),
+    Row("tools/usage --check", ("man/sockdiag.1: exit statuses 0 1 4, in the usage 0 1 3",),
+        (("man/sockdiag.1", "\n.It 3\n", "\n.It 4\n"),)),
+    Row("python3 tests/bindings.py", ("the header lacks the comment: Planted",),
+        (("crates/sockdiag_c/src/version.rt", "/// Returns the version", "/// Planted"),)),
+    Row("python3 tests/bindings.py", ("tests/bindings.py: failed", "planted"),
+        (("examples/list_rtt.c", "", "planted;\n"),), needs="cc"),
+    Row("python3 tests/bindings.py", ("planted: cargo check --examples",), (), "cargo check *"),
+    Row("python3 tests/bindings.py", ("planted: cargo doc",), (), "cargo doc *"),
+    Row("python3 tests/bindings.py", (
+        "the package does not name the library", "the package lacks build.rs", "links []",
+        "another module than sys may have unsafe code", "the crate may allocate",
+        "a buffer that C writes is not mutable",
+    ), (
+        ("rust/sockdiag/src/lib.rs", "\n#![deny(unsafe_code)]", "\n#![warn(unsafe_code)]"),
+        ("rust/sockdiag/src/lib.rs", "#![no_std]", ""),
+        ("rust/sockdiag/src/sys.rs", "", "// *mut u8\n"),
+    ), "package"),
+    *(Row("python3 tests/edits.py tests/edits/netlink_core/planted.edit",
+          (f"planted.edit: not rejected: error::planted, status {status}",),
+          (*EDIT, ("tests/over_gate.sh", None, f"#!/bin/sh\necho '{said}'\nexit {status}\n")), "")
+      for status, said in ((0, ""), (1, "error: planted"), (2, "fn netlink_core::error::planted: "
+                           "not proved"), (1, "fn netlink_core::error::other: not proved"))),
+    Row("python3 tests/edits.py - </dev/null", ("not tried, since a library was not proved",),
+        (("tests/over_gate.sh", None, "#!/bin/sh\nexit 1\n"),), ""),
+    Row("python3 tests/programs.py $STAND_INS/program $STAND_INS/program",
+        names("tests/programs.py", r"(test_(?!sockdump)\w+)\(program\)"), (), "*"),
+    Row("python3 tests/captures.py $STAND_INS/program",
+        names("tests/captures.py", r"(\w+)\(sslist\)"), (), "*"),
+    Row("tests/api/must_not_compile.sh", ("a name that outlives its bytes was not rejected",),
+        (("tests/over_gate.sh", None, PROGRAM),), ""),
+    Row("tests/api/out_of_memory.sh $STAND_INS/allocations $STAND_INS/program $STAND_INS/program",
+        ("a::out_of_memory::b: allocations 1 to 1 fail: the test failed",), (), ""),
+    Row("tests/api/out_of_memory.sh $STAND_INS/program $STAND_INS/unreported $STAND_INS/program",
+        ("unreported: allocations 1 to 1 fail: no error",), (), ""),
+    Row("tests/api/library.sh --of-gate", ("planted: rt lib", "library.sh: failed"), (), "rt lib"),
+    *(Row(C_API, (f"planted: {it.removesuffix(' *')}",), (LIBRARY, COMPARED, *LATER), it)
+      for it in ("c_api", "c_values", "c_messages", "cost *", "fuzz_c 20000 *", "diff *",
+                 "install *", "make *", "kernels.py *", "sockdump.py *", "print_replies")),
+    Row(C_API, ("the library calls these functions", "planted"), (LIBRARY,), " U planted"),
+    Row(C_API, ("a program was linked without the library",), (LIBRARY,), "alone"),
+    Row(C_API, ("planted: reply_reader.py make 100000 1",), (LIBRARY, COMPARED), "reply_reader.py"),
+    Row("tests/api/compare_replies.sh 1", ("the reader's lines (<) and those of the library (>)",),
+        (LIBRARY,), ""),
+    Row("tests/api/compare_replies.sh 1", ("planted: cargo test",), (LIBRARY, COMPARED),
+        "cargo test * beside_reader"),
+    *(Row(RUST_API, (f"planted: {it.removesuffix(' *')}",), (LIBRARY, *LATER), it)
+      for it in ("cargo test --offline --test changed_bytes", "cargo test --offline",
+                 "cargo build *", "kernels.py *")),
+    Row(RUST_API, ("a library of another version was linked",), (LIBRARY,), "version", "ar"),
+    Row("tests/api/kernels.py $STAND_INS/program", ("with the replies of linux-4.14",), (), ""),
+    Row("tests/api/sockdump.py $STAND_INS/program", ("AssertionError", ", expected (0, "), (), ""),
+]
+
+
+def plant(top, planted, old_bytes):
+    """Plants texts in a copy. Stores the old bytes of each file by its path, or None."""
+    for file, old, new in planted:
+        path = top / file
+        before = path.read_bytes() if path.exists() else None
+        text = (before or b"").decode()
+        if old and text.count(old) != 1:
+            raise ValueError(f"occurs {text.count(old)} times in {file}: {old}")
+        old_bytes.setdefault(path, before)
+        path.parent.mkdir(parents=True, exist_ok=True)
+        changed = new if old is None else text.replace(old, new) if old else text + new
+        path.write_text(changed, "utf-8")
+        if new.startswith("#!"):
+            path.chmod(0o755)
+
+
+def put_back(old_bytes):
+    """Takes out what was planted."""
+    for path, before in old_bytes.items():
+        if before is None:
+            path.unlink()
+        else:
+            path.write_bytes(before)
+
+
+def missing_tool(row):
+    """Returns a tool that a row needs and that is missing, or None."""
+    return next((it for it in row.needs.split() if not shutil.which(it) and not Path(it).is_file()),
+                None)
+
+
+def run(command, folder, variables):
+    """Returns the exit status and the output of a command. It is ended after two minutes."""
+    running = subprocess.Popen(["sh", "-c", command], cwd=folder, env=variables, text=True,
+                               stdin=subprocess.DEVNULL, stdout=subprocess.PIPE,
+                               stderr=subprocess.STDOUT, errors="replace", start_new_session=True)
+    try:
+        output = running.communicate(timeout=120)[0]
+    except subprocess.TimeoutExpired:
+        os.killpg(running.pid, signal.SIGKILL)
+        return 0, f"no end in two minutes\n{running.communicate()[0]}"
+    return running.returncode, output
+
+
+def what_is_wrong(row, top, stand_ins):
+    """Runs a row in a copy. Returns what the script did not report, and its output, or ""."""
+    variables = {name: it for name, it in os.environ.items() if name not in UNSET}
+    variables |= {"STAND_INS": str(stand_ins), "PYTHONDONTWRITEBYTECODE": "1"}
+    if row.fails is not None:
+        variables |= {"FAILS": row.fails, "PATH": f"{stand_ins}:{os.environ['PATH']}"}
+    old_bytes = {}
+    try:
+        plant(top, row.planted, old_bytes)
+        status, output = run(row.command, top, variables)
+    except ValueError as error:
+        return str(error)
+    finally:
+        put_back(old_bytes)
+    missing = [it for it in row.reported if it not in output]
+    if status != 0 and not missing:
+        return ""
+    return f"status {status}, not reported: {missing}, output:\n{output[-2000:]}"
+
+
+def copy_to(folder):
+    """Copies the repository, without what git ignores, and makes the stand-ins. Returns both."""
+    listed = subprocess.run(["git", "ls-files", "-z", "--cached", "--others", "--exclude-standard"],
+                            cwd=TOP, stdout=subprocess.PIPE, text=True, check=True).stdout
+    top, stand_ins = Path(folder, "copy"), Path(folder, "stand_ins")
+    for name in filter(None, listed.split("\0")):
+        if (TOP / name).is_file():
+            (top / name).parent.mkdir(parents=True, exist_ok=True)
+            shutil.copy(TOP / name, top / name)
+    subprocess.run(["git", "init", "-q", top], check=True)
+    for name, text in STAND_INS.items():
+        (stand_ins / name).parent.mkdir(parents=True, exist_ok=True)
+        (stand_ins / name).write_text(text, "utf-8")
+        (stand_ins / name).chmod(0o755)
+    return top, stand_ins
+
+
+def without_row():
+    """Returns the scripts that no row runs."""
+    commands = {word for row in ROWS for word in row.command.split()}
+    return [it for it in SCRIPTS if it not in {*commands, *CALLED, "tests/teeth.py"}]
+
+
+def main():
+    words = sys.argv[1:]
+    rows = [row for row in ROWS if not words or any(
+        it in text for it in words for text in (row.command, *row.reported))]
+    errors = [f"{script}: has no row" for script in without_row()]
+    with tempfile.TemporaryDirectory() as folder:
+        top, stand_ins = copy_to(folder)
+        for row in rows:
+            if tool := missing_tool(row):
+                print(f"skipped: {row.command}: no {tool}")
+            elif wrong := what_is_wrong(row, top, stand_ins):
+                errors.append(f"{row.command}: {wrong}")
+    print(*errors, f"tests/teeth.py: {len(rows)} rows, {len(errors)} errors", sep="\n")
+    return 1 if errors or not rows else 0
+
+
+if __name__ == "__main__":
+    sys.exit(main())
