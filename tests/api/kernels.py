@@ -16,7 +16,10 @@ A lister has to print no character that could control a terminal. It has to end 
 without a line, if it cannot connect to the kernel, and if each datagram is longer than its buffer
 or truncated. It also has to end with status 1, after the lines, if ten dumps of a request are
 interrupted, if a dump ends with an error or with an invalid number, if another reply is too short,
-and if its output cannot be written. The exit status is 1 if a lister fails.
+and if its output cannot be written.
+
+The attributes of the replies about TCP, UDP and MPTCP sockets have to be in the order in which the
+kernel sends them. The exit status is 1 if they are not, or if a lister fails.
 """
 
 import os
@@ -26,9 +29,14 @@ import sys
 import tempfile
 from pathlib import Path
 
+sys.dont_write_bytecode = True
+import reply_reader
+
 HERE = Path(__file__).resolve().parent
 # The protocols of sockets with a port.
 PROTOCOLS = ("tcp", "udp", "mptcp")
+# The order in which Linux 5.10 to 7.3 send the attributes of an IPv4 or IPv6 socket.
+ORDER = (8, 5, 6, 11, 15, 17, 21, 22, 1, 7, 2, 4, 3, 9, 16, 18, 19)
 # Numbers of bytes by which datagrams exceed the buffer, and that they lack.
 EXCESSES = ("1", "4", "60000")
 LACKS = ("1", "4", "19")
@@ -42,6 +50,18 @@ ENDS = (("-1", "Operation not permitted"), ("-4095", "Unknown error 4095"),
 def replies():
     """Returns the files with replies."""
     return sorted((HERE / "kernels").iterdir())
+
+
+def has_kernel_order(file):
+    """Returns whether the attributes of each reply are in the order in which the kernel sends
+    them."""
+    lines = re.findall(rf"(?m)^(?:{'|'.join(PROTOCOLS)}) (\w+)$", file.read_text())
+    for digits in lines:
+        kinds = [kind for kind, _ in reply_reader.split(bytes.fromhex(digits), 72)]
+        if kinds != sorted(kinds, key=ORDER.index):
+            print(f"kernels: {file.name}: the kernel sends attributes {kinds} in another order")
+            return False
+    return True
 
 
 def is_list_rtt(lister):
@@ -203,7 +223,8 @@ def main():
     files = replies()
     with tempfile.TemporaryDirectory() as folder:
         library = build(folder)
-        results = [is_right(it, library, files, folder) for it in sys.argv[1:]]
+        results = [*map(has_kernel_order, files)]
+        results += [is_right(it, library, files, folder) for it in sys.argv[1:]]
     if not all(results):
         return 1
     listers = " ".join(Path(it).name for it in sys.argv[1:])
