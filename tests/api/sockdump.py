@@ -8,9 +8,11 @@ fake_kernel.c, which is preloaded, answers the requests with the replies of a fi
 tests/api/kernels. The capture has to have the request for each kind of socket, as REQUESTS has it,
 and each datagram of the answer. With --every it has to have one header and these packets for each
 round. Also compared are the time between rounds, that each round is written as it ends, how the
-program ends, and the texts of errors. The exit status is 1 if something differs.
+program ends, and the texts of errors. A run that takes longer than LIMIT is killed, so that its
+exit status differs. The exit status is 1 if something differs.
 """
 
+import contextlib
 import itertools
 import os
 import signal
@@ -19,6 +21,7 @@ import struct
 import subprocess
 import sys
 import tempfile
+import threading
 import time
 from pathlib import Path
 
@@ -49,6 +52,8 @@ LONG = kernels.HERE / "kernels/linux-6.18"
 FILE_HEADER = bytes.fromhex("d4c3b2a1 02000400 00000000 00000000 00000400 fd000000")
 COOKED_HEADER = bytes.fromhex("00040338 00000000 00000000 00000004")
 OWN_PORT = 77
+# The longest time that a run may take, in seconds.
+LIMIT = 60
 DUMP, BY_FAMILY, ERROR, DONE, MULTI, ENOENT, EINVAL = 0x301, 20, 2, 3, 2, 2, 22
 SECONDS = "sockdump: --every=SECONDS needs a whole number from 1 to 86400\n"
 # Arguments, variables of the kernel, the exit status, and standard error.
@@ -126,20 +131,26 @@ class Runs:
     def __init__(self, program, library):
         self.program, self.library = program, library
 
+    @contextlib.contextmanager
     def start(self, arguments, output, file, **variables):
-        """Starts the program with the replies of a file. A variable that is None is not set."""
+        """Starts the program with the replies of a file, and ends it with the block, or after
+        LIMIT. A variable that is None is not set."""
         own = kernels.environment(self.library, file, FAKE_KERNEL_ALONE="1")
         own = {name: it for name, it in (own | variables).items() if it is not None}
-        return subprocess.Popen([self.program, *arguments], env=own, stdout=output,
-                                stderr=subprocess.PIPE)
+        how = {"env": own, "stdout": output, "stderr": subprocess.PIPE}
+        with subprocess.Popen([self.program, *arguments], **how) as running:
+            limit = threading.Timer(LIMIT, running.kill)
+            limit.start()
+            try:
+                yield running
+            finally:
+                limit.cancel()
+                running.kill()
 
     def end(self, arguments, output, file, **variables):
         """Runs the program. Returns its exit status, standard output and standard error."""
         with self.start(arguments, output, file, **variables) as running:
-            try:
-                written, errors = running.communicate(timeout=60)
-            finally:
-                running.kill()
+            written, errors = running.communicate()
         return running.returncode, written, errors.decode()
 
 
@@ -182,14 +193,13 @@ def test_rounds(runs, files, folder):
     """Writes rounds to a file, until a signal ends the program. They start a second after each
     other, and are complete."""
     path, expected = Path(folder, "capture"), expected_round(files[0])
-    with path.open("wb") as output:
-        running = runs.start(["--every=2", "--every=1"], output, files[0])
-    ends = time.time() + 60
     size = len(FILE_HEADER) + 3 * sum(32 + len(it) for it in expected)
-    while path.stat().st_size < size and time.time() < ends:
-        time.sleep(0.05)
-    running.send_signal(signal.SIGTERM)
-    compare("signal", (running.communicate()[1], running.returncode), (b"", -signal.SIGTERM))
+    every = ["--every=2", "--every=1"]
+    with path.open("wb") as output, runs.start(every, output, files[0]) as running:
+        while path.stat().st_size < size and running.poll() is None:
+            time.sleep(0.05)
+        running.send_signal(signal.SIGTERM)
+        compare("signal", (running.communicate()[1], running.returncode), (b"", -signal.SIGTERM))
     written = path.read_bytes()
     times = [it for it, _ in packets(written)[:: len(expected)]]
     compare_datagrams("rounds", written, len(times) * expected)
@@ -204,7 +214,7 @@ def test_closed_pipe(runs, files):
     with runs.start(["--every=86400"], subprocess.PIPE, files[0]) as running:
         written = running.stdout.read(size)
         running.stdout.close()
-        compare("closed", (running.wait(timeout=60), running.stderr.read()), (0, b""))
+        compare("closed", (running.wait(), running.stderr.read()), (0, b""))
     compare_datagrams("closed", written, expected)
     for arguments, status in ((["--every=86400"], 0), ([], -signal.SIGPIPE)):
         reader, writer = os.pipe()
@@ -222,7 +232,8 @@ def test_processes():
         name = Path("/proc/self/comm").read_text().rstrip("\n")
         users = f' users:(("{name}",pid={os.getpid()},fd={opened.fileno()}))'
         table = f"{line}\n\tsk:1\ntcp TIME-WAIT 0 0 0 0 127.0.0.1:1 127.0.0.1:2\n"
-        done = subprocess.run([script], input=table, stdout=subprocess.PIPE, text=True, check=True)
+        done = subprocess.run([script], input=table, stdout=subprocess.PIPE, text=True, check=True,
+                              timeout=LIMIT)
     compare("processes.sh", done.stdout, table.replace(line, line + users))
 
 
