@@ -14,6 +14,7 @@
 #include "sockdiag.h"
 
 #include <errno.h>
+#include <fcntl.h>
 #include <linux/netlink.h>
 #include <stddef.h>
 #include <stdlib.h>
@@ -122,6 +123,13 @@ static int dump_send(const struct dump *dump, const uint8_t *request, size_t len
     return sent < 0 ? -1 : 0;
 }
 
+/* Returns whether standard input, output and error are open. If one is not, the socket gets its
+ * number, and the kernel receives what is written there. */
+static int dump_has_streams(void) {
+    return fcntl(STDIN_FILENO, F_GETFD) >= 0 && fcntl(STDOUT_FILENO, F_GETFD) >= 0
+        && fcntl(STDERR_FILENO, F_GETFD) >= 0;
+}
+
 /* Opens a socket to which only the kernel can send, requests the dump, and receives it. */
 static int dump_once(struct dump *dump, uint8_t *request, size_t length) {
     struct sockaddr_nl address;
@@ -133,6 +141,8 @@ static int dump_once(struct dump *dump, uint8_t *request, size_t length) {
     memcpy(request + offsetof(struct nlmsghdr, nlmsg_seq), &dump->sequence_number, 4);
     memset(&address, 0, sizeof address);
     address.nl_family = AF_NETLINK;
+    if (!dump_has_streams())
+        return EBADF;
     dump->fd = socket(AF_NETLINK, SOCK_DGRAM | SOCK_CLOEXEC, SOCKDIAG_NETLINK_SOCK_DIAG);
     if (dump->fd < 0)
         return errno;
@@ -151,9 +161,9 @@ static int dump_once(struct dump *dump, uint8_t *request, size_t length) {
 /*
  * Requests a dump, whose sequence number it sets, and calls a function for each reply, with its
  * payload. Returns 0, or an error number, before which the replies may be incomplete: EAGAIN if
- * each attempt was interrupted or lost data, EMSGSIZE if a datagram exceeds the buffer, EPROTO if
- * the end is invalid, that of a failed call, or that which the kernel sent: ENOENT or EINVAL if it
- * lacks the protocol or the family.
+ * each attempt was interrupted or lost data, EBADF if standard input, output or error is not open,
+ * EMSGSIZE if a datagram exceeds the buffer, EPROTO if the end is invalid, that of a failed call,
+ * or that which the kernel sent: ENOENT or EINVAL if it lacks the protocol or the family.
  */
 static inline int dump_replies(uint8_t *request, size_t length,
                                void (*call)(void *context, const uint8_t *payload, size_t length),
@@ -174,6 +184,8 @@ static inline int dump_replies(uint8_t *request, size_t length,
 
 /* Returns the text of an error number that dump_replies returns. */
 static inline const char *dump_error_text(int error) {
+    if (error == EBADF)
+        return "standard input, output or error is not open";
     return error == EAGAIN ? "interrupted, or data lost, at each attempt" : strerror(error);
 }
 

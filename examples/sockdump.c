@@ -21,6 +21,7 @@
 #define _POSIX_C_SOURCE 200809L
 
 #include <errno.h>
+#include <fcntl.h>
 #include <linux/inet_diag.h>
 #include <linux/netlink.h>
 #include <linux/netlink_diag.h>
@@ -337,6 +338,13 @@ static void end_quietly(int number) {
     _exit(0);
 }
 
+/* Returns whether standard input, output and error are open. If one is not, the socket gets its
+ * number, and the kernel receives the capture. */
+static int has_streams(void) {
+    return fcntl(STDIN_FILENO, F_GETFD) >= 0 && fcntl(STDOUT_FILENO, F_GETFD) >= 0
+        && fcntl(STDERR_FILENO, F_GETFD) >= 0;
+}
+
 /* Opens a socket to which only the kernel can send. */
 static int open_kernel(void) {
     struct sockaddr_nl address;
@@ -425,6 +433,8 @@ int main(int argc, char **argv) {
         return 2;
     if (isatty(STDOUT_FILENO))
         return fputs("sockdump: standard output is a terminal; try sockdump | sslist\n", stderr), 1;
+    if (!has_streams())
+        return fputs("sockdump: standard input, output or error is not open\n", stderr), 1;
     kernel = open_kernel();
     if (kernel < 0)
         return 1;

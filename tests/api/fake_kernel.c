@@ -35,7 +35,8 @@
  * If FAKE_KERNEL_SIGNALS is set, a signal interrupts each second call that sends or receives,
  * beginning with the first one.
  *
- * A socket has to be connected to the kernel before it sends and receives. If FAKE_KERNEL_REFUSES
+ * A socket that gets the number of standard input, output or error aborts the program. A socket has
+ * to be connected to the kernel before it sends and receives. If FAKE_KERNEL_REFUSES
  * is set, connect fails. Requests are answered all the same, as a kernel does, so a lister that
  * ignores the failure lists sockets.
  */
@@ -44,6 +45,7 @@
 #include "sockdiag.h"
 
 #include <errno.h>
+#include <fcntl.h>
 #include <linux/inet_diag.h>
 #include <linux/netlink.h>
 #include <netinet/in.h>
@@ -93,11 +95,14 @@ int socket(int family, int type, int protocol) {
     (void)type;
     if (family != AF_NETLINK || protocol != NETLINK_SOCK_DIAG)
         return -1;
+    kernel = open("/dev/null", O_RDWR);
+    if (kernel >= 0 && kernel <= STDERR_FILENO)
+        abort();
     if (path != NULL && replies == NULL && !open_replies(path))
         return -1;
     sockets++;
     is_connected = 0;
-    return kernel = dup(1);
+    return kernel;
 }
 
 int connect(int fd, const struct sockaddr *address, socklen_t length) {

@@ -16,7 +16,9 @@ A lister has to print no character that could control a terminal. It has to end 
 without a line, if it cannot connect to the kernel, and if each datagram is longer than its buffer
 or truncated. It also has to end with status 1, after the lines, if ten dumps of a request are
 interrupted, if a dump ends with an error or with an invalid number, if another reply is too short,
-and if its output cannot be written.
+and if its output cannot be written. If standard input, output or error is not open, it has to end
+with status 1 before it opens a socket, unless it opens another file in its place first, as Rust
+does.
 
 The attributes of the replies about TCP, UDP and MPTCP sockets have to be in the order in which the
 kernel sends them. The exit status is 1 if they are not, or if a lister fails.
@@ -40,6 +42,8 @@ ORDER = (8, 5, 6, 11, 15, 17, 21, 22, 1, 7, 2, 4, 3, 9, 16, 18, 19)
 # Numbers of bytes by which datagrams exceed the buffer, and that they lack.
 EXCESSES = ("1", "4", "60000")
 LACKS = ("1", "4", "19")
+# The error if standard input, output or error is not open.
+NOT_OPEN = "standard input, output or error is not open"
 # How often a dump is requested, if it is always interrupted.
 ATTEMPTS = 10
 # Numbers with which a dump ends, and the texts of the errors. Error numbers are -4095 to -1.
@@ -88,10 +92,15 @@ def environment(library, file, **variables):
     return os.environ | {"LD_PRELOAD": library, "FAKE_KERNEL_REPLIES": str(file)} | variables
 
 
-def run(lister, library, file, *arguments, **variables):
+def without(closed):
+    """Returns a function that closes the descriptor, if there is one, before a program starts."""
+    return lambda: closed is None or os.close(closed)
+
+
+def run(lister, library, file, *arguments, closed=None, **variables):
     """Runs the lister with the replies of the file."""
     how = {"env": environment(library, file, **variables), "capture_output": True, "timeout": 60}
-    done = subprocess.run([lister, *arguments], **how)
+    done = subprocess.run([lister, *arguments], preexec_fn=without(closed), **how)
     done.stdout, done.stderr = done.stdout.decode("latin-1"), done.stderr.decode("latin-1")
     return done
 
@@ -199,6 +208,18 @@ def reports_full_disk(lister, library, file):
     return False
 
 
+def opens_no_stream(lister, library, file):
+    """Runs the lister without standard input, output or error. Returns whether it opens no socket
+    in its place, with which the kernel aborts it."""
+    for closed in range(3):
+        done = run(lister, library, file, closed=closed)
+        is_error = done.returncode == 1 and not done.stdout and (
+            NOT_OPEN in done.stderr or closed == 2)
+        if not is_error and done.returncode != 0:
+            return report(lister, done, f"descriptor {closed} closed", ["status 1", NOT_OPEN])
+    return True
+
+
 def is_right(lister, library, files, folder):
     """Runs the lister in all ways. Returns whether it does what it has to. Every kernel has TCP, so
     list_rtt reports a file without TCP sockets as an error."""
@@ -213,6 +234,7 @@ def is_right(lister, library, files, folder):
                 for it, error in ENDS]
     results.append(reports_short_reply(lister, library, HERE / "kernels/tcp-info", folder))
     results.append(reports_full_disk(lister, library, files[0]))
+    results.append(opens_no_stream(lister, library, files[0]))
     if not is_list_rtt(lister):
         results += [compare_arguments(lister, library, file) for file in files]
         results.append(is_safe(lister, library, folder))

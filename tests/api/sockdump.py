@@ -132,12 +132,13 @@ class Runs:
         self.program, self.library = program, library
 
     @contextlib.contextmanager
-    def start(self, arguments, output, file, **variables):
+    def start(self, arguments, output, file, closed=None, **variables):
         """Starts the program with the replies of a file, and ends it with the block, or after
-        LIMIT. A variable that is None is not set."""
+        LIMIT. A variable that is None is not set. A descriptor can be closed before."""
         own = kernels.environment(self.library, file, FAKE_KERNEL_ALONE="1")
         own = {name: it for name, it in (own | variables).items() if it is not None}
-        how = {"env": own, "stdout": output, "stderr": subprocess.PIPE}
+        how = {"env": own, "stdout": output, "stderr": subprocess.PIPE,
+               "preexec_fn": kernels.without(closed)}
         with subprocess.Popen([self.program, *arguments], **how) as running:
             limit = threading.Timer(LIMIT, running.kill)
             limit.start()
@@ -187,6 +188,15 @@ def test_failures(runs, files):
     _, written, _ = runs.end(["unix"], subprocess.PIPE, files[0], FAKE_KERNEL_EXCESS="4")
     lengths = struct.unpack_from("<2I", written, len(written) - 65536 - 24)
     compare("excess", lengths, (65536 + 16, 65540 + 16))
+
+
+def test_not_open(runs, files):
+    """Runs the program without standard input, output or error: a socket would get its number. The
+    kernel aborts a program that opens it."""
+    for closed in range(3):
+        error = "" if closed == 2 else f"sockdump: {kernels.NOT_OPEN}\n"
+        compare(f"without {closed}", runs.end([], subprocess.PIPE, files[0], closed=closed),
+                (1, b"", error))
 
 
 def test_rounds(runs, files, folder):
@@ -243,6 +253,7 @@ def main():
         runs = Runs(sys.argv[1], kernels.build(folder))
         test_kinds(runs, files)
         test_failures(runs, files)
+        test_not_open(runs, files)
         test_rounds(runs, files, folder)
         test_closed_pipe(runs, files)
     test_processes()
