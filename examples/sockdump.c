@@ -41,6 +41,8 @@
 #include <time.h>
 #include <unistd.h>
 
+#define VERSION "1.0.0"
+
 /* Missing in older headers of the C library. */
 #define PROTOCOL_MPTCP 262
 #define FAMILY_VSOCK 40
@@ -360,16 +362,21 @@ static int open_kernel(void) {
     return -1;
 }
 
-static int print_usage(FILE *stream, int status) {
-    fputs("usage: sockdump [--every=SECONDS] [KIND ..]\n\n"
-          "Requests the sockets of this machine from the kernel, and writes the answers as\n"
-          "a capture to standard output: sockdump | sslist\n\n"
-          "KIND is unix, tcp, udp, mptcp, raw, netlink, packet, vsock or xdp. Without KIND\n"
-          "all are requested.\n\n"
-          "With --every they are requested every SECONDS seconds, 1 to 86400, until the\n"
-          "output is closed or a signal ends the program.\n",
-          stream);
-    return status;
+static const char usage[] =
+    "usage: sockdump [--every=SECONDS] [KIND ..]\n"
+    "       sockdump --help | --version\n\n"
+    "Requests the sockets of this machine from the kernel, and writes the answers as\n"
+    "a capture to standard output: sockdump | sslist\n\n"
+    "KIND is unix, tcp, udp, mptcp, raw, netlink, packet, vsock or xdp. Without KIND\n"
+    "all are requested.\n\n"
+    "With --every they are requested every SECONDS seconds, 1 to 86400, until the\n"
+    "output is closed or a signal ends the program.\n";
+
+/* Prints a text. Returns the exit status. */
+static int print(const char *text) {
+    if (fputs(text, stdout) < 0 || fflush(stdout) != 0)
+        return fail("standard output"), 1;
+    return 0;
 }
 
 /* Selects the kinds of this name. Returns how many there are. */
@@ -428,7 +435,9 @@ int main(int argc, char **argv) {
     int kernel, failed;
     memset(&selection, 0, sizeof selection);
     if (argc > 1 && (strcmp(argv[1], "-h") == 0 || strcmp(argv[1], "--help") == 0))
-        return print_usage(stdout, 0);
+        return print(usage);
+    if (argc > 1 && (strcmp(argv[1], "-V") == 0 || strcmp(argv[1], "--version") == 0))
+        return print("sockdump " VERSION "\n");
     if (read_arguments(argc, argv, &selection) != 0)
         return 2;
     if (isatty(STDOUT_FILENO))

@@ -33,6 +33,7 @@ VERSIONS = {
     "CHANGELOG.md": r"(?m)^## (?!\[Unreleased\])\[?([^\]\s]+)",
     "crates/sslist_lister/src/lib.rt": r'(?m)^pub const VERSION: &str = "([^"]*)";$',
     "crates/sock_diag_lines/src/lib.rt": r'(?m)^pub const VERSION: &str = "([^"]*)";$',
+    "examples/sockdump.c": r'(?m)^#define VERSION "([^"]*)"$',
     "include/sockdiag.h": r'(?m)^#define SOCKDIAG_VERSION "([^"]*)"$',
     "rust/sockdiag/Cargo.toml": r'(?m)^version = "([^"]*)"$',
 }

@@ -155,6 +155,17 @@ class Runs:
         return running.returncode, written, errors.decode()
 
 
+def test_usage(runs, files):
+    """Prints the usage and the version, and requests nothing."""
+    version = (kernels.HERE.parent.parent / "VERSION").read_bytes()
+    for arguments in (["-V"], ["--version"], ["--version", "nope"]):
+        found = runs.end(arguments, subprocess.PIPE, files[0])
+        compare(f"{arguments}", found, (0, b"sockdump " + version, ""))
+    for argument in ("-h", "--help"):
+        status, usage, errors = runs.end([argument], subprocess.PIPE, files[0])
+        compare(argument, (status, usage[:16], errors), (0, b"usage: sockdump ", ""))
+
+
 def test_kinds(runs, files):
     """Requests all kinds, and some of them, also while signals interrupt the calls. A kind that the
     kernel lacks is written if it is named."""
@@ -177,7 +188,7 @@ def test_failures(runs, files):
         if status == 2 or "FAKE_KERNEL_REFUSES" in variables:
             compare(f"{arguments}", found[1], b"")
     # One round is longer than the buffer of standard output, the other one is not.
-    for arguments in ([], ["unix"], ["--every=1"]):
+    for arguments in ([], ["unix"], ["--every=1"], ["--help"], ["--version"]):
         with open("/dev/full", "wb") as full:
             found = runs.end(arguments, full, LONG)
         compare(f"{arguments} >/dev/full", found,
@@ -251,6 +262,7 @@ def main():
     files = kernels.replies()
     with tempfile.TemporaryDirectory() as folder:
         runs = Runs(sys.argv[1], kernels.build(folder))
+        test_usage(runs, files)
         test_kinds(runs, files)
         test_failures(runs, files)
         test_not_open(runs, files)
