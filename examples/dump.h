@@ -80,10 +80,11 @@ static int dump_read(struct dump *dump, const uint8_t *datagram, size_t length) 
     while (state == DUMP_GOES_ON
            && (answer = sockdiag_next_any_message(datagram, length, &cursor, &message))
                   != SOCKDIAG_END) {
-        const uint8_t *payload = datagram + message.offset;
+        const uint8_t *payload;
         /* After a framing error the rest of the datagram is unknown, and may have the end. */
         if (answer != SOCKDIAG_ITEM || message.message_type == SOCKDIAG_NLMSG_OVERRUN)
             return EAGAIN;
+        payload = datagram + message.offset;
         if (!sockdiag_is_answer(&message, dump->sequence_number, dump->port_number))
             continue;
         dump->is_interrupted |= sockdiag_is_interrupted(&message);

@@ -66,10 +66,15 @@ for flag in -O0 -O2 '-D__has_attribute(name)=0'; do
     fi
 done
 
-# The sanitizers check the test itself, and what the library passes to functions like memcpy.
-set -- -fsanitize=address,undefined
+# The sanitizers check the tests and the examples, and what the library passes to functions like
+# memcpy. With the last flag a variable that is not set has an odd value.
+set --
 echo 'int main(void) { return 0; }' >"$work/empty.c"
-${CC:-cc} "$@" -o "$work/empty" "$work/empty.c" 2>/dev/null || shift
+for flag in -fsanitize=address,undefined -fno-sanitize-recover=all \
+    -ftrivial-auto-var-init=pattern; do
+    ${CC:-cc} "$@" "$flag" -o "$work/empty" "$work/empty.c" 2>/dev/null || continue
+    set -- "$@" "$flag"
+done
 build fuzz_c "$top/tests/api/fuzz_c.c" "$@"
 "$work/fuzz_c" 20000 "$top/crates/sslist/stdin"
 
@@ -80,7 +85,7 @@ CFLAGS="$*" SOCKDIAG_LIB_DIR="$top/crates/sockdiag_c/out" "$top/tests/api/compar
 # one that lost data on another socket, a rejected reply does not end a dump, and a rejected
 # attribute does not hide its socket. Netlink and packet sockets are requested only without
 # arguments.
-build fake_list "$top/examples/list_sockets.c" "$top/tests/api/fake_kernel.c"
+build fake_list "$top/examples/list_sockets.c" "$top/tests/api/fake_kernel.c" "$@"
 "$work/fake_list" >"$work/found" 2>"$work/errors" && exit 1
 "$work/fake_list" -l >>"$work/found" 2>>"$work/errors" && exit 1
 "$work/fake_list" 443 >>"$work/found" 2>>"$work/errors" && exit 1
