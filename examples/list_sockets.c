@@ -306,6 +306,15 @@ static int list_selected(const struct selection *selection) {
     return failed;
 }
 
+/* Returns the port that a text has in decimal digits, or 0 if it is none. strtoul(3) also accepts
+ * spaces and a sign before them. */
+static uint16_t read_port(const char *text) {
+    char *end;
+    const unsigned long port = strtoul(text, &end, 10);
+    const int has_digits = *text >= '0' && *text <= '9' && *end == '\0';
+    return has_digits && port <= UINT16_MAX ? (uint16_t)port : 0;
+}
+
 /* Reads the arguments. Returns 0, or -1 if they are wrong. */
 static int read_arguments(int count, char **arguments, struct selection *selection) {
     int index = 1;
@@ -313,11 +322,9 @@ static int read_arguments(int count, char **arguments, struct selection *selecti
     selection->port = 0;
     index += selection->only_listening;
     if (index < count) {
-        char *end;
-        const unsigned long port = strtoul(arguments[index], &end, 10);
-        if (*end != '\0' || port == 0 || port > UINT16_MAX)
+        selection->port = read_port(arguments[index]);
+        if (selection->port == 0)
             return -1;
-        selection->port = (uint16_t)port;
         index++;
     }
     return index == count ? 0 : -1;
@@ -327,7 +334,7 @@ int main(int argc, char **argv) {
     struct selection selection;
     int failed;
     if (read_arguments(argc, argv, &selection) != 0)
-        return fputs("usage: list_sockets [-l] [PORT]\n", stderr), 2;
+        return fputs("usage: list_sockets [-l] [PORT], with a PORT from 1 to 65535\n", stderr), 2;
     if (!sockdiag_is_compatible())
         return fputs("list_sockets: the library has another version than its header\n", stderr), 1;
     failed = list_selected(&selection);

@@ -106,12 +106,17 @@ unix type 1 state 7 inode 2 rejected 5 (buffer of too few bytes)
 2 list_sockets: unix: invalid reply: buffer of too few bytes
 END
 
-# Wrong arguments.
-for arguments in 0 65536 443x -x "443 -l" "-l -l" "-l 443 444"; do
+# Wrong arguments, which are separated by slashes.
+for arguments in 0 65536 443x -x '' ' 5' +80 -1 -18446744073709551536 18446744073709551696 5_0 \
+    443/-l -l/-l -l/443/444 -l/+80; do
     status=0
-    # shellcheck disable=SC2086 # Each word is an argument.
-    "$work/fake_list" $arguments >"$work/found" 2>"$work/errors" || status=$?
-    if [ "$status" -ne 2 ] || [ -s "$work/found" ] || ! grep -q '^usage: ' "$work/errors"; then
+    (
+        IFS=/
+        # shellcheck disable=SC2086 # Each part is an argument.
+        exec "$work/fake_list" ${arguments:-''} >"$work/found" 2>"$work/errors"
+    ) || status=$?
+    if [ "$status" -ne 2 ] || [ -s "$work/found" ] ||
+        ! grep -q '^usage: .* from 1 to 65535$' "$work/errors"; then
         echo "c_api: list_sockets $arguments: status $status" >&2
         exit 1
     fi
