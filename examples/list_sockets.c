@@ -335,8 +335,6 @@ int main(int argc, char **argv) {
     int failed;
     if (read_arguments(argc, argv, &selection) != 0)
         return fputs("usage: list_sockets [-l] [PORT], with a PORT from 1 to 65535\n", stderr), 2;
-    if (!sockdiag_is_compatible())
-        return fputs("list_sockets: the library has another version than its header\n", stderr), 1;
     failed = list_selected(&selection);
     if (fflush(stdout) != 0 || ferror(stdout))
         return perror("list_sockets: standard output"), 1;
