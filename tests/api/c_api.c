@@ -6,6 +6,7 @@
  * c_messages.c call the other functions. tests/api/c_api.sh builds and runs this program.
  */
 #include "check.h"
+#include "sockdiag.h" /* A second time: check.h includes it too. */
 
 #include <linux/inet_diag.h>
 #include <linux/netlink.h>
