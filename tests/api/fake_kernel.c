@@ -16,13 +16,15 @@
  *
  * - Each datagram begins with the end of a dump that another socket requested, which a lister
  *   recognizes by its port id. With FAKE_KERNEL_ALONE there is no other socket.
+ * - With FAKE_KERNEL_ODD it then has an NLMSG_NOOP of an odd length, whose payload is a reply.
  * - If FAKE_KERNEL_EXCESS is a number, each datagram has so many bytes more than the buffer. It
  *   ends with an NLMSG_NOOP, which fills the rest of the buffer if the excess is cut.
  * - If FAKE_KERNEL_LACK is a number below 20, each datagram lacks so many of its last bytes.
  * - If FAKE_KERNEL_LENGTH is a number, it is the length field of the last message of each datagram.
  * - If FAKE_KERNEL_END is a number, each dump ends with it. If it is empty, with no number.
  * - If FAKE_KERNEL_INTERRUPTIONS is a number, so many dumps are interrupted: that of a request, and
- *   those of the requests that follow and are the same but for the sequence number.
+ *   those of the requests that follow and are the same but for the sequence number. Their end has a
+ *   flag, or with FAKE_KERNEL_OVERRUN an NLMSG_OVERRUN precedes it.
  *
  * Otherwise the first request is answered by a dump that is interrupted. The second one, which has
  * to be the same with another sequence number, is answered by the end of another dump, a reply that
@@ -35,10 +37,13 @@
  * If FAKE_KERNEL_SIGNALS is set, a signal interrupts each second call that sends or receives,
  * beginning with the first one.
  *
- * A socket that gets the number of standard input, output or error aborts the program. A socket has
- * to be connected to the kernel before it sends and receives. If FAKE_KERNEL_REFUSES
- * is set, connect fails. Requests are answered all the same, as a kernel does, so a lister that
- * ignores the failure lists sockets.
+ * If FAKE_KERNEL_TIME is a number of seconds with nine decimal places, it is always the time of
+ * CLOCK_REALTIME.
+ *
+ * The program is aborted if its socket gets the number of standard input, output or error, if
+ * exec(2) does not close it, or if the previous one is still open. A socket has to be connected to
+ * the kernel before it sends and receives. If FAKE_KERNEL_REFUSES is set, connect fails. Requests
+ * are answered all the same, as a kernel does, so a lister that ignores the failure lists sockets.
  */
 #define _DEFAULT_SOURCE        /* For syscall. */
 #define SOCKDIAG_NO_LINK_CHECK /* Only constants are used: a lister in Rust exports no function. */
@@ -54,6 +59,7 @@
 #include <string.h>
 #include <sys/socket.h>
 #include <sys/syscall.h>
+#include <time.h>
 #include <unistd.h>
 
 #define OWN_PORT 77
@@ -92,11 +98,11 @@ static int open_replies(const char *path) {
 
 int socket(int family, int type, int protocol) {
     const char *path = getenv("FAKE_KERNEL_REPLIES");
-    (void)type;
+    const int is_open = kernel >= 0 && fcntl(kernel, F_GETFD) >= 0;
     if (family != AF_NETLINK || protocol != NETLINK_SOCK_DIAG)
         return -1;
     kernel = open("/dev/null", O_RDWR);
-    if (kernel >= 0 && kernel <= STDERR_FILENO)
+    if (kernel <= STDERR_FILENO || (type & SOCK_CLOEXEC) == 0 || is_open)
         abort();
     if (path != NULL && replies == NULL && !open_replies(path))
         return -1;
@@ -344,14 +350,27 @@ static size_t put_other_end(uint8_t *bytes, uint32_t number) {
     return length;
 }
 
-/* Writes the end of a dump, with the number that FAKE_KERNEL_END has. Returns its length. */
+/* Writes an NLMSG_NOOP, whose payload is a reply about a UNIX socket and one byte more. Returns its
+ * length with three bytes of padding. */
+static size_t put_odd(uint8_t *bytes, uint32_t number) {
+    static const uint8_t reply[20] = {AF_UNIX, SOCK_STREAM, SOCKDIAG_TCP_LISTEN};
+    const size_t padded = put(bytes, NLMSG_NOOP, 0, number, reply, sizeof reply);
+    const uint32_t length = (uint32_t)padded - 3;
+    memcpy(bytes, &length, sizeof length);
+    return padded;
+}
+
+/* Writes the end of a dump, with the number that FAKE_KERNEL_END has, after an NLMSG_OVERRUN if
+ * FAKE_KERNEL_OVERRUN is set and the dump is interrupted. Returns its length. */
 static size_t put_end(uint8_t *bytes, uint32_t number) {
     const char *text = getenv("FAKE_KERNEL_END");
     const int32_t result = text == NULL ? 0 : (int32_t)strtol(text, NULL, 10);
     const size_t length = text != NULL && *text == '\0' ? 0 : sizeof result;
     const int is_last = repetitions >= variable("FAKE_KERNEL_INTERRUPTIONS");
-    const uint16_t flags = is_last ? NLM_F_MULTI : NLM_F_MULTI | NLM_F_DUMP_INTR;
-    return put(bytes, NLMSG_DONE, flags, number, &result, length);
+    const int is_overrun = !is_last && getenv("FAKE_KERNEL_OVERRUN") != NULL;
+    const uint16_t flags = is_last || is_overrun ? NLM_F_MULTI : NLM_F_MULTI | NLM_F_DUMP_INTR;
+    const size_t start = is_overrun ? put(bytes, NLMSG_OVERRUN, 0, number, "", 0) : 0;
+    return start + put(bytes + start, NLMSG_DONE, flags, number, &result, length);
 }
 
 /* Writes the next message of an answer by the replies of the file. Returns its length. */
@@ -380,7 +399,9 @@ static ssize_t exceed(uint8_t *bytes, size_t start, size_t capacity, size_t exce
 /* Writes the next datagram of an answer by the replies of the file, as the variables change it.
  * Returns the length that recv returns. */
 static ssize_t put_datagram(uint8_t *bytes, uint32_t number, size_t capacity, int flags) {
-    const size_t start = put_other_end(bytes, number);
+    const size_t first = put_other_end(bytes, number);
+    const size_t odd = getenv("FAKE_KERNEL_ODD") != NULL ? put_odd(bytes + first, number) : 0;
+    const size_t start = first + odd;
     const size_t end = start + put_from_file(bytes + start, number) - variable("FAKE_KERNEL_LACK");
     const size_t excess = variable("FAKE_KERNEL_EXCESS");
     const uint32_t length = (uint32_t)variable("FAKE_KERNEL_LENGTH");
@@ -451,4 +472,11 @@ ssize_t read(int fd, void *buffer, size_t capacity) {
 
 ssize_t write(int fd, const void *bytes, size_t length) {
     return fd == kernel ? send(fd, bytes, length, 0) : syscall(SYS_write, fd, bytes, length);
+}
+
+int clock_gettime(clockid_t clock, struct timespec *time) {
+    const char *text = getenv("FAKE_KERNEL_TIME");
+    if (clock != CLOCK_REALTIME || text == NULL)
+        return (int)syscall(SYS_clock_gettime, clock, time);
+    return sscanf(text, "%ld.%ld", &time->tv_sec, &time->tv_nsec) == 2 ? 0 : -1;
 }

@@ -7,18 +7,19 @@ and rust_api.sh run this script.
 A file of tests/api/kernels has replies, and the words of the line that a lister prints for each.
 fake_kernel.c, which is preloaded, answers the requests of the lister with them. A lister has to
 print a line for each reply, in the order of the file, with these words and no others, and end with
-status 0, also if signals interrupt its calls, and if the first nine dumps of a request are
-interrupted. The text of an error, which is in parentheses, is not compared. A lister that takes
-arguments has to print the lines with a local port, and with -l those of sockets that listen. The
-lister list_rtt has to print the established TCP connections.
+status 0, also if signals interrupt its calls, if each datagram has a message of another type, and
+if the first nine dumps of a request are interrupted or lose data. The text of an error, which is in
+parentheses, is not compared. A lister that takes arguments has to print the lines with a local
+port, and with -l those of sockets that listen. The lister list_rtt has to print the established TCP
+connections.
 
 A lister has to print no character that could control a terminal. It has to end with status 1,
 without a line, if it cannot connect to the kernel, and if each datagram is longer than its buffer
 or truncated. It also has to end with status 1, after the lines, if ten dumps of a request are
-interrupted, if a dump ends with an error or with an invalid number, if another reply is too short,
-and if its output cannot be written. If standard input, output or error is not open, it has to end
-with status 1 before it opens a socket, unless it opens another file in its place first, as Rust
-does.
+interrupted or lose data, if a dump ends with an error or with an invalid number, if another reply
+is too short, and if its output cannot be written. If standard input, output or error is not open,
+it has to end with status 1 before it opens a socket, unless it opens another file in its place
+first, as Rust does.
 
 The attributes of the replies about TCP, UDP and MPTCP sockets have to be in the order in which the
 kernel sends them. The exit status is 1 if they are not, or if a lister fails.
@@ -188,13 +189,13 @@ def reports_short_reply(lister, library, file, folder):
     return compare(lister, library, changed, status=1)
 
 
-def repeats_dumps(lister, library, file):
+def repeats_dumps(lister, library, file, **how):
     """Returns whether the lister repeats a dump that was interrupted, and reports it if it was
     interrupted at the last attempt."""
     last, more = str(ATTEMPTS - 1), str(ATTEMPTS)
-    return (compare(lister, library, file, FAKE_KERNEL_INTERRUPTIONS=last)
+    return (compare(lister, library, file, FAKE_KERNEL_INTERRUPTIONS=last, **how)
             and compare(lister, library, file, status=1, error="interrupted",
-                        FAKE_KERNEL_INTERRUPTIONS=more))
+                        FAKE_KERNEL_INTERRUPTIONS=more, **how))
 
 
 def reports_full_disk(lister, library, file):
@@ -229,7 +230,9 @@ def is_right(lister, library, files, folder):
     results += [fails(lister, library, files[0], FAKE_KERNEL_EXCESS=it) for it in EXCESSES]
     results += [fails(lister, library, files[0], FAKE_KERNEL_LACK=it) for it in LACKS]
     results.append(compare(lister, library, files[0], FAKE_KERNEL_SIGNALS="1"))
+    results.append(compare(lister, library, files[0], FAKE_KERNEL_ODD="1"))
     results.append(repeats_dumps(lister, library, files[0]))
+    results.append(repeats_dumps(lister, library, files[0], FAKE_KERNEL_OVERRUN="1"))
     results += [compare(lister, library, files[0], status=1, error=error, FAKE_KERNEL_END=it)
                 for it, error in ENDS]
     results.append(reports_short_reply(lister, library, HERE / "kernels/tcp-info", folder))

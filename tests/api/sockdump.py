@@ -6,10 +6,10 @@ runs examples/processes.sh. c_api.sh runs this script.
 
 fake_kernel.c, which is preloaded, answers the requests with the replies of a file of
 tests/api/kernels. The capture has to have the request for each kind of socket, as REQUESTS has it,
-and each datagram of the answer. With --every it has to have one header and these packets for each
-round. Also compared are the time between rounds, that each round is written as it ends, how the
-program ends, and the texts of errors. A run that takes longer than LIMIT is killed, so that its
-exit status differs. The exit status is 1 if something differs.
+and each datagram of the answer, with its time. With --every it has to have one header and these
+packets for each round. Also compared are the time between rounds, that each round is written as it
+ends, how the program ends, and the texts of errors. A run that takes longer than LIMIT is killed,
+so that its exit status differs. The exit status is 1 if something differs.
 """
 
 import contextlib
@@ -54,7 +54,7 @@ COOKED_HEADER = bytes.fromhex("00040338 00000000 00000000 00000004")
 OWN_PORT = 77
 # The longest time that a run may take, in seconds.
 LIMIT = 60
-DUMP, BY_FAMILY, ERROR, DONE, MULTI, ENOENT, EINVAL = 0x301, 20, 2, 3, 2, 2, 22
+DUMP, BY_FAMILY, NOOP, ERROR, DONE, MULTI, ENOENT, EINVAL = 0x301, 20, 1, 2, 3, 2, 2, 22
 SECONDS = "sockdump: --every=SECONDS needs a whole number from 1 to 86400\n"
 # Arguments, variables of the kernel, the exit status, and standard error.
 FAILURES = [
@@ -102,7 +102,8 @@ def expected_round(file, kinds=()):
 
 
 def packets(capture):
-    """Returns the time and the datagram of each packet of a capture, after its header."""
+    """Returns the time, in microseconds, and the datagram of each packet of a capture, after its
+    header."""
     found, at = [], len(FILE_HEADER)
     assert capture[:at] == FILE_HEADER, f"header {capture[:at].hex()}"
     while at < len(capture):
@@ -110,7 +111,7 @@ def packets(capture):
         cooked = capture[at + 16 : at + 32]
         assert cooked == COOKED_HEADER, f"cooked header {cooked.hex()}"
         assert micro < 1000000 and stored == length <= len(capture) - at - 16, "length or time"
-        found.append((seconds + micro / 1e6, capture[at + 32 : at + 16 + stored]))
+        found.append((seconds * 1000000 + micro, capture[at + 32 : at + 16 + stored]))
         at += 16 + stored
     return found
 
@@ -173,10 +174,11 @@ def test_kinds(runs, files):
     signals = ({}, {"FAKE_KERNEL_SIGNALS": "1"})
     for file, kinds, variables in itertools.product(files, selections, signals):
         what = f"{file.name} {kinds} {variables}"
+        started = time.time_ns() // 1000
         status, written, errors = runs.end(kinds, subprocess.PIPE, file, **variables)
         compare(what, (status, errors), (0, ""))
-        now = time.time()
-        assert all(now - 60 < it <= now for it, _ in packets(written)), "time of a packet"
+        times = [started, *(it for it, _ in packets(written)), time.time_ns() // 1000]
+        compare("times", times, sorted(times))
         compare_datagrams(what, written, expected_round(file, kinds))
 
 
@@ -225,7 +227,37 @@ def test_rounds(runs, files, folder):
     times = [it for it, _ in packets(written)[:: len(expected)]]
     compare_datagrams("rounds", written, len(times) * expected)
     between = [later - earlier for earlier, later in zip(times, times[1:])]
-    assert len(times) >= 3 and 0.9 < min(between) < 1.9, f"rounds at {times}"
+    assert len(times) >= 3 and 900000 < min(between) < 1900000, f"rounds at {times}"
+
+
+def test_clock(runs, files):
+    """Writes rounds while the clock with the time of a packet stands still."""
+    expected = 2 * expected_round(files[0])
+    size = len(FILE_HEADER) + sum(32 + len(it) for it in expected)
+    variables = {"FAKE_KERNEL_TIME": "1700000000.123456789"}
+    with runs.start(["--every=1"], subprocess.PIPE, files[0], **variables) as running:
+        written = running.stdout.read(size)
+    compare_datagrams("clock", written, expected)
+    compare("clock", {it for it, _ in packets(written)}, {1700000000123456})
+
+
+def test_odd_length(runs, files):
+    """Compares datagrams that begin with a message of 33 bytes, and its padding."""
+    odd = message(NOOP, 0, 1, OWN_PORT, bytes([1, 1, 10, *bytes(14)])) + bytes(3)
+    request, *datagrams = expected_round(files[0], ["unix"])
+    found = runs.end(["unix"], subprocess.PIPE, files[0], FAKE_KERNEL_ODD="1")
+    compare("odd length", (found[0], found[2]), (0, ""))
+    compare_datagrams("odd length", found[1], [request, *(odd + it for it in datagrams)])
+
+
+def test_terminal(runs, files):
+    """Writes no capture to a terminal."""
+    ends = os.openpty()
+    found = runs.end([], ends[1], files[0])
+    for end in ends:
+        os.close(end)
+    error = "sockdump: standard output is a terminal; try sockdump | sslist\n"
+    compare("terminal", found, (1, None, error))
 
 
 def test_closed_pipe(runs, files):
@@ -266,7 +298,10 @@ def main():
         test_kinds(runs, files)
         test_failures(runs, files)
         test_not_open(runs, files)
+        test_odd_length(runs, files)
+        test_terminal(runs, files)
         test_rounds(runs, files, folder)
+        test_clock(runs, files)
         test_closed_pipe(runs, files)
     test_processes()
     print("sockdump: all tests pass")
