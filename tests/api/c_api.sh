@@ -1,11 +1,12 @@
 #!/bin/sh
 # Builds the static library of include/sockdiag.h, and calls it from C: tests/api/c_api.c,
 # c_values.c and c_messages.c compare what the calls return, also linked as C++, if the compiler
-# supports it, tests/api/cost.c counts their instructions, if valgrind is installed,
-# tests/api/fuzz_c.c calls them with changed replies, and tests/api/compare_replies.sh compares the
-# lenient calls with an independent reader. Then installs the library, builds the examples, runs
-# them with the replies of other kernels, and lists the sockets of this machine by list_sockets, if
-# the kernel permits it. Needs the kit's rt, a C compiler and Python. The gate runs this script.
+# supports it. If valgrind is installed, it runs these programs, and tests/api/cost.c, which counts
+# the instructions of the calls. tests/api/fuzz_c.c calls them with changed replies, and
+# tests/api/compare_replies.sh compares the lenient calls with an independent reader. Then installs
+# the library, builds the examples, runs them with the replies of other kernels, and lists the
+# sockets of this machine by list_sockets, if the kernel permits it. Needs the kit's rt, a C
+# compiler and Python. The gate runs this script.
 set -eu
 top=$(CDPATH='' cd -- "$(dirname -- "$0")/../.." && pwd)
 work=$(mktemp -d)
@@ -35,15 +36,26 @@ build() {
     build_as c c99 "$@"
 }
 
+# Runs a program. Under valgrind, if it is installed, it may access no memory that it does not have,
+# and has to free all that it allocates.
+run() {
+    if command -v valgrind >/dev/null; then
+        valgrind -q --leak-check=full --error-exitcode=1 "$1"
+    else
+        echo "c_api: skipped: memory errors and leaks: no valgrind" >&2
+        "$1"
+    fi
+}
+
 has_plus=true
 ${CC:-cc} -fsyntax-only -x c++ /dev/null 2>/dev/null || has_plus=false
 "$has_plus" || echo "c_api: skipped: programs linked as C++: no C++ compiler"
 for name in c_api c_values c_messages; do
     build "$name" "$top/tests/api/$name.c"
-    "$work/$name"
+    run "$work/$name"
     if "$has_plus"; then
         build_as c++ c++11 "$name" "$top/tests/api/$name.c"
-        "$work/$name" >"$work/found"
+        run "$work/$name" >"$work/found"
         sed 's/$/, linked as C++/' "$work/found"
     fi
 done
