@@ -182,7 +182,8 @@ impl<'a> Iterator for RejectedAttributes<'a> {
 
 impl core::iter::FusedIterator for RejectedAttributes<'_> {}
 
-/// The decoded attributes of a reply, each an `N`, in order.
+/// The decoded attributes of a reply, each an `N`, in order. `==` compares the bytes of two
+/// replies, also ignored ones, and `Debug` prints them: to compare or print values, use `iter`.
 #[derive(Clone, Copy, Debug, PartialEq, Eq)]
 pub struct Nlas<'a, N> {
     bytes: &'a [u8],

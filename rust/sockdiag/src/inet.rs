@@ -192,7 +192,8 @@ impl core::ops::DerefMut for RequestBytes {
 }
 
 impl InetRequest {
-    /// Returns the netlink message that requests the sockets.
+    /// Returns the netlink message that requests the sockets. It has no bytes if the family is
+    /// neither `AF_INET` nor `AF_INET6`.
     ///
     /// ```
     /// use sockdiag::constants::{AF_INET, IPPROTO_MPTCP, NLM_F_DUMP, NLM_F_REQUEST};
@@ -216,7 +217,8 @@ impl InetRequest {
         self.message(header, false)
     }
 
-    /// Returns the netlink message that requests to close the sockets.
+    /// Returns the netlink message that requests to close the sockets. It has no bytes if the
+    /// family is neither `AF_INET` nor `AF_INET6`.
     pub fn to_destroy(&self, header: &NetlinkHeader) -> RequestBytes {
         self.message(header, true)
     }
@@ -427,6 +429,9 @@ pub const INET_RESPONSE_HEADER_LEN: usize = sys::INET_ATTRIBUTES;
 /// The reply about one IPv4 or IPv6 socket, borrowed from the bytes that were parsed.
 ///
 /// It does not distinguish TCP from UDP: request one protocol at a time.
+///
+/// `==` compares all bytes of two replies, also ignored ones: to compare values, compare `header`
+/// and `nlas.iter()`. `Debug` prints the bytes of the attributes, and not their values.
 #[derive(Clone, Copy, Debug, PartialEq, Eq)]
 pub struct InetReply<'a> {
     /// The header, which identifies the socket.

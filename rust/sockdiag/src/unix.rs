@@ -174,6 +174,9 @@ pub const UNIX_RESPONSE_HEADER_LEN: usize = sys::UNIX_ATTRIBUTES;
 
 /// The reply about one UNIX socket, borrowed from the bytes that were parsed.
 ///
+/// `==` compares all bytes of two replies, also ignored ones: to compare values, compare `header`
+/// and `nlas.iter()`. `Debug` prints the bytes of the attributes, and not their values.
+///
 /// ```
 /// use sockdiag::unix::{UnixDiagName, UnixReply};
 ///
