@@ -833,9 +833,13 @@ struct sockdiag_tcp_info {
  * 0. Returns the length of the value in bytes, or 0 if there is none.
  *
  * Kernels without tcpi_snd_wnd send fewer than 232 bytes: a field that ends after the returned
- * length is 0, and not known. Newer kernels send more; the bytes after 232 are not copied. A time
- * that the kernel has not measured is 0 too, such as rtt of a socket that listens. The value is
- * struct tcp_info only if the protocol is TCP: MPTCP has struct mptcp_info, which
+ * length is not known. Its bytes before this length are copied, and the other ones are 0. Newer
+ * kernels send more; the bytes after 232 are not copied.
+ *
+ * A time that the kernel has not measured has its first value: rtt of a socket that listens is 0,
+ * and in the state TCP_SYN_SENT rtt is 0, rttvar 250000 and min_rtt 4294967295.
+ *
+ * The value is struct tcp_info only if the protocol is TCP: MPTCP has struct mptcp_info, which
  * sockdiag_inet_get_mptcp_info returns, and SCTP has struct sctp_info. Their bytes have no meaning
  * in info.
  *
@@ -1004,8 +1008,8 @@ struct sockdiag_long_tcp_info {
  * Copies the value of the first INET_DIAG_INFO after the header of a reply about an IPv4 or IPv6
  * socket, as sockdiag_inet_get_tcp_info does, into the longer struct of Linux 6.18: at most the 280
  * bytes of info. The remaining bytes of info are set to 0. Returns the length of the value in
- * bytes, or 0 if there is none: a field that ends after it is 0, and not known. A time that the
- * kernel has not measured is 0 too, such as rtt of a socket that listens.
+ * bytes, or 0 if there is none. A field that ends after this length is not known: see
+ * sockdiag_inet_get_tcp_info, also for times that are not measured.
  *
  * The values of attributes are not checked. So this call also works for a value that is rejected
  * with SOCKDIAG_BUFFER_TOO_SMALL, as a lenient call reports it.
@@ -1072,9 +1076,10 @@ struct sockdiag_mptcp_info {
  * Copies the value of the first INET_DIAG_INFO in a reply to a request for MPTCP, after the header
  * of 72 bytes: at most the 96 bytes of info. The remaining bytes of info are set to 0. Returns the
  * length of the value in bytes, or 0 if there is none. Each kernel sends the struct in its own
- * length: a field that ends after the returned length is 0, and not known. All fields of a socket
- * that listens are 0 too. In a reply to a request for another protocol the value is another struct,
- * and its bytes have no meaning in info.
+ * length: a field that ends after the returned length is not known. Its bytes before this length
+ * are copied, and the other ones are 0. All fields of a socket that listens are 0, except
+ * subflows_max of Linux 6.1. In a reply to a request for another protocol the value is another
+ * struct, and its bytes have no meaning in info.
  *
  * The values of attributes are not checked. So this call also works for a value that is rejected
  * with SOCKDIAG_BUFFER_TOO_SMALL, as a lenient call reports it for each value of MPTCP. Attributes

@@ -8,6 +8,8 @@
  */
 #include "check.h"
 
+#include "../../examples/dump.h"
+
 /* The header of a reply about a UNIX socket in state 10 with the inode 78, and of one about an IPv4
  * socket with the inode 12345. */
 static const uint8_t unix_header[16] = {1, 1, 10, 0, 78, 0, 0, 0, 1, 2, 3, 4, 5, 6, 7, 8};
@@ -116,6 +118,33 @@ static void check_later_fields(const struct sockdiag_long_tcp_info *it, const ui
     FIELD(it->received_ce_bytes, bytes + 272);
     FIELD(it->accecn_fail_mode, bytes + 276);
     FIELD(it->accecn_opt_seen, bytes + 278);
+}
+
+/* A value that ends within a field: the bytes that are there are copied, and the other ones are 0.
+ * SOCKDIAG_HAS is the macro of the examples. */
+static void reads_a_part_of_a_field(void) {
+    uint8_t payload[100], value[10];
+    struct sockdiag_long_tcp_info longer;
+    struct sockdiag_tcp_info tcp;
+    struct sockdiag_mptcp_info mptcp;
+    size_t end, length;
+    memcpy(payload, inet_header, 72);
+    memset(value, 0xff, sizeof value);
+    end = put(payload, 72, 2, value, sizeof value);
+    memset(&longer, UNTOUCHED, sizeof longer);
+    memset(&tcp, UNTOUCHED, sizeof tcp);
+    memset(&mptcp, UNTOUCHED, sizeof mptcp);
+    length = sockdiag_inet_get_long_tcp_info(payload, end, &longer);
+    check(length == 10 && sockdiag_inet_get_tcp_info(payload, end, &tcp) == 10 &&
+          sockdiag_inet_get_mptcp_info(payload, end, &mptcp) == 10, "a value of 10 bytes");
+    check(longer.delivery_rate_app_limited == 0xff && longer.rto == 0xffff && longer.ato == 0,
+          "a part of a field of the longer tcp_info");
+    check(tcp.rto == 0xffff && tcp.ato == 0, "a part of a field of tcp_info");
+    check(mptcp.flags == 0xffff && mptcp.token == 0, "a part of a field of mptcp_info");
+    check(SOCKDIAG_HAS(length, longer, delivery_rate_app_limited) &&
+          !SOCKDIAG_HAS(length, longer, rto) && !SOCKDIAG_HAS(length, longer, ato) &&
+          SOCKDIAG_HAS(length, mptcp, add_addr_accepted_max) && !SOCKDIAG_HAS(length, mptcp, flags),
+          "whether a value of 10 bytes has a field");
 }
 
 /* The fields of struct sockdiag_tcp_info are at the same offsets in the longer struct, so the bytes
@@ -448,6 +477,7 @@ static void has_numbers(void) {
 int main(void) {
     has_the_first_errors();
     reads_long_tcp_info();
+    reads_a_part_of_a_field();
     reads_mptcp_info();
     reads_single_values();
     reads_pending_connections();

@@ -404,7 +404,7 @@ impl From<sys::InetHeader> for InetResponseHeader {
 /// Returns the TCP connection that a reply describes, and the length of its value in bytes.
 ///
 /// This also works for a payload that is rejected because the value is too short, as older kernels
-/// and MPTCP send it. Fields after the end of the value are then 0. Newer kernels send more bytes
+/// and MPTCP send it. Bytes after the end of the value are then 0. Newer kernels send more bytes
 /// than the 232 of [`TcpInfo`], which are ignored. The value is taken for `struct tcp_info`
 /// whatever the protocol is: for MPTCP ([`MptcpInfoBytes`]) and SCTP it is another struct, and the
 /// fields are meaningless. Returns `None` if the payload contains no such value, or an empty one.

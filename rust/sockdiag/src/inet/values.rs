@@ -15,8 +15,10 @@ const ALL_TCP_FIELDS: usize = 280;
 const ALL_MPTCP_FIELDS: usize = 96;
 
 /// The borrowed value of `INET_DIAG_INFO` of a TCP connection, of any length. Each kernel version
-/// sends `struct tcp_info` in its own size; newer versions append fields. A time that the kernel
-/// has not measured is 0, such as `Rtt` of a socket that listens.
+/// sends `struct tcp_info` in its own size; newer versions append fields.
+///
+/// A time that the kernel has not measured has its first value: `Rtt` of a socket that listens is
+/// 0, and in the state `TCP_SYN_SENT` `Rtt` is 0, `Rttvar` 250000 and `MinRtt` 4294967295.
 ///
 /// ```
 /// use sockdiag::inet::{TcpField, TcpInfoBytes};
@@ -66,7 +68,7 @@ impl<'a> TcpInfoBytes<'a> {
 
 /// The borrowed value of `INET_DIAG_INFO` of an MPTCP socket, of any length. Each kernel version
 /// sends `struct mptcp_info` in its own size; newer versions append fields. All fields of a socket
-/// that listens are 0.
+/// that listens are 0, except `SubflowsMax` of Linux 6.1.
 ///
 /// ```
 /// use sockdiag::inet::{MptcpField, MptcpInfoBytes};
