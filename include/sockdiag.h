@@ -849,7 +849,7 @@ struct sockdiag_tcp_info {
 size_t sockdiag_inet_get_tcp_info(const uint8_t *payload, size_t length,
                                   struct sockdiag_tcp_info *info);
 
-/* The state of a TCP connection: struct tcp_info of linux/tcp.h in Linux 6.18. */
+/* The state of a TCP connection: struct tcp_info of linux/tcp.h in Linux 7.2. */
 struct sockdiag_long_tcp_info {
     uint8_t state;                     /* TCP state (tcpi_state), TCP_ESTABLISHED to TCP_CLOSING,
                                           at offset 0. */
@@ -998,18 +998,24 @@ struct sockdiag_long_tcp_info {
                                           tcpi_received_e0_bytes at 268. */
     uint32_t received_ce_bytes;        /* Number of bytes received with the ECN mark CE.
                                           tcpi_received_ce_bytes at 272. */
-    uint16_t accecn_fail_mode;         /* Bits for the ways in which accurate ECN failed.
-                                          tcpi_accecn_fail_mode at 276. */
-    uint16_t accecn_opt_seen;          /* Which TCP options of accurate ECN were seen.
-                                          tcpi_accecn_opt_seen at 278. */
+    uint32_t ecn_mode : 2;             /* How ECN is used: 0 not at all, 1 as in RFC 3168, 2
+                                          accurate ECN, 3 not negotiated yet. tcpi_ecn_mode at
+                                          276, bits 0 and 1. */
+    uint32_t accecn_opt_seen : 2;      /* Which TCP options of accurate ECN were seen.
+                                          tcpi_accecn_opt_seen at 276, bits 2 and 3. */
+    uint32_t accecn_fail_mode : 4;     /* Bits for the ways in which accurate ECN failed.
+                                          tcpi_accecn_fail_mode at 276, bits 4 to 7. */
+    uint32_t options2 : 24;            /* More options of the connection. tcpi_options2 at 276,
+                                          bits 8 to 31. */
 };
 
 /*
  * Copies the value of the first INET_DIAG_INFO after the header of a reply about an IPv4 or IPv6
- * socket, as sockdiag_inet_get_tcp_info does, into the longer struct of Linux 6.18: at most the 280
+ * socket, as sockdiag_inet_get_tcp_info does, into the longer struct of Linux 7.2: at most the 280
  * bytes of info. The remaining bytes of info are set to 0. Returns the length of the value in
  * bytes, or 0 if there is none. A field that ends after this length is not known: see
- * sockdiag_inet_get_tcp_info, also for times that are not measured.
+ * sockdiag_inet_get_tcp_info, also for times that are not measured. The four bit fields are known
+ * if the length is at least 280.
  *
  * The values of attributes are not checked. So this call also works for a value that is rejected
  * with SOCKDIAG_BUFFER_TOO_SMALL, as a lenient call reports it.

@@ -410,7 +410,7 @@ def header_lines(text, contracts):
         yield f"{name}: {value}, #define"
     for kind, name, body in re.findall(r"^(enum|struct) (\w+) \{(.*?)\}", text, re.M | re.S):
         for place, it in enumerate(re.findall(r"[^;,]+[^;,\s]", body)):
-            member, of = re.search(r"(\w+)(?: = (\w+)|\[\w+\])?$", it).groups()
+            member, of = re.search(r"(\w+)(?: = (\w+)|\[\w+\]| : \d+)?$", it).groups()
             if kind == "enum":
                 yield f"{member}: {of}, enum {name}"
             else:

@@ -21,7 +21,7 @@ RECORDS = {
 FIELD_STRUCTS = {
     "LONG_TCP_INFO_LEN": (
         "LongTcpInfo",
-        "The state of a TCP connection: `struct tcp_info` of `linux/tcp.h` in Linux 6.18.",
+        "The state of a TCP connection: `struct tcp_info` of `linux/tcp.h` in Linux 7.2.",
         "TcpField",
         "TcpInfo",
     ),
@@ -73,6 +73,7 @@ CONSTANT = re.compile(DOC + r"^pub(?:\(crate\))? const (\w+): (\w+) = (\S+);$", 
 VARIANT = re.compile(DOC + r'^    #\[error\("(.*)"\)\]\s+(\w+)(?: \{((?s:.*?))\})?,', re.M)
 PLAIN_VARIANT = re.compile(DOC + r"^    (\w+)(?: \{(.*?)\})?,$", re.M)
 SPAN = re.compile(r"\w+Field::(\w+) => \((\d+), (\d+)\),")
+BITS = re.compile(r"\w+Field::(\w+) => Some\(\((\d+), (\w+)\)\),")
 BIT = re.compile(r"SocketOption::(\w+) => (\d+),")
 SIZE = re.compile(r"prove!\(std::mem::size_of::<(\w+)(?:<'static>)?>\(\) == (\d+)\)")
 CODE = re.compile(r"DecodeError::(\w+)(?: \{ \.\. \})? => (\d+),")
@@ -80,11 +81,18 @@ RECORD = re.compile(r"RecordName::(\w+)(?: \{.*\})? => \((\d+),")
 
 
 class Field(NamedTuple):
-    """A field of a struct, or a parameter of a function."""
+    """A field of a struct, or a parameter of a function. A bit field has a shift and a mask in a
+    number of its type, as the source has them; the bit fields of a number are consecutive."""
 
     name: str
     kind: str
     doc: list = []
+    bits: tuple = ()
+
+    @property
+    def begins_number(self):
+        """Returns whether the field is not a bit field after another one of its number."""
+        return not self.bits or self.bits[0] == "0"
 
 
 class Struct(NamedTuple):
@@ -245,9 +253,11 @@ def struct_fields(enum):
     only field of each is its type."""
     text = text_of(CRATES / "sock_diag_extras/src" / FIELD_FILES[enum])
     spans = {it[0]: it[1:] for it in SPAN.findall(code_of(text))}
+    bits = {it[0]: it[1:] for it in BITS.findall(code_of(text))}
     for comment, name, _ in PLAIN_VARIANT.findall(enum_in(text, enum)):
         offset, width = spans[name]
-        yield Variant(name, offset, [Field(snake(name), TYPES[int(width)])], doc_of(comment))
+        field = Field(snake(name), TYPES[int(width)], bits=bits.get(name, ()))
+        yield Variant(name, offset, [field], doc_of(comment))
 
 
 def without_values(text):
@@ -360,6 +370,7 @@ class Library:
         offsets, at, most = {}, 0, 1
         for field in fields:
             size, align = self.size_and_align(field.kind)
-            offsets[field.name] = at = (at + align - 1) // align * align
+            at = (at + align - 1) // align * align if field.begins_number else at - size
+            offsets[field.name] = at
             at, most = at + size, max(most, align)
         return offsets | {"the end": (at + most - 1) // most * most, "the alignment": most}

@@ -116,8 +116,42 @@ static void check_later_fields(const struct sockdiag_long_tcp_info *it, const ui
     FIELD(it->received_e1_bytes, bytes + 264);
     FIELD(it->received_e0_bytes, bytes + 268);
     FIELD(it->received_ce_bytes, bytes + 272);
-    FIELD(it->accecn_fail_mode, bytes + 276);
-    FIELD(it->accecn_opt_seen, bytes + 278);
+    check(it->ecn_mode == (bytes[276] & 3), "the ECN mode");
+    check(it->accecn_opt_seen == (bytes[276] >> 2 & 3), "the options of accurate ECN");
+    check(it->accecn_fail_mode == bytes[276] >> 4, "the failures of accurate ECN");
+    check(it->options2 == number_at(bytes + 277, 3), "the other bits");
+}
+
+/* The last four bytes of struct tcp_info, as Linux 7.2 sends them for a connection with ECN as in
+ * RFC 3168, for one with accurate ECN, and for one that is not established yet; then with failures
+ * and other bits; and the numbers that they contain. */
+static void reads_bit_fields(void) {
+    static const struct {
+        uint8_t bytes[4];
+        uint32_t ecn_mode, accecn_opt_seen, accecn_fail_mode, options2;
+    } rows[] = {
+        {{0x00, 0, 0, 0}, 0, 0, 0, 0},
+        {{0x01, 0, 0, 0}, 1, 0, 0, 0},
+        {{0x0a, 0, 0, 0}, 2, 2, 0, 0},
+        {{0x03, 0, 0, 0}, 3, 0, 0, 0},
+        {{0xf0, 0, 0, 0}, 0, 0, 15, 0},
+        {{0x96, 0x34, 0x12, 0x80}, 2, 1, 9, 0x801234},
+    };
+    uint8_t payload[400], value[280];
+    size_t row;
+    memcpy(payload, inet_header, 72);
+    number_bytes(value, sizeof value);
+    for (row = 0; row < sizeof rows / sizeof rows[0]; row++) {
+        struct sockdiag_long_tcp_info it;
+        memcpy(value + 276, rows[row].bytes, 4);
+        memset(&it, UNTOUCHED, sizeof it);
+        check(sockdiag_inet_get_long_tcp_info(payload, put(payload, 72, 2, value, 280), &it) == 280,
+              "280 bytes of tcp_info");
+        check(it.ecn_mode == rows[row].ecn_mode &&
+              it.accecn_opt_seen == rows[row].accecn_opt_seen &&
+              it.accecn_fail_mode == rows[row].accecn_fail_mode &&
+              it.options2 == rows[row].options2, "the bit fields of tcp_info");
+    }
 }
 
 /* A value that ends within a field: the bytes that are there are copied, and the other ones are 0.
@@ -477,6 +511,7 @@ static void has_numbers(void) {
 int main(void) {
     has_the_first_errors();
     reads_long_tcp_info();
+    reads_bit_fields();
     reads_a_part_of_a_field();
     reads_mptcp_info();
     reads_single_values();

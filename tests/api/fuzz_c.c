@@ -225,7 +225,7 @@ static void try_tcp_info(const uint8_t *payload, size_t length) {
     expect(found <= length, "the length of tcp_info");
     expect(sockdiag_inet_get_long_tcp_info(payload, length, longer) == found &&
            memcmp(info, longer, sizeof *info) == 0, "the longer tcp_info");
-    expect(found > 232 || (longer->rcv_wnd == 0 && longer->accecn_opt_seen == 0),
+    expect(found > 232 || (longer->rcv_wnd == 0 && longer->ecn_mode == 0 && longer->options2 == 0),
            "fields after the end of tcp_info");
 }
 

@@ -1,15 +1,17 @@
--- The fields of `struct tcp_info` of linux/tcp.h, as Linux 6.18 defines them: 280 bytes. The field
+-- The fields of `struct tcp_info` of linux/tcp.h, as Linux 7.2 defines them: 280 bytes. The field
 -- `LastDataSent` is the member `tcpi_last_data_sent`, and so on.
-use Rattle.std.specs.Prelude.{ℕ, ◌==◌, if◌then◌else◌, List, [], ◌∷◌}
+use Rattle.std.specs.Prelude.{ℕ, ◌+◌, ◌*◌, ◌==◌, if◌then◌else◌, List, [], ◌∷◌, count_ones}
+use Rattle.std.specs.Prelude.{Option, None, Some}
 use Rattle.netlink_core.specs.Table.{Field, byte, number}
-use Rattle.sock_diag_extras.specs.Spans.{end_of_span}
+use Rattle.sock_diag_extras.specs.Spans.{bits_of, number_in_span}
 use Rattle.sock_diag_extras.specs.declared.tcp_info.TcpField.{TcpField}
 use Rattle.sock_diag_extras.specs.declared.tcp_info.TcpField.TheVariants as field
 
 -- `tcp_span_of f`: the offset of the field `f` (`.0`) and its width (`.1`), both in bytes. Two
 -- fields are bytes of bit fields: `Wscale` contains `tcpi_snd_wscale` and `tcpi_rcv_wscale`, and
 -- `DeliveryRateAppLimited` contains `tcpi_delivery_rate_app_limited` and
--- `tcpi_fastopen_client_fail`.
+-- `tcpi_fastopen_client_fail`. The last four fields are bit fields of one number, whose span is the
+-- span of each of them.
 abbrev pub tcp_span_of : TcpField → ℕ × ℕ
 tcp_span_of field.State = (0, 1)
 tcp_span_of field.CaState = (1, 1)
@@ -77,16 +79,43 @@ tcp_span_of field.DeliveredCeBytes = (260, 4)
 tcp_span_of field.ReceivedE1Bytes = (264, 4)
 tcp_span_of field.ReceivedE0Bytes = (268, 4)
 tcp_span_of field.ReceivedCeBytes = (272, 4)
-tcp_span_of field.AccecnFailMode = (276, 2)
-tcp_span_of field.AccecnOptSeen = (278, 2)
+tcp_span_of field.EcnMode = (276, 4)
+tcp_span_of field.AccecnOptSeen = (276, 4)
+tcp_span_of field.AccecnFailMode = (276, 4)
+tcp_span_of field.Options2 = (276, 4)
 
--- the offset of a field, in bytes
-abbrev pub tcp_offset_of : TcpField → ℕ
-tcp_offset_of f = (tcp_span_of f).0
+-- `tcp_bits_of f`: the shift (`.0`) and the mask (`.1`) of the bit field `f` in the number at its
+-- span, or None if the field is this number
+abbrev pub tcp_bits_of : TcpField → Option (ℕ × ℕ)
+tcp_bits_of field.EcnMode = Some (0, 3)
+tcp_bits_of field.AccecnOptSeen = Some (2, 3)
+tcp_bits_of field.AccecnFailMode = Some (4, 15)
+tcp_bits_of field.Options2 = Some (8, 0xff_ffff)
+tcp_bits_of _ = None
 
--- the offset of the byte after a field
-abbrev pub tcp_end_of : TcpField → ℕ
-tcp_end_of f = end_of_span (tcp_span_of f)
+-- `tcp_value_in f bytes`: the value of the field `f` in bytes that contain all of it: the number at
+-- its span, or the bits of it that the field is
+abbrev pub tcp_value_in : TcpField → List ℕ → ℕ
+tcp_value_in f bytes = bits_of (tcp_bits_of f) (number_in_span (tcp_span_of f) bytes)
+
+-- `first_bit span bits`: the index of the first bit of a field with this span and these bits,
+-- counted from the first byte of the struct on, in each byte from the least significant bit on
+abbrev pub first_bit : ℕ × ℕ → Option (ℕ × ℕ) → ℕ
+first_bit (offset, width) None = 8 * offset
+first_bit (offset, width) (Some (shift, mask)) = 8 * offset + shift
+
+-- `bit_count span bits`: how many bits a field with this span and these bits has
+abbrev pub bit_count : ℕ × ℕ → Option (ℕ × ℕ) → ℕ
+bit_count (offset, width) None = 8 * width
+bit_count (offset, width) (Some (shift, mask)) = count_ones mask
+
+-- the index of the first bit of a field
+abbrev pub tcp_first_bit : TcpField → ℕ
+tcp_first_bit f = first_bit (tcp_span_of f) (tcp_bits_of f)
+
+-- the index of the bit after a field
+abbrev pub tcp_end_bit : TcpField → ℕ
+tcp_end_bit f = tcp_first_bit f + bit_count (tcp_span_of f) (tcp_bits_of f)
 
 -- `tcp_layout_field f`: the field `f` as a field of a record's layout (`Field`): `byte` if it is
 -- one byte wide, else `number`, which is little-endian.
@@ -117,4 +146,5 @@ later_fields =
     field.RcvWnd ∷ field.Rehash ∷ field.TotalRto ∷ field.TotalRtoRecoveries ∷ field.TotalRtoTime
     ∷ field.ReceivedCe ∷ field.DeliveredE1Bytes ∷ field.DeliveredE0Bytes ∷
     field.DeliveredCeBytes ∷ field.ReceivedE1Bytes ∷ field.ReceivedE0Bytes ∷
-    field.ReceivedCeBytes ∷ field.AccecnFailMode ∷ field.AccecnOptSeen ∷ []
+    field.ReceivedCeBytes ∷ field.EcnMode ∷ field.AccecnOptSeen ∷ field.AccecnFailMode ∷
+    field.Options2 ∷ []

@@ -3,7 +3,7 @@
 //! `mptcp_info_bytes` and `nested_bytes` are the bytes that a value borrows. `result.0` and
 //! `result.1` are the parts of a returned pair.
 
-ghost use Rattle.std.specs.Prelude.{◌≡◌, ◌↔◌, [], ◌∷◌, ◌++◌, map, IfOk, IsOk, IsTrue};
+ghost use Rattle.std.specs.Prelude.{◌≡◌, ◌↔◌, ◌*◌, [], ◌∷◌, ◌++◌, map, IfOk, IsOk, IsTrue};
 ghost use Rattle.netlink_core.specs.Layout.{tag_fields};
 ghost use Rattle.sock_diag_values.specs.TcpInfo.{tcp_info};
 ghost use Rattle.sock_diag_extras.specs.Models.{ack_attributes, ack_number, ack_request};
@@ -11,7 +11,7 @@ ghost use Rattle.sock_diag_extras.specs.Models.{mptcp_info_bytes, nested_bytes, 
 ghost use Rattle.sock_diag_extras.specs.MptcpFields.{aligned_spans, mptcp_fields, mptcp_span_of};
 ghost use Rattle.sock_diag_extras.specs.MptcpFields.{mptcp_width_of};
 ghost use Rattle.sock_diag_extras.specs.TcpFields.{first_fields, later_fields};
-ghost use Rattle.sock_diag_extras.specs.TcpFields.{tcp_layout_field, tcp_end_of, tcp_offset_of};
+ghost use Rattle.sock_diag_extras.specs.TcpFields.{tcp_end_bit, tcp_first_bit, tcp_layout_field};
 
 use crate::acknowledgement::{AckAttributes, AckView};
 use crate::mptcp_info::MptcpInfoBytes;
@@ -22,17 +22,17 @@ use crate::ulp_info::{SubflowInfo, TlsInfo, UlpInfo};
 use std::alloc::AllocError;
 
 /// States that the first fields are the fields of the port's `TcpInfo`, in order and with the same
-/// offsets and widths (`first`); and that the later fields follow them without gaps (`later`): the
-/// first starts at offset 232, each other one where the one before it ends, and the last ends at
-/// offset 280.
+/// offsets and widths (`first`); and that all fields follow each other without gaps (`later`), in
+/// bits: the first starts at bit 0, each other one where the one before it ends, and the last ends
+/// with the byte at offset 279.
 pub fn tcp_fields_are_rows()
     // `tag_fields tcp_info tt`: the fields of the layout of `TcpInfo`. `tcp_layout_field f`: the
     // field `f` as a field of a layout, by its offset and its width.
     ensures first { map tcp_layout_field first_fields ≡ tag_fields tcp_info tt }
-    // `tcp_offset_of f`, `tcp_end_of f`: where the field `f` starts and ends. The offsets of the
-    // later fields and then 280 are 232 and then the ends of these fields.
-    ensures later { map tcp_offset_of later_fields ++ 280 ∷ []
-        ≡ 232 ∷ map tcp_end_of later_fields }
+    // `tcp_first_bit f`, `tcp_end_bit f`: where the field `f` starts and ends, in bits. The starts
+    // of all fields and then 280 bytes are 0 and then the ends of these fields.
+    ensures later { map tcp_first_bit (first_fields ++ later_fields) ++ 8 * 280 ∷ []
+        ≡ 0 ∷ map tcp_end_bit (first_fields ++ later_fields) }
 {}
 
 /// States that the fields of `struct mptcp_info`, in order, have the offsets at which a C compiler

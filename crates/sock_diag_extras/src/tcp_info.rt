@@ -1,6 +1,6 @@
 //! The value of INET_DIAG_INFO with any number of bytes: fewer than the port parses, or more.
 
-ghost use Rattle.std.specs.Prelude.{◌≡◌, ◌≤◌, drop, length, SomeIff};
+ghost use Rattle.std.specs.Prelude.{◌≡◌, ◌<◌, ◌≤◌, drop, length, IfSome, SomeIff};
 ghost use Rattle.std.specs.Result.{result_ok};
 ghost use Rattle.netlink_core.specs.Layout.{parse_record};
 ghost use Rattle.sock_diag_values.specs.TcpInfo.{tcp_info};
@@ -9,12 +9,15 @@ ghost use Rattle.sock_diag_extras.specs.Models.{tcp_info_bytes};
 use crate::bytes::{number_at, suffix_from};
 use sock_diag_values::inet::TcpInfo;
 
-/// The size of `struct tcp_info` in Linux 6.18, in bytes.
+/// The size of `struct tcp_info` in Linux 7.2, in bytes.
 const LINUX_TCP_INFO_LEN: usize = 280;
 
-/// A field of `struct tcp_info` of `linux/tcp.h`, as Linux 6.18 defines it: 280 bytes,
+/// A field of `struct tcp_info` of `linux/tcp.h`, as Linux 7.2 defines it: 280 bytes,
 /// little-endian. The number after `at` is the offset in bytes. [`TcpInfo`] documents the fields
 /// that it also has.
+///
+/// The last four fields are bit fields of the `u32` at 276. Linux 6.18 and 6.19 define other fields
+/// there, and send 0.
 #[derive(Clone, Copy, Debug, PartialEq, Eq)]
 pub enum TcpField {
     /// `tcpi_state` at 0.
@@ -159,16 +162,22 @@ pub enum TcpField {
     ReceivedE0Bytes,
     /// Number of bytes received with the ECN mark CE. `tcpi_received_ce_bytes` at 272.
     ReceivedCeBytes,
-    /// Bits for the ways in which accurate ECN failed. `tcpi_accecn_fail_mode` at 276.
-    AccecnFailMode,
-    /// Which TCP options of accurate ECN were seen. `tcpi_accecn_opt_seen` at 278.
+    /// How ECN is used: 0 not at all, 1 as in RFC 3168, 2 accurate ECN, 3 not negotiated yet.
+    /// `tcpi_ecn_mode` at 276, bits 0 and 1.
+    EcnMode,
+    /// Which TCP options of accurate ECN were seen. `tcpi_accecn_opt_seen` at 276, bits 2 and 3.
     AccecnOptSeen,
+    /// Bits for the ways in which accurate ECN failed. `tcpi_accecn_fail_mode` at 276, bits 4 to 7.
+    AccecnFailMode,
+    /// More options of the connection. `tcpi_options2` at 276, bits 8 to 31.
+    Options2,
 }
 
 impl TcpField {
-    ghost use Rattle.sock_diag_extras.specs.TcpFields.{tcp_span_of};
+    ghost use Rattle.sock_diag_extras.specs.TcpFields.{tcp_bits_of, tcp_span_of};
 
-    /// Returns the offset of the field and its width, both in bytes.
+    /// Returns the offset of the field and its width, both in bytes. Of a bit field, these are the
+    /// offset and the width of the number that contains it.
     pub fn span(self) -> (usize, usize)
         // `tcp_span_of field`: its offset and its width, as a table in `specs/TcpFields.antt`.
         ensures { result ≡ tcp_span_of self }
@@ -240,8 +249,26 @@ impl TcpField {
             TcpField::ReceivedE1Bytes => (264, 4),
             TcpField::ReceivedE0Bytes => (268, 4),
             TcpField::ReceivedCeBytes => (272, 4),
-            TcpField::AccecnFailMode => (276, 2),
-            TcpField::AccecnOptSeen => (278, 2),
+            TcpField::EcnMode => (276, 4),
+            TcpField::AccecnOptSeen => (276, 4),
+            TcpField::AccecnFailMode => (276, 4),
+            TcpField::Options2 => (276, 4),
+        }
+    }
+
+    /// Returns the shift and the mask of a bit field: its value is `number >> shift & mask`, where
+    /// `number` is the number at its span. Returns `None` if the field is the whole number.
+    pub fn bits(self) -> Option<(u32, u64)>
+        // `tcp_bits_of field`: its shift and its mask, as a table in `specs/TcpFields.antt`.
+        ensures row { result ≡ tcp_bits_of self }
+        ensures shift { IfSome result (λ bits. bits.0 < 64) }
+    {
+        match self {
+            TcpField::EcnMode => Some((0, 3)),
+            TcpField::AccecnOptSeen => Some((2, 3)),
+            TcpField::AccecnFailMode => Some((4, 15)),
+            TcpField::Options2 => Some((8, 0xff_ffff)),
+            _ => None,
         }
     }
 }
@@ -254,8 +281,8 @@ pub struct TcpInfoBytes<'a> {
 }
 
 impl<'a> TcpInfoBytes<'a> {
-    ghost use Rattle.sock_diag_extras.specs.Spans.{end_of_span, number_in_span};
-    ghost use Rattle.sock_diag_extras.specs.TcpFields.{tcp_span_of};
+    ghost use Rattle.sock_diag_extras.specs.Spans.{end_of_span};
+    ghost use Rattle.sock_diag_extras.specs.TcpFields.{tcp_span_of, tcp_value_in};
 
     /// Borrows the bytes of the value. Any number of bytes is accepted.
     pub fn new(value: &'a [u8]) -> TcpInfoBytes<'a>
@@ -271,18 +298,22 @@ impl<'a> TcpInfoBytes<'a> {
         self.bytes.len()
     }
 
-    /// Returns the value of the field, a little-endian number. Returns `None` if the bytes end
-    /// before the end of the field.
+    /// Returns the value of the field, a little-endian number or bits of one. Returns `None` if the
+    /// bytes end before the end of the number.
     pub fn get(&self, field: TcpField) -> Option<u64>
-        // `tcp_span_of field`: the offset and the width of the field. `end_of_span span`: the
-        // offset of the byte after it. `number_in_span span bytes`: the number at this offset and
-        // of this width.
+        // `tcp_span_of field`: the offset and the width of the number. `end_of_span span`: the
+        // offset of the byte after it. `tcp_value_in field bytes`: this number, or the bits of it
+        // that the field is.
         ensures { SomeIff result
             (end_of_span (tcp_span_of field) ≤ length (tcp_info_bytes self.now))
-            (number_in_span (tcp_span_of field) (tcp_info_bytes self.now)) }
+            (tcp_value_in field (tcp_info_bytes self.now)) }
     {
         let (offset, width) = field.span();
-        number_at(self.bytes, offset, width)
+        let number = number_at(self.bytes, offset, width)?;
+        match field.bits() {
+            Some((shift, mask)) => Some(number >> shift & mask),
+            None => Some(number),
+        }
     }
 
     /// Returns the record that the port parses from the first 232 bytes. Returns `None` if there

@@ -12,7 +12,7 @@ use netlink_packet_sock_diag::constants::{INET_DIAG_INFO, INET_DIAG_SKMEMINFO};
 use netlink_packet_sock_diag::inet::INET_RESPONSE_HEADER_LEN;
 use netlink_packet_sock_diag::inet::nlas::{MEM_INFO_LEN, TCP_INFO_LEN};
 
-/// Length of `struct tcp_info` of Linux 6.18 in bytes.
+/// Length of `struct tcp_info` of Linux 7.2 in bytes.
 pub(crate) const LONG_TCP_INFO_LEN: usize = 280;
 
 /// Length of `struct mptcp_info` of Linux 6.18 in bytes.
@@ -52,10 +52,11 @@ pub extern "C" fn sockdiag_inet_get_tcp_info(payload: &[u8], info: &mut [u8; TCP
 }
 
 /// Copies the value of the first `INET_DIAG_INFO` after the header of a reply about an IPv4 or IPv6
-/// socket, as `sockdiag_inet_get_tcp_info` does, into the longer struct of Linux 6.18: at most the
+/// socket, as `sockdiag_inet_get_tcp_info` does, into the longer struct of Linux 7.2: at most the
 /// 280 bytes of `info`. The remaining bytes of `info` are set to 0. Returns the length of the value
 /// in bytes, or 0 if there is none. A field that ends after this length is not known: see
-/// `sockdiag_inet_get_tcp_info`, also for times that are not measured.
+/// `sockdiag_inet_get_tcp_info`, also for times that are not measured. The four bit fields are
+/// known if the length is at least 280.
 ///
 /// The values of attributes are not checked. So this call also works for a value that is rejected
 /// with `SOCKDIAG_BUFFER_TOO_SMALL`, as a lenient call reports it.

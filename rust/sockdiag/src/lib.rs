@@ -127,7 +127,7 @@
 //! accept a reply of which attributes are rejected: they have the fields and the getters of the
 //! strict replies, and [`rejected`](LenientReply::rejected), which yields the rejected attributes,
 //! each with its error.
-//! [`inet::TcpInfoBytes`] has the 68 fields of `struct tcp_info` of Linux 6.18, as far as a kernel
+//! [`inet::TcpInfoBytes`] has the 70 fields of `struct tcp_info` of Linux 7.2, as far as a kernel
 //! sends them, and [`inet::MptcpInfoBytes`] the 24 of `struct mptcp_info`. Getters of replies have
 //! the values that `nlas` yields as `Other`: the cgroup, the options of the socket, the
 //! measurements of Vegas, DCTCP and BBR, MD5 signature keys, SCTP addresses, and the user id of a

@@ -842,8 +842,7 @@ pub(crate) struct LongTcpInfo {
     pub(crate) received_e1_bytes: u32,
     pub(crate) received_e0_bytes: u32,
     pub(crate) received_ce_bytes: u32,
-    pub(crate) accecn_fail_mode: u16,
-    pub(crate) accecn_opt_seen: u16,
+    pub(crate) bits_from_ecn_mode: u32,
 }
 
 #[repr(C)]

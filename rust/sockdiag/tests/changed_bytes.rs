@@ -106,7 +106,7 @@ fn parse_leniently(bytes: &[u8]) {
 fn parse_values(bytes: &[u8]) {
     let info = TcpInfoBytes::new(bytes);
     let found = TcpField::ALL.iter().filter(|it| info.get(**it).is_some());
-    assert_eq!(found.count() == 68, bytes.len() >= 280);
+    assert_eq!(found.count() == 70, bytes.len() >= 280);
     let _ = (info.whole(), SocketOptions::parse(bytes));
     let info = MptcpInfoBytes::new(bytes);
     let found = MptcpField::ALL.iter().filter(|it| info.get(**it).is_some());

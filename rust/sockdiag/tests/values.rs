@@ -13,8 +13,9 @@ use std::env;
 use std::net::{IpAddr, Ipv4Addr, Ipv6Addr};
 use std::process::Command;
 
-/// Offset and width of each field of `struct tcp_info` of `linux/tcp.h`, in the order of
-/// `TcpField::ALL`: the widths are in the order of the struct, and there is no padding.
+/// Offset and width of each number of `struct tcp_info` of `linux/tcp.h`, in the order of
+/// `TcpField::ALL`: the widths are in the order of the struct, and there is no padding. The last
+/// number is that of the last four fields.
 fn spans() -> Vec<(usize, usize)> {
     let widths = [
         [1; 8].to_vec(),
@@ -26,8 +27,7 @@ fn spans() -> Vec<(usize, usize)> {
         [8; 2].to_vec(),
         [4; 6].to_vec(),
         [2; 2].to_vec(),
-        [4; 8].to_vec(),
-        [2; 2].to_vec(),
+        [4; 9].to_vec(),
     ];
     let mut offset = 0;
     let span = |width: usize| {
@@ -35,19 +35,32 @@ fn spans() -> Vec<(usize, usize)> {
         offset += width;
         (start, width)
     };
-    widths.concat().into_iter().map(span).collect()
+    let mut spans: Vec<_> = widths.concat().into_iter().map(span).collect();
+    spans.extend([(276, 4); 3]);
+    spans
+}
+
+/// Returns the bits of a bit field of the last number of `struct tcp_info`, and other numbers.
+fn value_of(field: TcpField, number: u64) -> u64 {
+    match field {
+        TcpField::EcnMode => number % 4,
+        TcpField::AccecnOptSeen => number / 4 % 4,
+        TcpField::AccecnFailMode => number / 16 % 16,
+        TcpField::Options2 => number / 256,
+        _ => number,
+    }
 }
 
 #[test]
 fn has_each_field_of_tcp_info() {
     let spans = spans();
-    assert_eq!((spans.len(), spans.last()), (68, Some(&(278, 2))));
+    assert_eq!((spans.len(), spans.last()), (70, Some(&(276, 4))));
     let bytes = counted(1, 300);
     for (field, (offset, width)) in TcpField::ALL.iter().zip(spans) {
         assert_eq!(field.span(), (offset, width), "{field:?}");
         let mut number = [0; 8];
         number[..width].copy_from_slice(&bytes[offset..offset + width]);
-        let number = u64::from_le_bytes(number);
+        let number = value_of(*field, u64::from_le_bytes(number));
         for length in 0..=300 {
             let info = TcpInfoBytes::new(&bytes[..length]);
             let expected = (length >= offset + width).then_some(number);
@@ -84,13 +97,44 @@ fn names_the_fields_of_tcp_info_as_the_kernel_does() {
         (TcpField::ReceivedE1Bytes, 264),
         (TcpField::ReceivedE0Bytes, 268),
         (TcpField::ReceivedCeBytes, 272),
+        (TcpField::EcnMode, 276),
+        (TcpField::AccecnOptSeen, 276),
         (TcpField::AccecnFailMode, 276),
-        (TcpField::AccecnOptSeen, 278),
+        (TcpField::Options2, 276),
     ] {
         assert_eq!(field.span().0, offset, "{field:?}");
     }
     let names: BTreeSet<_> = TcpField::ALL.iter().map(|it| format!("{it:?}")).collect();
-    assert_eq!((names.len(), TcpField::ALL.len()), (68, 68));
+    assert_eq!((names.len(), TcpField::ALL.len()), (70, 70));
+}
+
+/// The last four bytes of `struct tcp_info`: as Linux 6.18 sends them; as Linux 7.2 does for a
+/// connection with ECN as in RFC 3168, for one with accurate ECN, and for one that is not
+/// established yet; and others. With the ECN mode, the options that were seen, the failures, and
+/// the other bits.
+#[test]
+fn has_the_bit_fields_of_tcp_info() {
+    for (last, expected) in [
+        ([0x00, 0, 0, 0], [0, 0, 0, 0]),
+        ([0x01, 0, 0, 0], [1, 0, 0, 0]),
+        ([0x0a, 0, 0, 0], [2, 2, 0, 0]),
+        ([0x03, 0, 0, 0], [3, 0, 0, 0]),
+        ([0xf0, 0, 0, 0], [0, 0, 15, 0]),
+        ([0x96, 0x34, 0x12, 0x80], [2, 1, 9, 0x801234]),
+    ] {
+        let mut value = counted(1, 280);
+        value[276..].copy_from_slice(&last);
+        let found = [
+            TcpField::EcnMode,
+            TcpField::AccecnOptSeen,
+            TcpField::AccecnFailMode,
+            TcpField::Options2,
+        ]
+        .map(|field| TcpInfoBytes::new(&value).get(field));
+        assert_eq!(found, expected.map(Some), "{last:02x?}");
+    }
+    let whole = TcpField::ALL.iter().filter(|it| it.bits().is_none());
+    assert_eq!(whole.count(), 66);
 }
 
 #[test]

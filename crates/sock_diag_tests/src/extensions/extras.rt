@@ -179,6 +179,30 @@ fn connection(rt: &impl Abort, alloc: Global, bytes: &[u8]) -> String {
     text
 }
 
+/// The bit fields of the last number of `struct tcp_info`.
+const BIT_FIELDS: [TcpField; 4] = [
+    TcpField::EcnMode,
+    TcpField::AccecnOptSeen,
+    TcpField::AccecnFailMode,
+    TcpField::Options2,
+];
+
+/// Returns, in hexadecimal, the bit fields of a `struct tcp_info` that ends with the bytes, and the
+/// number of bytes after 280.
+fn bit_fields(rt: &impl Abort, alloc: Global, last: &[u8]) -> String {
+    let mut value = vec![in alloc; 0; 276].expect(rt, "memory");
+    value.extend_from_slice(last).expect(rt, "memory");
+    let info = TcpInfoBytes::new(&value);
+    let mut text = String::new(alloc);
+    for field in &BIT_FIELDS {
+        let shown = number_text(rt, alloc, info.get(*field));
+        text.push_str(shown.as_str()).expect(rt, "memory");
+    }
+    let rest = format!(in alloc; "{}", info.rest().len()).expect(rt, "memory");
+    text.push_str(rest.as_str()).expect(rt, "memory");
+    text
+}
+
 /// Returns a number in hexadecimal and a space, or `- ` if there is none.
 fn number_text(rt: &impl Abort, alloc: Global, number: Option<u64>) -> String {
     let text = match number {
@@ -226,6 +250,7 @@ fn content_text(rt: &impl Abort, alloc: Global, word: &str, bytes: &[u8]) -> Str
         "storages" => storages(rt, alloc, bytes),
         "ulp" => upper_protocol_or_error(rt, alloc, bytes),
         "mptcp" => connection(rt, alloc, bytes),
+        "tcp" => bit_fields(rt, alloc, bytes),
         // The flags `NLM_F_MULTI` (2) and `NLM_F_ACK_TLVS` (512).
         "done" => acknowledgement(rt, alloc, AckView::of_done(514, bytes)),
         flags => error_message(rt, alloc, flags, bytes),
@@ -273,9 +298,15 @@ fn error_message(rt: &impl Abort, alloc: Global, flags: &str, bytes: &[u8]) -> S
 // request is 17; in those with `nothing` it is 15, less than a header, and 21, more than there are
 // bytes.
 //
-// The last two rows `ulp` have errors. The text of `mptcp` has the fields of `MPTCP_FIELDS` in
-// order, in hexadecimal, and then the number of bytes after them. In the third row `mptcp` each
-// byte is its own offset. The rows after it lack fields.
+// The last two rows `ulp` have errors. The bytes of a row
+// `tcp` are the last ones of `struct tcp_info`. Linux 7.2 sent those of the second to fourth row:
+// of connections with ECN as in RFC 3168 and with accurate ECN, and of one that is not established
+// yet. The text has their bit fields in order, in hexadecimal, and then the number of bytes after
+// them.
+//
+// The text of `mptcp` has the fields of `MPTCP_FIELDS` in order, in hexadecimal, and then the
+// number of bytes after them. In the third row `mptcp` each byte is its own offset. The rows after
+// it lack fields.
 const ROWS: &str = "\
 reply |
 reply 08000200010203040500080001000000|\
@@ -365,6 +396,13 @@ mptcp \
 2f2e2d2c 3736353433323130 3f3e3d3c3b3a3938 4746454443424140 4f4e4d4c4b4a4948 50 51 57565554 \
 5b5a5958 - 0
 mptcp |- - - - - - - - - - - - - - - - - - - - - - - - 0
+tcp 00000000|0 0 0 0 0
+tcp 01000000|1 0 0 0 0
+tcp 0a000000|2 2 0 0 0
+tcp 03000000|3 0 0 0 0
+tcp f0000000|0 0 f 0 0
+tcp 9634128007|2 1 9 801234 1
+tcp 963412|- - - - 0
 address 020000507f000001|80 Some(127.0.0.1) 0
 address 0a00005000000001fe80000000000000000000000000000102000000|80 Some(fe80::1) 2
 address 0100|0 None 0
@@ -525,7 +563,7 @@ fn acknowledgements_and_items_have_texts(rt: HostRuntime) {
 
 /// The fields of `struct tcp_info`, in order, each with its name. Only the test of `Debug` output
 /// uses them.
-const TCP_FIELDS: [(TcpField, &str); 68] = with_names![
+const TCP_FIELDS: [(TcpField, &str); 70] = with_names![
     TcpField: State, CaState, Retransmits, Probes, Backoff, Options, Wscale,
     DeliveryRateAppLimited, Rto, Ato, SndMss, RcvMss, Unacked, Sacked, Lost, Retrans, Fackets,
     LastDataSent, LastAckSent, LastDataRecv, LastAckRecv, Pmtu, RcvSsthresh, Rtt, Rttvar,
@@ -534,8 +572,8 @@ const TCP_FIELDS: [(TcpField, &str); 68] = with_names![
     DataSegsOut, DeliveryRate, BusyTime, RwndLimited, SndbufLimited, Delivered, DeliveredCe,
     BytesSent, BytesRetrans, DsackDups, ReordSeen, RcvOoopack, SndWnd, RcvWnd, Rehash, TotalRto,
     TotalRtoRecoveries, TotalRtoTime, ReceivedCe, DeliveredE1Bytes, DeliveredE0Bytes,
-    DeliveredCeBytes, ReceivedE1Bytes, ReceivedE0Bytes, ReceivedCeBytes, AccecnFailMode,
-    AccecnOptSeen
+    DeliveredCeBytes, ReceivedE1Bytes, ReceivedE0Bytes, ReceivedCeBytes, EcnMode,
+    AccecnOptSeen, AccecnFailMode, Options2
 ];
 
 /// The options of a socket, in the order of their bits, each with its name.

@@ -4,9 +4,12 @@
 
 use super::{SocketOptions, TcpInfo};
 
-/// A field of `struct tcp_info` of `linux/tcp.h`, as Linux 6.18 defines it: 280 bytes,
+/// A field of `struct tcp_info` of `linux/tcp.h`, as Linux 7.2 defines it: 280 bytes,
 /// little-endian. The number after `at` is the offset in bytes. [`TcpInfo`] documents the fields
 /// that it also has.
+///
+/// The last four fields are bit fields of the `u32` at 276. Linux 6.18 and 6.19 define other fields
+/// there, and send 0.
 #[derive(Clone, Copy, Debug, PartialEq, Eq, Hash)]
 #[non_exhaustive]
 pub enum TcpField {
@@ -152,10 +155,15 @@ pub enum TcpField {
     ReceivedE0Bytes,
     /// Number of bytes received with the ECN mark CE. `tcpi_received_ce_bytes` at 272.
     ReceivedCeBytes,
-    /// Bits for the ways in which accurate ECN failed. `tcpi_accecn_fail_mode` at 276.
-    AccecnFailMode,
-    /// Which TCP options of accurate ECN were seen. `tcpi_accecn_opt_seen` at 278.
+    /// How ECN is used: 0 not at all, 1 as in RFC 3168, 2 accurate ECN, 3 not negotiated yet.
+    /// `tcpi_ecn_mode` at 276, bits 0 and 1.
+    EcnMode,
+    /// Which TCP options of accurate ECN were seen. `tcpi_accecn_opt_seen` at 276, bits 2 and 3.
     AccecnOptSeen,
+    /// Bits for the ways in which accurate ECN failed. `tcpi_accecn_fail_mode` at 276, bits 4 to 7.
+    AccecnFailMode,
+    /// More options of the connection. `tcpi_options2` at 276, bits 8 to 31.
+    Options2,
 }
 
 impl TcpField {
@@ -227,11 +235,14 @@ impl TcpField {
         TcpField::ReceivedE1Bytes,
         TcpField::ReceivedE0Bytes,
         TcpField::ReceivedCeBytes,
-        TcpField::AccecnFailMode,
+        TcpField::EcnMode,
         TcpField::AccecnOptSeen,
+        TcpField::AccecnFailMode,
+        TcpField::Options2,
     ];
 
-    /// Returns the offset of the field and its width, both in bytes.
+    /// Returns the offset of the field and its width, both in bytes. Of a bit field, these are the
+    /// offset and the width of the number that contains it.
     pub const fn span(self) -> (usize, usize) {
         match self {
             TcpField::State => (0, 1),
@@ -300,8 +311,22 @@ impl TcpField {
             TcpField::ReceivedE1Bytes => (264, 4),
             TcpField::ReceivedE0Bytes => (268, 4),
             TcpField::ReceivedCeBytes => (272, 4),
-            TcpField::AccecnFailMode => (276, 2),
-            TcpField::AccecnOptSeen => (278, 2),
+            TcpField::EcnMode => (276, 4),
+            TcpField::AccecnOptSeen => (276, 4),
+            TcpField::AccecnFailMode => (276, 4),
+            TcpField::Options2 => (276, 4),
+        }
+    }
+
+    /// Returns the shift and the mask of a bit field: its value is `number >> shift & mask`, where
+    /// `number` is the number at its span. Returns `None` if the field is the whole number.
+    pub const fn bits(self) -> Option<(u32, u64)> {
+        match self {
+            TcpField::EcnMode => Some((0, 3)),
+            TcpField::AccecnOptSeen => Some((2, 3)),
+            TcpField::AccecnFailMode => Some((4, 15)),
+            TcpField::Options2 => Some((8, 0xff_ffff)),
+            _ => None,
         }
     }
 }

@@ -8,10 +8,10 @@ use crate::constants::{AF_INET, AF_INET6};
 use crate::sys::{self, Cursor};
 use core::net::{IpAddr, Ipv4Addr, Ipv6Addr};
 
-/// Length of `struct tcp_info` of Linux 6.18 in bytes.
+/// Length of `struct tcp_info` of Linux 7.2 in bytes.
 const ALL_TCP_FIELDS: usize = 280;
 
-/// Length of `struct mptcp_info` of Linux 6.18 in bytes.
+/// Length of `struct mptcp_info` of Linux 7.2 in bytes.
 const ALL_MPTCP_FIELDS: usize = 96;
 
 /// The borrowed value of `INET_DIAG_INFO` of a TCP connection, of any length. Each kernel version
@@ -49,9 +49,14 @@ impl<'a> TcpInfoBytes<'a> {
         self.bytes.is_empty()
     }
 
-    /// Returns the value of the field. Returns `None` if the bytes end before the end of the field.
+    /// Returns the value of the field. Returns `None` if the bytes end before the end of the number
+    /// at its span.
     pub fn get(&self, field: TcpField) -> Option<u64> {
-        number_at(self.bytes, field.span())
+        let number = number_at(self.bytes, field.span())?;
+        match field.bits() {
+            Some((shift, mask)) => Some(number >> shift & mask),
+            None => Some(number),
+        }
     }
 
     /// Returns the struct with the first 232 bytes. Returns `None` if there are fewer bytes.
