@@ -364,14 +364,17 @@ enum sockdiag_ulp_attribute {
 
 /* Kinds of attributes in INET_ULP_INFO_TLS. */
 enum sockdiag_tls_attribute {
-    SOCKDIAG_TLS_INFO_UNSPEC = 0,   /* No attribute. */
-    SOCKDIAG_TLS_INFO_VERSION = 1,  /* The TLS version. */
-    SOCKDIAG_TLS_INFO_CIPHER = 2,   /* The cipher: one of TLS_CIPHER_... */
-    SOCKDIAG_TLS_INFO_TXCONF = 3,   /* How sent data is encrypted: one of TLS_CONF_... */
-    SOCKDIAG_TLS_INFO_RXCONF = 4,   /* How received data is decrypted: one of TLS_CONF_... */
-    SOCKDIAG_TLS_INFO_ZC_RO_TX = 5, /* Present if files are sent without a copy. */
-    SOCKDIAG_TLS_INFO_RX_NO_PAD = 6 /* Present if received records are expected to have no
-                                       padding. */
+    SOCKDIAG_TLS_INFO_UNSPEC = 0,            /* No attribute. */
+    SOCKDIAG_TLS_INFO_VERSION = 1,           /* The TLS version. */
+    SOCKDIAG_TLS_INFO_CIPHER = 2,            /* The cipher: one of TLS_CIPHER_... */
+    SOCKDIAG_TLS_INFO_TXCONF = 3,            /* How sent data is encrypted: one of TLS_CONF_... */
+    SOCKDIAG_TLS_INFO_RXCONF = 4,            /* How received data is decrypted: one of
+                                                TLS_CONF_... */
+    SOCKDIAG_TLS_INFO_ZC_RO_TX = 5,          /* Present if files are sent without a copy. */
+    SOCKDIAG_TLS_INFO_RX_NO_PAD = 6,         /* Present if received records are expected to have
+                                                no padding. */
+    SOCKDIAG_TLS_INFO_TX_MAX_PAYLOAD_LEN = 7 /* Maximum length of the data in a record that is
+                                                sent, in bytes. Linux 6.18 does not send it. */
 };
 
 /* Kinds of attributes in INET_ULP_INFO_MPTCP. */
@@ -1023,7 +1026,7 @@ struct sockdiag_long_tcp_info {
 size_t sockdiag_inet_get_long_tcp_info(const uint8_t *payload, size_t length,
                                        struct sockdiag_long_tcp_info *info);
 
-/* The state of an MPTCP connection: struct mptcp_info of linux/mptcp.h in Linux 6.18. */
+/* The state of an MPTCP connection: struct mptcp_info of linux/mptcp.h in Linux 7.2. */
 struct sockdiag_mptcp_info {
     uint8_t subflows;              /* Number of subflows in addition to the first one.
                                       mptcpi_subflows at 0. */
@@ -1069,6 +1072,9 @@ struct sockdiag_mptcp_info {
     uint8_t endp_laminar_max;      /* Number of endpoints with the flag laminar.
                                       mptcpi_endp_laminar_max at 81. It is 0 from kernels without
                                       this field. */
+    uint8_t endp_fullmesh_max;     /* Number of endpoints with the flag fullmesh.
+                                      mptcpi_endp_fullmesh_max at 82. It is 0 from kernels
+                                      without this field. */
     uint32_t last_data_sent;       /* Time since data was sent, in milliseconds.
                                       mptcpi_last_data_sent at 84. A value of 88 bytes, from a
                                       kernel without this field, has padding there. */

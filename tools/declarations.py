@@ -27,7 +27,7 @@ FIELD_STRUCTS = {
     ),
     "MPTCP_INFO_LEN": (
         "MptcpInfo",
-        "The state of an MPTCP connection: `struct mptcp_info` of `linux/mptcp.h` in Linux 6.18.",
+        "The state of an MPTCP connection: `struct mptcp_info` of `linux/mptcp.h` in Linux 7.2.",
         "MptcpField",
         None,
     ),

@@ -237,6 +237,7 @@ static void check_mptcp_info(const struct sockdiag_mptcp_info *it, const uint8_t
     FIELD(it->bytes_acked, bytes + 72);
     FIELD(it->subflows_total, bytes + 80);
     FIELD(it->endp_laminar_max, bytes + 81);
+    FIELD(it->endp_fullmesh_max, bytes + 82);
     FIELD(it->last_data_sent, bytes + 84);
     FIELD(it->last_data_recv, bytes + 88);
     FIELD(it->last_ack_recv, bytes + 92);

@@ -1,4 +1,4 @@
--- The fields of `struct mptcp_info` of linux/mptcp.h, as Linux 6.18 defines it: 96 bytes. The field
+-- The fields of `struct mptcp_info` of linux/mptcp.h, as Linux 7.2 defines it: 96 bytes. The field
 -- `WriteSeq` is the member `mptcpi_write_seq`, and so on.
 use Rattle.std.specs.Prelude.{ℕ, ◌+◌, ◌-◌, ◌*◌, ◌/◌, List, [], ◌∷◌}
 use Rattle.sock_diag_extras.specs.declared.mptcp_info.MptcpField.{MptcpField}
@@ -27,6 +27,7 @@ mptcp_span_of field.BytesReceived = (64, 8)
 mptcp_span_of field.BytesAcked = (72, 8)
 mptcp_span_of field.SubflowsTotal = (80, 1)
 mptcp_span_of field.EndpLaminarMax = (81, 1)
+mptcp_span_of field.EndpFullmeshMax = (82, 1)
 mptcp_span_of field.LastDataSent = (84, 4)
 mptcp_span_of field.LastDataRecv = (88, 4)
 mptcp_span_of field.LastAckRecv = (92, 4)
@@ -43,7 +44,7 @@ mptcp_fields =
     field.WriteSeq ∷ field.SndUna ∷ field.RcvNxt ∷ field.LocalAddrUsed ∷ field.LocalAddrMax ∷
     field.CsumEnabled ∷ field.Retransmits ∷ field.BytesRetrans ∷ field.BytesSent ∷
     field.BytesReceived ∷ field.BytesAcked ∷ field.SubflowsTotal ∷ field.EndpLaminarMax ∷
-    field.LastDataSent ∷ field.LastDataRecv ∷ field.LastAckRecv ∷ []
+    field.EndpFullmeshMax ∷ field.LastDataSent ∷ field.LastDataRecv ∷ field.LastAckRecv ∷ []
 
 -- `aligned_spans start widths`: the offset (`.0`) and the width (`.1`) of each of consecutive
 -- members of a C struct, after its first `start` bytes. The members are numbers of these widths in

@@ -14,6 +14,7 @@ tls_row tls.Version = (c.TLS_INFO_VERSION, 2)
 tls_row tls.Cipher = (c.TLS_INFO_CIPHER, 2)
 tls_row tls.Sending = (c.TLS_INFO_TXCONF, 2)
 tls_row tls.Receiving = (c.TLS_INFO_RXCONF, 2)
+tls_row tls.SendingMaxPayload = (c.TLS_INFO_TX_MAX_PAYLOAD_LEN, 2)
 
 -- `subflow_row field`: the attribute type (MPTCP_SUBFLOW_ATTR_..) of a field, and the width of its
 -- value in bytes

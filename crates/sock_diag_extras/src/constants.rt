@@ -80,6 +80,9 @@ pub const TLS_INFO_ZC_RO_TX: u16 = 5;
 /// Present if received records are expected to have no padding.
 pub const TLS_INFO_RX_NO_PAD: u16 = 6;
 
+/// Maximum length of the data in a record that is sent, in bytes. Linux 6.18 does not send it.
+pub const TLS_INFO_TX_MAX_PAYLOAD_LEN: u16 = 7;
+
 // ---- attributes in INET_ULP_INFO_MPTCP
 
 /// No attribute.
@@ -304,7 +307,8 @@ pub fn extra_constants_have_their_values()
         ∷ (INET_ULP_INFO_TLS, 2) ∷ (INET_ULP_INFO_MPTCP, 3) ∷ []) }
     ensures upper_tls { PairsAreEqual ((TLS_INFO_UNSPEC, 0) ∷ (TLS_INFO_VERSION, 1) ∷
         (TLS_INFO_CIPHER, 2) ∷ (TLS_INFO_TXCONF, 3) ∷ (TLS_INFO_RXCONF, 4) ∷
-        (TLS_INFO_ZC_RO_TX, 5) ∷ (TLS_INFO_RX_NO_PAD, 6) ∷ []) }
+        (TLS_INFO_ZC_RO_TX, 5) ∷ (TLS_INFO_RX_NO_PAD, 6) ∷
+        (TLS_INFO_TX_MAX_PAYLOAD_LEN, 7) ∷ []) }
     ensures upper_mptcp { PairsAreEqual ((MPTCP_SUBFLOW_ATTR_UNSPEC, 0) ∷
         (MPTCP_SUBFLOW_ATTR_TOKEN_REM, 1) ∷ (MPTCP_SUBFLOW_ATTR_TOKEN_LOC, 2) ∷
         (MPTCP_SUBFLOW_ATTR_RELWRITE_SEQ, 3) ∷ (MPTCP_SUBFLOW_ATTR_MAP_SEQ, 4) ∷

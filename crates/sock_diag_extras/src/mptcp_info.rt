@@ -5,10 +5,10 @@ ghost use Rattle.sock_diag_extras.specs.Models.{mptcp_info_bytes};
 
 use crate::bytes::{number_at, suffix_from};
 
-/// The size of `struct mptcp_info` in Linux 6.18, in bytes.
+/// The size of `struct mptcp_info` in Linux 7.2, in bytes.
 const LINUX_MPTCP_INFO_LEN: usize = 96;
 
-/// A field of `struct mptcp_info` of `linux/mptcp.h`, as Linux 6.18 defines it: 96 bytes,
+/// A field of `struct mptcp_info` of `linux/mptcp.h`, as Linux 7.2 defines it: 96 bytes,
 /// little-endian. The number after `at` is the offset in bytes.
 #[derive(Clone, Copy, Debug, PartialEq, Eq)]
 pub enum MptcpField {
@@ -62,6 +62,9 @@ pub enum MptcpField {
     /// Number of endpoints with the flag `laminar`. `mptcpi_endp_laminar_max` at 81. It is 0 from
     /// kernels without this field.
     EndpLaminarMax,
+    /// Number of endpoints with the flag `fullmesh`. `mptcpi_endp_fullmesh_max` at 82. It is 0 from
+    /// kernels without this field.
+    EndpFullmeshMax,
     /// Time since data was sent, in milliseconds. `mptcpi_last_data_sent` at 84. A value of 88
     /// bytes, from a kernel without this field, has padding there.
     LastDataSent,
@@ -101,6 +104,7 @@ impl MptcpField {
             MptcpField::BytesAcked => (72, 8),
             MptcpField::SubflowsTotal => (80, 1),
             MptcpField::EndpLaminarMax => (81, 1),
+            MptcpField::EndpFullmeshMax => (82, 1),
             MptcpField::LastDataSent => (84, 4),
             MptcpField::LastDataRecv => (88, 4),
             MptcpField::LastAckRecv => (92, 4),

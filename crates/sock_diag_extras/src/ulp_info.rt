@@ -13,8 +13,8 @@ use crate::constants::{
     MPTCP_SUBFLOW_ATTR_ID_LOC, MPTCP_SUBFLOW_ATTR_ID_REM, MPTCP_SUBFLOW_ATTR_MAP_DATALEN,
     MPTCP_SUBFLOW_ATTR_MAP_SEQ, MPTCP_SUBFLOW_ATTR_MAP_SFSEQ, MPTCP_SUBFLOW_ATTR_RELWRITE_SEQ,
     MPTCP_SUBFLOW_ATTR_SSN_OFFSET, MPTCP_SUBFLOW_ATTR_TOKEN_LOC, MPTCP_SUBFLOW_ATTR_TOKEN_REM,
-    TLS_INFO_CIPHER, TLS_INFO_RX_NO_PAD, TLS_INFO_RXCONF, TLS_INFO_TXCONF, TLS_INFO_VERSION,
-    TLS_INFO_ZC_RO_TX,
+    TLS_INFO_CIPHER, TLS_INFO_RX_NO_PAD, TLS_INFO_RXCONF, TLS_INFO_TX_MAX_PAYLOAD_LEN,
+    TLS_INFO_TXCONF, TLS_INFO_VERSION, TLS_INFO_ZC_RO_TX,
 };
 use crate::nested::NestedNlas;
 use netlink_core::DecodeError;
@@ -109,6 +109,9 @@ pub enum TlsField {
     Sending,
     /// How received data is decrypted, `TLS_INFO_RXCONF`, one of `TLS_CONF_..` as for `Sending`.
     Receiving,
+    /// Maximum length of the data in a record that is sent, `TLS_INFO_TX_MAX_PAYLOAD_LEN`, in
+    /// bytes. Linux 6.18 does not send it.
+    SendingMaxPayload,
 }
 
 impl TlsField {
@@ -125,6 +128,7 @@ impl TlsField {
             TlsField::Cipher => (TLS_INFO_CIPHER, 2),
             TlsField::Sending => (TLS_INFO_TXCONF, 2),
             TlsField::Receiving => (TLS_INFO_RXCONF, 2),
+            TlsField::SendingMaxPayload => (TLS_INFO_TX_MAX_PAYLOAD_LEN, 2),
         }
     }
 }

@@ -15,7 +15,7 @@ use netlink_packet_sock_diag::inet::nlas::{MEM_INFO_LEN, TCP_INFO_LEN};
 /// Length of `struct tcp_info` of Linux 7.2 in bytes.
 pub(crate) const LONG_TCP_INFO_LEN: usize = 280;
 
-/// Length of `struct mptcp_info` of Linux 6.18 in bytes.
+/// Length of `struct mptcp_info` of Linux 7.2 in bytes.
 pub(crate) const MPTCP_INFO_LEN: usize = 96;
 
 /// Copies the value of the first `INET_DIAG_INFO` after the header of a reply about an IPv4 or IPv6

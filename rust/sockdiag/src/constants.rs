@@ -408,6 +408,9 @@ pub const TLS_INFO_ZC_RO_TX: u16 = 5;
 /// Present if received records are expected to have no padding.
 pub const TLS_INFO_RX_NO_PAD: u16 = 6;
 
+/// Maximum length of the data in a record that is sent, in bytes. Linux 6.18 does not send it.
+pub const TLS_INFO_TX_MAX_PAYLOAD_LEN: u16 = 7;
+
 /// No attribute.
 pub const MPTCP_SUBFLOW_ATTR_UNSPEC: u16 = 0;
 

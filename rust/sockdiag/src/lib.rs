@@ -128,7 +128,7 @@
 //! strict replies, and [`rejected`](LenientReply::rejected), which yields the rejected attributes,
 //! each with its error.
 //! [`inet::TcpInfoBytes`] has the 70 fields of `struct tcp_info` of Linux 7.2, as far as a kernel
-//! sends them, and [`inet::MptcpInfoBytes`] the 24 of `struct mptcp_info`. Getters of replies have
+//! sends them, and [`inet::MptcpInfoBytes`] the 25 of `struct mptcp_info`. Getters of replies have
 //! the values that `nlas` yields as `Other`: the cgroup, the options of the socket, the
 //! measurements of Vegas, DCTCP and BBR, MD5 signature keys, SCTP addresses, and the user id of a
 //! UNIX socket.

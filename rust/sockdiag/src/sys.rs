@@ -869,6 +869,7 @@ pub(crate) struct MptcpInfo {
     pub(crate) bytes_acked: u64,
     pub(crate) subflows_total: u8,
     pub(crate) endp_laminar_max: u8,
+    pub(crate) endp_fullmesh_max: u8,
     pub(crate) last_data_sent: u32,
     pub(crate) last_data_recv: u32,
     pub(crate) last_ack_recv: u32,

@@ -110,7 +110,7 @@ fn parse_values(bytes: &[u8]) {
     let _ = (info.whole(), SocketOptions::parse(bytes));
     let info = MptcpInfoBytes::new(bytes);
     let found = MptcpField::ALL.iter().filter(|it| info.get(**it).is_some());
-    assert_eq!(found.count() == 24, bytes.len() >= 96);
+    assert_eq!(found.count() == 25, bytes.len() >= 96);
     let _ = (
         VegasInfo::parse(bytes),
         DctcpInfo::parse(bytes),

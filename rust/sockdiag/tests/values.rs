@@ -152,7 +152,7 @@ fn has_the_struct_and_the_rest_of_tcp_info() {
 }
 
 /// Each field of `struct mptcp_info` of `linux/mptcp.h`, with its offset and its width.
-const MPTCP_FIELDS: [(MptcpField, usize, usize); 24] = [
+const MPTCP_FIELDS: [(MptcpField, usize, usize); 25] = [
     (MptcpField::Subflows, 0, 1),
     (MptcpField::AddAddrSignal, 1, 1),
     (MptcpField::AddAddrAccepted, 2, 1),
@@ -174,6 +174,7 @@ const MPTCP_FIELDS: [(MptcpField, usize, usize); 24] = [
     (MptcpField::BytesAcked, 72, 8),
     (MptcpField::SubflowsTotal, 80, 1),
     (MptcpField::EndpLaminarMax, 81, 1),
+    (MptcpField::EndpFullmeshMax, 82, 1),
     (MptcpField::LastDataSent, 84, 4),
     (MptcpField::LastDataRecv, 88, 4),
     (MptcpField::LastAckRecv, 92, 4),

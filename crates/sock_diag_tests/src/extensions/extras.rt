@@ -127,12 +127,13 @@ fn tls_text(rt: &impl Abort, alloc: Global, tls: &TlsInfo) -> Result<String, Dec
     Ok(format!(in alloc; " {numbers:?} {flags:?}").expect(rt, "memory"))
 }
 
-/// Returns the version of TLS, and how the kernel decrypts what the socket receives: 1 to 4,
-/// `TLS_CONF_BASE` to `TLS_CONF_HW_RECORD`.
-fn tls_numbers(tls: &TlsInfo) -> Result<(Option<u64>, Option<u64>), DecodeError> {
+/// Returns the version of TLS, how the kernel decrypts what the socket receives: 1 to 4,
+/// `TLS_CONF_BASE` to `TLS_CONF_HW_RECORD`, and the maximum length of the data in a record.
+fn tls_numbers(tls: &TlsInfo) -> Result<(Option<u64>, Option<u64>, Option<u64>), DecodeError> {
     let version = tls.get(TlsField::Version)?;
     let receiving = tls.get(TlsField::Receiving)?;
-    Ok((version, receiving))
+    let payload = tls.get(TlsField::SendingMaxPayload)?;
+    Ok((version, receiving, payload))
 }
 
 /// Returns fields of a subflow of MPTCP as text: those of `subflow_numbers`.
@@ -158,11 +159,11 @@ macro_rules! with_names {
 }
 
 /// The fields of `struct mptcp_info`, in order, each with its name.
-const MPTCP_FIELDS: [(MptcpField, &str); 24] = with_names![
+const MPTCP_FIELDS: [(MptcpField, &str); 25] = with_names![
     MptcpField: Subflows, AddAddrSignal, AddAddrAccepted, SubflowsMax, AddAddrSignalMax,
     AddAddrAcceptedMax, Flags, Token, WriteSeq, SndUna, RcvNxt, LocalAddrUsed, LocalAddrMax,
     CsumEnabled, Retransmits, BytesRetrans, BytesSent, BytesReceived, BytesAcked, SubflowsTotal,
-    EndpLaminarMax, LastDataSent, LastDataRecv, LastAckRecv
+    EndpLaminarMax, EndpFullmeshMax, LastDataSent, LastDataRecv, LastAckRecv
 ];
 
 /// Returns, in hexadecimal, the fields of `struct mptcp_info` that the bytes contain, with `-` for
@@ -298,7 +299,7 @@ fn error_message(rt: &impl Abort, alloc: Global, flags: &str, bytes: &[u8]) -> S
 // request is 17; in those with `nothing` it is 15, less than a header, and 21, more than there are
 // bytes.
 //
-// The last two rows `ulp` have errors. The bytes of a row
+// Linux 7.2 sent the bytes of the second row `ulp`; the last two have errors. The bytes of a row
 // `tcp` are the last ones of `struct tcp_info`. Linux 7.2 sent those of the second to fourth row:
 // of connections with ECN as in RFC 3168 and with accurate ECN, and of one that is not established
 // yet. The text has their bit fields in order, in hexadecimal, and then the number of bytes after
@@ -356,7 +357,10 @@ eaffffff32000100496e76616c69642076616c75657320696e2068656164657220666f7220464942
 0 eaffffff0f00000014000500070000000000000002000000|nothing
 0 eaffffff1500000014000500070000000000000002000000|nothing
 ulp 08000100746c73002000028006000100030300000600020033000000060004000200000004000500|\
-Some(\"tls\") (Some(771), Some(2)) (true, false)
+Some(\"tls\") (Some(771), Some(2), None) (true, false)
+ulp \
+08000100746c73002c000200060001000303000006000200330000000600030002000000060004000200000006000700\
+00400000|Some(\"tls\") (Some(771), Some(2), Some(16384)) (false, false)
 ulp \
 0a0001006d7074637000000058000300080001000000000008000200e27c38a508000800c10000000500090000000000\
 05000a000000000008000300010000000c0004007e979b806ef3664d080005000100000008000600020ef3da06000700\
@@ -368,34 +372,34 @@ mptcp \
 030303070305000002000000d403802806746f1e94a6f07306746f1e94a6f073bf8368338c619d0603030100000000008\
 87f0100000000008de201000000000000000000000000008de201000000000004010000cc0000003c1d000000000000|\
 3 3 3 7 3 5 2 288003d4 73f0a6941e6f7406 73f0a6941e6f7406 69d618c336883bf 3 3 1 0 17f88 1e28d 0 \
-1e28d 4 1 cc 1d3c 0 0
+1e28d 4 1 0 cc 1d3c 0 0
 mptcp \
 03030307030500000200000051dfa4cb825e146f58d34e5b815e146f58d34e5b7dbdc407df050be503030100050000000\
 00000000000000000000000000000000000000000000000000000000000000004010000741000007410000074100000|\
 3 3 3 7 3 5 2 cba4df51 5b4ed3586f145e82 5b4ed3586f145e81 e50b05df07c4bd7d 3 3 1 5 0 0 0 0 4 1 \
-1074 1074 1074 0
+0 1074 1074 1074 0
 mptcp \
 000102030405060708090a0b0c0d0e0f101112131415161718191a1b1c1d1e1f202122232425262728292a2b2c2d2e2f3\
 03132333435363738393a3b3c3d3e3f404142434445464748494a4b4c4d4e4f505152535455565758595a5b5c5d5e5f60\
 616263|\
 0 1 2 3 4 5 b0a0908 f0e0d0c 1716151413121110 1f1e1d1c1b1a1918 2726252423222120 28 29 2a \
-2f2e2d2c 3736353433323130 3f3e3d3c3b3a3938 4746454443424140 4f4e4d4c4b4a4948 50 51 57565554 \
+2f2e2d2c 3736353433323130 3f3e3d3c3b3a3938 4746454443424140 4f4e4d4c4b4a4948 50 51 52 57565554 \
 5b5a5958 5f5e5d5c 4
 mptcp \
 03030307030500000200000051dfa4cb825e146f58d34e5b815e146f58d34e5b7dbdc407df050be5|\
 3 3 3 7 3 5 2 cba4df51 5b4ed3586f145e82 5b4ed3586f145e81 e50b05df07c4bd7d - - - - - - - - - - - \
-- - 0
+- - - 0
 mptcp \
 03030307030500000200000051dfa4cb825e146f58d34e5b815e146f58d34e5b7dbdc407df050be50303010005000000|\
 3 3 3 7 3 5 2 cba4df51 5b4ed3586f145e82 5b4ed3586f145e81 e50b05df07c4bd7d 3 3 1 5 - - - - - - - \
-- - 0
+- - - 0
 mptcp \
 000102030405060708090a0b0c0d0e0f101112131415161718191a1b1c1d1e1f202122232425262728292a2b2c2d2e2f3\
 03132333435363738393a3b3c3d3e3f404142434445464748494a4b4c4d4e4f505152535455565758595a5b5c5d5e|\
 0 1 2 3 4 5 b0a0908 f0e0d0c 1716151413121110 1f1e1d1c1b1a1918 2726252423222120 28 29 2a \
-2f2e2d2c 3736353433323130 3f3e3d3c3b3a3938 4746454443424140 4f4e4d4c4b4a4948 50 51 57565554 \
+2f2e2d2c 3736353433323130 3f3e3d3c3b3a3938 4746454443424140 4f4e4d4c4b4a4948 50 51 52 57565554 \
 5b5a5958 - 0
-mptcp |- - - - - - - - - - - - - - - - - - - - - - - - 0
+mptcp |- - - - - - - - - - - - - - - - - - - - - - - - - 0
 tcp 00000000|0 0 0 0 0
 tcp 01000000|1 0 0 0 0
 tcp 0a000000|2 2 0 0 0
@@ -583,8 +587,8 @@ const OPTIONS: [(SocketOption, &str); 11] = with_names![
 ];
 
 /// The fields of TLS, each with its name.
-const TLS_FIELDS: [(TlsField, &str); 4] = with_names![
-    TlsField: Version, Cipher, Sending, Receiving
+const TLS_FIELDS: [(TlsField, &str); 5] = with_names![
+    TlsField: Version, Cipher, Sending, Receiving, SendingMaxPayload
 ];
 
 /// The fields of a subflow of MPTCP, each with its name.

@@ -334,7 +334,7 @@ impl TcpField {
 // The first field that `TcpInfo` does not have.
 const _: () = assert!(TcpField::RcvWnd.span().0 == size_of::<TcpInfo>());
 
-/// A field of `struct mptcp_info` of `linux/mptcp.h`, as Linux 6.18 defines it: 96 bytes,
+/// A field of `struct mptcp_info` of `linux/mptcp.h`, as Linux 7.2 defines it: 96 bytes,
 /// little-endian. The number after `at` is the offset in bytes.
 #[derive(Clone, Copy, Debug, PartialEq, Eq, Hash)]
 #[non_exhaustive]
@@ -389,6 +389,9 @@ pub enum MptcpField {
     /// Number of endpoints with the flag `laminar`. `mptcpi_endp_laminar_max` at 81. It is 0 from
     /// kernels without this field.
     EndpLaminarMax,
+    /// Number of endpoints with the flag `fullmesh`. `mptcpi_endp_fullmesh_max` at 82. It is 0 from
+    /// kernels without this field.
+    EndpFullmeshMax,
     /// Time since data was sent, in milliseconds. `mptcpi_last_data_sent` at 84. A value of 88
     /// bytes, from a kernel without this field, has padding there.
     LastDataSent,
@@ -422,6 +425,7 @@ impl MptcpField {
         MptcpField::BytesAcked,
         MptcpField::SubflowsTotal,
         MptcpField::EndpLaminarMax,
+        MptcpField::EndpFullmeshMax,
         MptcpField::LastDataSent,
         MptcpField::LastDataRecv,
         MptcpField::LastAckRecv,
@@ -451,6 +455,7 @@ impl MptcpField {
             MptcpField::BytesAcked => (72, 8),
             MptcpField::SubflowsTotal => (80, 1),
             MptcpField::EndpLaminarMax => (81, 1),
+            MptcpField::EndpFullmeshMax => (82, 1),
             MptcpField::LastDataSent => (84, 4),
             MptcpField::LastDataRecv => (88, 4),
             MptcpField::LastAckRecv => (92, 4),
