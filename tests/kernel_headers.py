@@ -5,11 +5,14 @@ For each record of RECORDS the script parses its rows in specs/: an offset, a wi
 of the Rust struct. A C program prints the size of the kernel's struct, and the offset and the end
 of each of its members. The fields of `tcp_info` and `mptcp_info`, the bits of `inet_diag_sockopt`
 and the public constants are compared in the same way. The headers of an older kernel may lack some
-of these: the last line but one of the output lists them.
+of these: the last line but one of the output lists them. Headers are older if their version is
+below KNOWN, and if they have padding, a member `reserved` or no bytes in the place of each field
+that they lack. With another member there, the field was renamed or removed.
 
-The exit status is 1 if anything differs, if the headers lack a struct or a member that they must
-have, or if RECORDS and the layouts of specs/ do not have the same names and members. Without gcc or
-without the headers the script prints one line and compares nothing.
+The exit status is 1 if anything differs, if the headers lack what they must have, or if RECORDS and
+the layouts of specs/ do not have the same names and members. It is also 1 if the script takes the
+structs of TRIALS for what they are not. Without gcc or without the headers the script prints one
+line and compares nothing.
 """
 
 import re
@@ -27,14 +30,30 @@ INCLUDED = Path("/usr/include/linux/inet_diag.h")
 HEADERS = """stdio.h stddef.h sys/socket.h netinet/in.h linux/netlink.h linux/sock_diag.h
     linux/inet_diag.h linux/unix_diag.h linux/netlink_diag.h linux/packet_diag.h
     linux/vm_sockets_diag.h linux/xdp_diag.h linux/tcp.h linux/tls.h linux/mptcp.h linux/bpf.h
-    linux/if_link.h""".split()
-# The questions: the size of a struct, where a member starts and ends, and the position of a bit.
+    linux/if_link.h linux/version.h""".split()
+INCLUDES = "".join(f"#if __has_include(<{it}>)\n#include <{it}>\n#endif\n" for it in HEADERS)
+# The version of Linux that has all members and constants of the crates, and the first one that has
+# the bit fields of `tcp_info`. Older ones have other members there.
+KNOWN, BITS_SINCE = (7, 2), (7, 0)
+# The questions: the size of a struct, where a member starts and ends, the position of a bit, how
+# many bits a member has, and how many bits in the place of a member, from bit `at` on, are neither
+# padding nor after the end of the struct, nor of its member `reserved` (UNRESERVED).
 MACROS = r"""
 #define SIZE(s) sizeof(struct s)
 #define START(s, m) offsetof(struct s, m)
 #define END(s, m) (offsetof(struct s, m) + sizeof(((struct s *)0)->m))
 #define BIT(s, m) ({ union { struct s it; unsigned char bytes[sizeof(struct s)]; } u = {}; \
     u.it.m = 1; int at = 0; while (!(u.bytes[at / 8] >> at % 8 & 1)) at++; at; })
+#define BITS(s, m) ({ struct s it; it.m = -1; __builtin_popcountll(it.m); })
+#define USED(s, at, count, clear) ({ int used = 0; \
+    union { struct s it; unsigned char bytes[sizeof(struct s)]; } u; \
+    __builtin_memset(&u, 255, sizeof u); __builtin_clear_padding(&u.it); clear; \
+    for (size_t i = at; i < at + count && i < 8 * sizeof u; i++) \
+        used += u.bytes[i / 8] >> i % 8 & 1; \
+    used; })
+#define PLACE(s, m, at, count) USED(s, at, count, )
+#define UNRESERVED(s, m, at, count) \
+    USED(s, at, count, __builtin_memset(&u.it.reserved, 0, sizeof u.it.reserved))
 """
 SOCKET_ID = """source_port=id.idiag_sport destination_port=id.idiag_dport
     source_address=id.idiag_src destination_address=id.idiag_dst interface_id=id.idiag_if
@@ -111,6 +130,8 @@ RECORDS = [
 OTHER_SIZE = {"tcp_info", "sockaddr_in", "sockaddr_in6"}
 # A question that all headers answer. Only these three structs gain members in newer kernels.
 ANSWERED = re.compile(r"(?:SIZE|START|END|BIT)\((?!(?:mp)?tcp_info,|inet_diag_sockopt,)")
+# The question about the place of a member.
+PLACE = re.compile(r"PLACE\(\w+, (\w+),")
 # Members of `tcp_info` that are bytes of bit fields, and the first C member of each.
 BIT_FIELDS = {"wscale": "tcpi_snd_wscale"}
 BIT_FIELDS["delivery_rate_app_limited"] = "tcpi_delivery_rate_app_limited"
@@ -218,13 +239,28 @@ def about_record(table, struct, names):
     yield from about_members(struct, members, known)
 
 
-def about_fields(module, struct, prefix):
+def about_bits(struct, member, at, mask):
+    """Yields the questions about a bit field, from bit `at` on, each with its answer."""
+    yield f"BIT({struct}, {member})", at
+    yield f"BITS({struct}, {member})", mask.bit_length()
+    yield f"PLACE({struct}, {member}, {at}, {mask.bit_length()})", mask.bit_length()
+
+
+def about_fields(module, struct, prefix, version):
     """Yields the questions about the spans in a module of specs/, each with its answer there."""
     text = (CRATES / f"sock_diag_extras/specs/{module}.antt").read_text(encoding="utf-8")
+    bits = re.findall(r"^tcp_bits_of field\.(\w+) = Some \((\d+), (\w+)\)", text, re.M)
+    bits = {field: (int(shift), int(mask, 0)) for field, shift, mask in bits}
     for field, at, width in re.findall(r"tcp_span_of field\.(\w+) = \((\d+), (\d+)\)", text):
         member = re.sub(r"(?<=[a-z\d])(?=[A-Z])", "_", field).lower()
-        members = {member: (int(at), int(width))}
-        yield from about_members(struct, members, {member: prefix + member})
+        at, width, inside = int(at), int(width), prefix + member
+        if field not in bits:
+            yield from about_members(struct, {member: (at, width)}, {member: inside})
+            if member not in BIT_FIELDS:
+                yield f"PLACE({struct}, {inside}, {8 * at}, {8 * width})", 8 * width
+        elif version >= BITS_SINCE:
+            shift, mask = bits[field]
+            yield from about_bits(struct, inside, 8 * at + shift, mask)
 
 
 def c_name(constant):
@@ -237,12 +273,13 @@ def c_name(constant):
     return re.sub(r"^TCP_(?!CA_)", "BPF_TCP_", constant)
 
 
-def questions():
-    """Yields all questions, C expressions, each with the answer of the crates."""
+def questions(version):
+    """Yields all questions for headers of a version, C expressions, each with the answer of the
+    crates."""
     for record in RECORDS:
         yield from about_record(*record)
-    yield from about_fields("TcpFields", "tcp_info", "tcpi_")
-    yield from about_fields("MptcpFields", "mptcp_info", "mptcpi_")
+    yield from about_fields("TcpFields", "tcp_info", "tcpi_", version)
+    yield from about_fields("MptcpFields", "mptcp_info", "mptcpi_", version)
     options = (CRATES / "sock_diag_extras/specs/SocketOptions.antt").read_text(encoding="utf-8")
     for option, bit in re.findall(r"^bit_of option\.(\w+) = (\d+)", options, re.M):
         (member,) = (it for it in OPTIONS if it.replace("_", "") == option.lower())
@@ -256,10 +293,10 @@ def questions():
             yield c_name(name), int(value, 0)
 
 
-def answers(asked):
-    """Returns the headers' answer to each question, except those that do not compile."""
+def answers(included, asked):
+    """Returns the answer of the C text `included` to each question, except those that do not
+    compile."""
     left = list(asked)
-    included = "".join(f"#if __has_include(<{it}>)\n#include <{it}>\n#endif\n" for it in HEADERS)
     with tempfile.TemporaryDirectory() as folder:
         source, program = Path(folder, "ask.c"), Path(folder, "ask")
         while True:
@@ -279,23 +316,135 @@ def answers(asked):
     return dict(zip(left, map(int, values.split()), strict=True))
 
 
+def taken_places(included, found, lacking):
+    """Yields those of the members that are lacking in whose place another member is, which is not
+    `reserved`."""
+    places = [it for it in found if PLACE.match(it) and PLACE.match(it)[1] in lacking]
+    unreserved = answers(included, [it.replace("PLACE", "UNRESERVED") for it in places])
+    for it in places:
+        if unreserved.get(it.replace("PLACE", "UNRESERVED"), found[it]) > 0:
+            yield PLACE.match(it)[1]
+
+
+def compare(included, version, asked):
+    """Compares the C text `included`, of a version, with questions and answers. Returns how many
+    questions it answers, the errors, and the members and constants that it lacks."""
+    found = answers(included, dict.fromkeys(one for one, _ in asked))
+    missing = dict.fromkeys(one for one, _ in asked if one not in found)
+    lacking = dict.fromkeys(re.findall(r"\w+", it)[-1] for it in missing if not PLACE.match(it))
+    taken = taken_places(included, found, lacking)
+    wrong = [f"{it}: another member in its place" for it in taken]
+    for one, ours in asked:
+        place = PLACE.match(one)
+        if found.get(one, ours) != ours and not (place and place[1] in lacking):
+            wrong.append(f"{one}: {found[one]} in the headers, {ours} in the crates")
+    wrong += [f"{it}: not in the headers" for it in missing if ANSWERED.match(it)]
+    wrong += [f"{it}: not in headers of a new kernel" for it in lacking if version >= KNOWN]
+    return len(found), wrong, lacking
+
+
+# `struct tcp_info` of Linux 7.2, and `struct mptcp_info` of Linux 6.12.
+TCP_INFO = """
+#include <stddef.h>
+#include <stdio.h>
+#include <linux/types.h>
+struct tcp_info {
+    __u8 tcpi_state, tcpi_ca_state, tcpi_retransmits, tcpi_probes, tcpi_backoff, tcpi_options;
+    __u8 tcpi_snd_wscale : 4, tcpi_rcv_wscale : 4;
+    __u8 tcpi_delivery_rate_app_limited : 1, tcpi_fastopen_client_fail : 2;
+    __u32 tcpi_rto, tcpi_ato, tcpi_snd_mss, tcpi_rcv_mss, tcpi_unacked, tcpi_sacked, tcpi_lost;
+    __u32 tcpi_retrans, tcpi_fackets, tcpi_last_data_sent, tcpi_last_ack_sent;
+    __u32 tcpi_last_data_recv, tcpi_last_ack_recv, tcpi_pmtu, tcpi_rcv_ssthresh, tcpi_rtt;
+    __u32 tcpi_rttvar, tcpi_snd_ssthresh, tcpi_snd_cwnd, tcpi_advmss, tcpi_reordering;
+    __u32 tcpi_rcv_rtt, tcpi_rcv_space, tcpi_total_retrans;
+    __u64 tcpi_pacing_rate, tcpi_max_pacing_rate, tcpi_bytes_acked, tcpi_bytes_received;
+    __u32 tcpi_segs_out, tcpi_segs_in, tcpi_notsent_bytes, tcpi_min_rtt, tcpi_data_segs_in;
+    __u32 tcpi_data_segs_out;
+    __u64 tcpi_delivery_rate, tcpi_busy_time, tcpi_rwnd_limited, tcpi_sndbuf_limited;
+    __u32 tcpi_delivered, tcpi_delivered_ce;
+    __u64 tcpi_bytes_sent, tcpi_bytes_retrans;
+    __u32 tcpi_dsack_dups, tcpi_reord_seen, tcpi_rcv_ooopack, tcpi_snd_wnd;
+    __u32 tcpi_rcv_wnd, tcpi_rehash;
+    __u16 tcpi_total_rto, tcpi_total_rto_recoveries;
+    __u32 tcpi_total_rto_time;
+    __u32 tcpi_received_ce, tcpi_delivered_e1_bytes, tcpi_delivered_e0_bytes;
+    __u32 tcpi_delivered_ce_bytes, tcpi_received_e1_bytes, tcpi_received_e0_bytes;
+    __u32 tcpi_received_ce_bytes;
+    __u32 tcpi_ecn_mode : 2, tcpi_accecn_opt_seen : 2, tcpi_accecn_fail_mode : 4;
+    __u32 tcpi_options2 : 24;
+};
+"""
+MPTCP_INFO = """
+#include <stddef.h>
+#include <stdio.h>
+#include <linux/types.h>
+struct mptcp_info {
+    __u8 mptcpi_subflows, mptcpi_add_addr_signal, mptcpi_add_addr_accepted, mptcpi_subflows_max;
+    __u8 mptcpi_add_addr_signal_max, mptcpi_add_addr_accepted_max;
+    __u32 mptcpi_flags, mptcpi_token;
+    __u64 mptcpi_write_seq, mptcpi_snd_una, mptcpi_rcv_nxt;
+    __u8 mptcpi_local_addr_used, mptcpi_local_addr_max, mptcpi_csum_enabled;
+    __u32 mptcpi_retransmits;
+    __u64 mptcpi_bytes_retrans, mptcpi_bytes_sent, mptcpi_bytes_received, mptcpi_bytes_acked;
+    __u8 mptcpi_subflows_total, reserved[3];
+    __u32 mptcpi_last_data_sent, mptcpi_last_data_recv, mptcpi_last_ack_recv;
+};
+"""
+BITS_OF_7 = re.search(r" *__u32 tcpi_ecn_mode(?s:.*)24;\n", TCP_INFO)[0]
+# Structs, each with the version of its headers, what it lacks, and how many errors it has.
+TRIALS = {
+    "Linux 7.2": (TCP_INFO, (7, 2), [], 0),
+    "Linux 6.18": (TCP_INFO.replace(
+        BITS_OF_7, "__u16 tcpi_accecn_fail_mode, tcpi_accecn_opt_seen;\n"), (6, 18), [], 0),
+    "Linux 6.2": (re.sub(r" *__u16 tcpi_total_rto(?s:.*)24;\n", "", TCP_INFO), (6, 2),
+                  """total_rto total_rto_recoveries total_rto_time received_ce delivered_e1_bytes
+                  delivered_e0_bytes delivered_ce_bytes received_e1_bytes received_e0_bytes
+                  received_ce_bytes""".split(), 0),
+    "a bit field that has another name": (
+        TCP_INFO.replace("accecn_fail_mode", "other"), (7, 1), ["accecn_fail_mode"], 1),
+    "a number that has another name": (
+        TCP_INFO.replace("tcpi_rehash", "other"), (6, 18), ["rehash"], 1),
+    "a newer struct without its end": (
+        TCP_INFO.replace(BITS_OF_7, ""), (7, 2),
+        ["ecn_mode", "accecn_opt_seen", "accecn_fail_mode", "options2"], 4),
+    "Linux 6.12": (MPTCP_INFO, (6, 12), ["endp_laminar_max", "endp_fullmesh_max"], 0),
+    "Linux 6.12 with padding": (
+        MPTCP_INFO.replace(", reserved[3]", ""), (6, 12), ["endp_laminar_max", "endp_fullmesh_max"],
+        0),
+    "a byte that has another name": (
+        MPTCP_INFO.replace("reserved[3]", "other, reserved[2]"), (6, 12),
+        ["endp_laminar_max", "endp_fullmesh_max"], 1),
+    "bit fields in another order": (
+        TCP_INFO.replace("opt_seen : 2", "FAIL").replace("fail_mode : 4", "opt_seen : 2")
+        .replace("FAIL", "fail_mode : 4"), (7, 2), [], 2),
+}
+
+
+def trial_errors():
+    """Yields a line for each struct of TRIALS that the script takes for what it is not."""
+    for name, (text, version, lacking, errors) in TRIALS.items():
+        (struct,) = re.findall(r"struct (\w+) \{", text)
+        asked = [it for it in questions(version) if f"({struct}," in it[0]]
+        _, wrong, found = compare(text, version, asked)
+        found = [it.partition("_")[2] for it in found]
+        if found != lacking or len(wrong) != errors:
+            yield f"{name}: lacks {', '.join(found) or 'nothing'}; errors: {wrong}"
+
+
 def main():
     if not shutil.which("gcc") or not INCLUDED.exists():
         print(f"skipped: tests/kernel_headers.py: no gcc or no {INCLUDED}")
         return 0
-    asked = list(questions())
-    found = answers(dict.fromkeys(one for one, _ in asked))
-    missing = dict.fromkeys(one for one, _ in asked if one not in found)
-    differ = ((one, ours) for one, ours in asked if found.get(one, ours) != ours)
-    wrong = [f"{one}: {found[one]} in the headers, {ours} in the crates" for one, ours in differ]
-    wrong += [f"{it}: not in the headers" for it in missing if ANSWERED.match(it)]
+    code = answers(INCLUDES, ["LINUX_VERSION_CODE"])["LINUX_VERSION_CODE"]
+    version = (code >> 16, code >> 8 & 255)
+    count, wrong, lacking = compare(INCLUDES, version, [*questions(version)])
     wrong += [f"{it}: missing from RECORDS" for it in LAYOUTS - {table for table, _, _ in RECORDS}]
+    wrong += trial_errors()
     print(*wrong, sep="\n", end="\n" * bool(wrong))
-    lacking = dict.fromkeys(re.findall(r"\w+", it)[-1] for it in missing)
     print("The installed headers lack:", ", ".join(lacking) or "nothing")
-    print(f"tests/kernel_headers.py: {len(found)} lengths, offsets and constants compared, "
+    print(f"tests/kernel_headers.py: {count} lengths, offsets and constants compared, "
           f"{len(wrong)} errors")
-    return int(bool(wrong) or not found)
+    return int(bool(wrong) or not count)
 
 
 if __name__ == "__main__":
