@@ -71,20 +71,26 @@ pub fn main_theorem<T: HasCodec>()
     // Each parsed value is in range and in normal form.
     ensures parsed_is_normal { (b : List ℕ) (p : T.Param) (v : T.codec.Value) → IsBytes b
         → T.codec.parses b p v → T.codec.is_in_range v × T.codec.is_normal p v }
-    // Two writable values in normal form are equal if and only if they serialize to equal bytes.
+    // Two writable values, in range and in normal form, are equal if and only if they serialize to
+    // equal bytes.
     ensures equal_iff_equal_bytes { (p : T.Param) (v w : T.codec.Value)
         → T.codec.is_in_range v → T.codec.is_normal p v → T.codec.is_writable v
         → T.codec.is_in_range w → T.codec.is_normal p w → T.codec.is_writable w
         → ((v ≡ w) ↔ (T.codec.serialized v ≡ T.codec.serialized w)) }
-    // A writable value round-trips if and only if it is in normal form.
+    // A value in range serializes to bytes.
+    ensures serialized_is_bytes { (v : T.codec.Value) → T.codec.is_in_range v
+        → IsBytes (T.codec.serialized v) }
+    // A writable value in range round-trips if and only if it is in normal form.
     ensures round_trips_iff_normal { (p : T.Param) (v : T.codec.Value) → T.codec.is_in_range v
         → T.codec.is_writable v
         → (T.codec.parses (T.codec.serialized v) p v ↔ T.codec.is_normal p v) }
-    // Two byte strings have the same canonical form if and only if they are equivalent.
-    ensures same_form_iff_equivalent { (b c form other : List ℕ) (p : T.Param) → IsBytes b
-        → IsBytes c → HasCanonicalForm T.codec p b form → HasCanonicalForm T.codec p c other
-        → ((form ≡ other) ↔ T.codec.equivalent p b c) }
-    // The canonical form is equivalent to the bytes, and is its own canonical form.
+    // Two byte strings that have canonical forms have the same one if and only if they are
+    // equivalent.
+    ensures same_form_iff_equivalent { (b c b_form c_form : List ℕ) (p : T.Param) → IsBytes b
+        → IsBytes c → HasCanonicalForm T.codec p b b_form → HasCanonicalForm T.codec p c c_form
+        → ((b_form ≡ c_form) ↔ T.codec.equivalent p b c) }
+    // The canonical form of bytes, if they have one, is equivalent to them, and is its own canonical
+    // form.
     ensures canonical_form { (b form : List ℕ) (p : T.Param) → IsBytes b
         → HasCanonicalForm T.codec p b form → IsBytes form × T.codec.equivalent p b form
         × HasCanonicalForm T.codec p form form }

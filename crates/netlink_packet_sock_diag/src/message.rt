@@ -7,6 +7,7 @@
 
 ghost use Rattle.std.specs.Prelude.{◌≡◌, ◌≢◌, ◌<◌, ◌↔◌, ◌⊎◌, true, refl, IsTrue, IfOk, IfErr, IsOk};
 ghost use Rattle.std.specs.Prelude.{Ok, Err, if◌then◌else◌};
+ghost use Rattle.netlink_core.specs.Bytes.{IsBytes};
 ghost use Rattle.netlink_core.specs.declared.error.DecodeError.TheVariants.{Memory};
 ghost use Rattle.netlink_core.specs.declared.message.NetlinkPayload.TheVariants.{InnerMessage};
 ghost use Rattle.netlink_packet_sock_diag.specs.Message.{Message, kind_of, message_codec};
@@ -165,6 +166,7 @@ impl<'a> SockDiagView<'a> {
     /// - the error that the view of the family's replies returns.
     #[inline(always)]
     pub fn parse(payload: &'a [u8], message_type: u16) -> Result<SockDiagView<'a>, DecodeError>
+        ensures in_range { IsBytes payload.entry.now }
         ensures value { IfOk result
             (λ view. message_codec.parses payload.entry.now message_type
             (message_view_model view)) }

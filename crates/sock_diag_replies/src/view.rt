@@ -9,7 +9,7 @@ ghost use Rattle.std.specs.Prelude.{Err, OnOk, IfOk, IfErr, IsTrue, Some, IfSome
 ghost use Rattle.std.specs.Cmp.{partial_equiv_from_equiv};
 ghost use Rattle.std.specs.Iterator.{Drains, UpTo, YieldsFirstBy, YieldsThen, at_most};
 ghost use Rattle.std.specs.Iterator.SizeHint.{IsWithinCount};
-ghost use Rattle.netlink_core.specs.Bytes.{HoldsAtStart};
+ghost use Rattle.netlink_core.specs.Bytes.{HoldsAtStart, IsBytes};
 ghost use Rattle.netlink_core.specs.declared.error.DecodeError.{DecodeError};
 ghost use Rattle.netlink_core.specs.declared.error.DecodeError.TheVariants.{Memory};
 ghost use Rattle.netlink_core.specs.Attribute.{HasAttributeError};
@@ -182,6 +182,7 @@ impl<'a, H: ReplyHeader> ReplyView<'a, H> {
     /// error is never `Memory`. Does not allocate.
     #[inline(always)]
     pub fn parse(bytes: &'a [u8]) -> Result<ReplyView<'a, H>, DecodeError>
+        ensures in_range { IsBytes bytes.entry.now }
         ensures value { IfOk result (λ view.
             (response_codec H.reply).parses bytes.entry.now tt (view_model view)) }
         ensures kept { IfOk result (λ view. view_bytes view ≡ bytes.entry.now) }

@@ -17,6 +17,7 @@ returns g c =
             equal_by_bytes codec laws p v w v_in_range v_normal v_writable w_in_range w_normal
                 w_writable,
           );
+      serialized_is_bytes = laws.serialized_in_range;
       round_trips_iff_normal = round_trips_iff_normal codec laws;
       same_form_iff_equivalent = same_form_iff_equivalent codec laws;
       canonical_form = canonical_form codec laws;

@@ -52,3 +52,12 @@ pub returns-clause-value : goal.returns-clause-value
 returns-clause-value g c =
     let in_range : IsBytes c.args.bytes.now = λ i. omega (arith, c.type_inv.bytes i) in
     search (in_range, accepted_reply_is_parsed g.H.ReplyHeader.reply c.args.bytes.now)
+
+pub returns-in_err-_header-clause-in_range : goal.returns-in_err-_header-clause-in_range
+returns-in_err-_header-clause-in_range g c = λ i. omega (arith, c.type_inv.bytes i)
+
+pub returns-in_err-count-clause-in_range : goal.returns-in_err-count-clause-in_range
+returns-in_err-count-clause-in_range g c = λ i. omega (arith, c.type_inv.bytes i)
+
+pub returns-clause-in_range : goal.returns-clause-in_range
+returns-clause-in_range g c = λ i. omega (arith, c.type_inv.bytes i)
