@@ -551,6 +551,16 @@ def lists_requests(sslist):
         sslist.run(pcap(header, *packets), ["--requests"], lines)
 
 
+def lists_by_the_last_protocol_of_a_request(sslist):
+    """Of several INET_DIAG_REQ_PROTOCOL in a request the last one counts, as in Linux."""
+    for first, last, name, option in (("06", "11", "udp  ", "-u"), ("11", "06", "tcp  ", "-t")):
+        request = f"58{TCP_REQUEST[2:]}08000300{first}00000008000300{last}000000"
+        capture = pcap(HEADERS[0], (SOCK_DIAG, request), (SOCK_DIAG, OBJECTS[4][0]))
+        sslist.run(capture, lines=[INET4_LINE.replace("inet ", name)])
+        sslist.run(capture, [option], [INET4_LINE.replace("inet ", name)])
+        sslist.run(capture, ["-u" if option == "-t" else "-t"], [])
+
+
 def separates_lists(sslist):
     """A request with the type and the bytes of the first one begins another list, whatever its flags
     and numbers are. Other requests do not, also if they are repeated. -H omits the heading, and
@@ -683,7 +693,8 @@ def main():
     for check in (
         lists_captures_of_both_orders, lists_other_families, lists_attributes_of_newer_kernels,
         lists_short_tcp_info, shows_names_in_utf8, lists_objects, selects_by_address,
-        selects_states_without_a_name, lists_requests, separates_lists, lists_a_long_datagram,
+        selects_states_without_a_name, lists_requests, lists_by_the_last_protocol_of_a_request,
+        separates_lists, lists_a_long_datagram,
         reports_where_a_capture_is_truncated, reports_why, reports_another_capture,
         lists_sections_of_both_orders, lists_times_of_requests, reports_where_a_file_is_truncated,
         reports_invalid_blocks,

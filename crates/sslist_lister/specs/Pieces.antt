@@ -82,3 +82,15 @@ first_of_kind kind [] = None
 first_of_kind kind (Ok a ∷ later) =
     if attribute_kind a == kind then Some a else first_of_kind kind later
 first_of_kind kind (Err e ∷ later) = first_of_kind kind later
+
+-- `last_after kind found pieces`: the last attribute of this type, compared as by `first_of_kind`,
+-- or `found` if there is none
+abbrev pub last_after : ℕ → Option Attribute → List AttributeOrError → Option Attribute
+last_after kind found [] = found
+last_after kind found (Ok a ∷ later) =
+    last_after kind (if attribute_kind a == kind then Some a else found) later
+last_after kind found (Err e ∷ later) = last_after kind found later
+
+-- `last_of_kind kind pieces`: the last attribute of this type, or None if there is none
+abbrev pub last_of_kind : ℕ → List AttributeOrError → Option Attribute
+last_of_kind kind pieces = last_after kind None pieces

@@ -14,27 +14,28 @@ use Rattle.sslist_lister.specs.Lists.{ComparedContent, first_request, first_with
 use Rattle.sslist_lister.specs.Lists.{is_repetition}
 use Rattle.sslist_lister.specs.Messages.{MessageParts}
 use Rattle.sslist_lister.specs.Others.{family_numbered}
-use Rattle.sslist_lister.specs.Pieces.{first_of_kind, pieces_in}
+use Rattle.sslist_lister.specs.Pieces.{last_of_kind, pieces_in}
 use Rattle.sslist_lister.specs.declared.requests.Query.{Query}
 use Rattle.sslist_lister.specs.declared.requests.Requested.{Requested}
 use Rattle.sslist_lister.specs.declared.requests.Requested.TheVariants as requests
 use Rattle.sslist_lister.specs.declared.requests.Requests.{Requests}
 
--- `protocol_by byte attribute`: the protocol of a request. It is the little-endian value of its
--- attribute INET_DIAG_REQ_PROTOCOL, if there is one and its value has four bytes, or else the byte
--- `sdiag_protocol`.
+-- `protocol_by byte attribute`: the protocol of a request. It is the little-endian value of
+-- `attribute`, the last INET_DIAG_REQ_PROTOCOL, if there is one and its value has four bytes, or
+-- else the byte `sdiag_protocol`. Linux takes the last one too. If one of them does not have four
+-- bytes, it rejects the request, which then has no replies.
 abbrev pub protocol_by : ℕ → Option Attribute → ℕ
 protocol_by byte None = byte
 protocol_by byte (Some a) = if length a.value == 4 then little_number 4 a.value else byte
 
 -- the query in a request for IPv4 or IPv6 sockets. Its payload has a `struct inet_diag_req_v2`,
 -- with `sdiag_family` at 0, `sdiag_protocol` at 1 and `idiag_states` at 4, little-endian, and then
--- attributes.
+-- attributes, of which the last INET_DIAG_REQ_PROTOCOL counts.
 abbrev pub query_of : MessageParts → Query
 query_of request = record {
   sequence_number = request.header.sequence_number;
   port_number = request.header.port_number;
-  protocol = protocol_by (slice_index request.payload 1) (first_of_kind INET_DIAG_REQ_PROTOCOL
+  protocol = protocol_by (slice_index request.payload 1) (last_of_kind INET_DIAG_REQ_PROTOCOL
       (pieces_in (drop INET_REQUEST_LEN request.payload)));
   family = slice_index request.payload 0;
   states = little_number 4 (drop 4 request.payload);

@@ -5,7 +5,7 @@
 ghost use Rattle.std.specs.Prelude.{◌≡◌, option_map};
 ghost use Rattle.netlink_core.specs.Walk.{buffered_attribute};
 ghost use Rattle.sslist_lister.specs.Pieces.{YieldsFirstPiece, first_of_kind, pieces_in};
-ghost use Rattle.sslist_lister.specs.Pieces.{framing_error_of};
+ghost use Rattle.sslist_lister.specs.Pieces.{framing_error_of, last_of_kind};
 
 use netlink_core::{DecodeError, NlaBuffer, NlasIterator};
 
@@ -38,6 +38,25 @@ pub(crate) fn find_kind<'a>(bytes: &'a [u8], kind: u16) -> Option<NlaBuffer<'a>>
         }
     }
     None
+}
+
+/// Returns the last attribute of this kind. Returns `None` if there is none before the end, or
+/// before bytes that are not an attribute.
+pub(crate) fn find_last_of_kind<'a>(bytes: &'a [u8], kind: u16) -> Option<NlaBuffer<'a>>
+    // `option_map buffered_attribute result`: the type and the value of the attribute, if there is
+    // one. `last_of_kind kind ..`: the last attribute of this kind, or None.
+    ensures { option_map buffered_attribute result
+        ≡ last_of_kind kind (pieces_in bytes.entry.now) }
+{
+    let mut walk = NlasIterator::new(bytes);
+    let mut last = None;
+    while let Some(piece) = next_piece(&mut walk) {
+        match piece {
+            Ok(nla) if nla.kind() == kind => last = Some(nla),
+            _ => {}
+        }
+    }
+    last
 }
 
 /// Returns the error of the bytes after the last attribute, or `None` if there are no such bytes.

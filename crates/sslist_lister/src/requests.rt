@@ -16,7 +16,7 @@ use crate::command_line::Family;
 use crate::lists::FirstRequest;
 use crate::messages::Message;
 use crate::others::family_numbered;
-use crate::pieces::find_kind;
+use crate::pieces::find_last_of_kind;
 use byteorder::{ByteOrder, LittleEndian};
 use netlink_core::{Exact, NlaBuffer};
 use sock_diag_records::constants::{AF_INET, AF_INET6, AF_UNIX, SOCK_DESTROY, SOCK_DIAG_BY_FAMILY};
@@ -188,7 +188,7 @@ fn query_of(request: &Message<'_>) -> Query
     ensures { result ≡ query_of (message_parts request.now) }
 {
     let Message { header, payload } = request;
-    let attribute = find_kind(&payload[INET_REQUEST_LEN..], INET_DIAG_REQ_PROTOCOL);
+    let attribute = find_last_of_kind(&payload[INET_REQUEST_LEN..], INET_DIAG_REQ_PROTOCOL);
     // `sdiag_family` is at 0, `sdiag_protocol` at 1, and `idiag_states` at 4.
     Query {
         sequence_number: header.sequence_number,
@@ -199,8 +199,9 @@ fn query_of(request: &Message<'_>) -> Query
     }
 }
 
-/// Returns the protocol of a request: the value of the attribute `INET_DIAG_REQ_PROTOCOL` if it has
-/// four bytes. Otherwise, or if there is no attribute, returns `byte`, the protocol in the header.
+/// Returns the protocol of a request: the value of `attribute`, the last `INET_DIAG_REQ_PROTOCOL`,
+/// if it has four bytes. Otherwise, or if there is no such attribute, returns `byte`, the protocol
+/// in the header.
 fn choose_protocol(byte: u8, attribute: Option<NlaBuffer<'_>>) -> u32
     // `option_map buffered_attribute attribute.entry`: the type and the value of the attribute, if
     // there is one.

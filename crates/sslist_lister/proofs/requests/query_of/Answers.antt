@@ -6,7 +6,7 @@ pub returns : goal.returns
 returns c =
     let request = c.args.request.now in
     let payload = request.payload.now in
-    let found = rw (take_rest payload 56) at c.find_kind-attribute.ensures in
+    let found = rw (take_rest payload 56) at c.find_last_of_kind-attribute.ensures in
     let protocol = rw found at c.choose_protocol.ensures in
     let states = rw (take_rest payload 4) at c.read_u32.ensures in
     λ i. record {
