@@ -3,6 +3,7 @@
 and compares what it writes on standard output and standard error, and its exit status. The gate
 runs it with the program that it has built. The last line has the number of runs."""
 
+import json
 import struct
 import subprocess
 import sys
@@ -404,6 +405,13 @@ class Lister:
         got = (ended.returncode, None if lines is None else ended.stdout, ended.stderr)
         assert got == wanted, f"{options} {capture.hex()[:400]}: {got}, expected {wanted}"
 
+    def objects(self, capture):
+        """Returns the objects of a capture in JSON."""
+        self.runs += 1
+        ended = subprocess.run([self.program, "--json"], input=capture, capture_output=True)
+        assert (ended.returncode, ended.stderr) == (0, b""), ended
+        return [json.loads(line) for line in ended.stdout.splitlines()]
+
     def fails(self, *digits, errors, status=1):
         """Lists the capture with these digits, and compares what is on standard error."""
         self.run(bytes.fromhex("".join(digits)), errors=errors, status=status)
@@ -424,6 +432,14 @@ def enhanced(order, *digits):
     if its timestamps have microseconds."""
     packet = bytes.fromhex("".join(digits))
     return pcapng.enhanced(order, 0, 7_000_009, len(packet), packet)
+
+
+def with_attributes(reply, *attributes):
+    """Returns a reply with these further attributes, each a type and the digits of its value."""
+    for kind, value in attributes:
+        length = 4 + len(value) // 2
+        reply += struct.pack("<2H", length, kind).hex() + value + "00" * (-length % 4)
+    return struct.pack("<I", len(reply) // 2).hex() + reply[8:]
 
 
 def list_heading(time):
@@ -485,6 +501,25 @@ def lists_short_tcp_info(sslist):
     sslist.run(pcap(HEADERS[0], request, reply), lines=["tcp   ", SHORT_INFO_COLUMNS, details])
     details = "unread:(2,104,too-short)\n"
     sslist.run(pcap(HEADERS[0], reply), lines=["inet6 ", SHORT_INFO_COLUMNS, details])
+
+
+def lists_bit_fields_of_tcp_info(sslist):
+    """The last four bytes of a struct tcp_info of 280 bytes are bit fields since Linux 7.0. These
+    are the bytes of classic ECN, accurate ECN and accurate ECN in SYN-SENT, and of a failure."""
+    for digits, details, mode, seen, failed in (
+        ("00000000", "", 0, 0, 0),
+        ("01000000", " ecn_mode:1", 1, 0, 0),
+        ("0a000000", " ecn_mode:2 accecn_opt_seen:2", 2, 2, 0),
+        ("03000000", " ecn_mode:3", 3, 0, 0),
+        ("94000000", " accecn_opt_seen:1 accecn_fail_mode:9", 0, 1, 9),
+    ):
+        reply = with_attributes(OBJECTS[4][0], (2, "00" * 276 + digits))
+        capture = pcap(HEADERS[0], (SOCK_DIAG, TCP_REQUEST), (SOCK_DIAG, reply))
+        columns = INET4_LINE.splitlines()[0].replace("inet ", "tcp  ")
+        sslist.run(capture, ["-iO"], [columns, details, "\n"])
+        info = sslist.objects(capture)[0]["info"]
+        last = {"ecn_mode": mode, "accecn_opt_seen": seen, "accecn_fail_mode": failed}
+        assert list(info.items())[-3:] == list(last.items()), info
 
 
 def shows_names_in_utf8(sslist):
@@ -692,7 +727,8 @@ def main():
     sslist, failed = Lister(sys.argv[1]), 0
     for check in (
         lists_captures_of_both_orders, lists_other_families, lists_attributes_of_newer_kernels,
-        lists_short_tcp_info, shows_names_in_utf8, lists_objects, selects_by_address,
+        lists_short_tcp_info, lists_bit_fields_of_tcp_info, shows_names_in_utf8, lists_objects,
+        selects_by_address,
         selects_states_without_a_name, lists_requests, lists_by_the_last_protocol_of_a_request,
         separates_lists, lists_a_long_datagram,
         reports_where_a_capture_is_truncated, reports_why, reports_another_capture,

@@ -1,6 +1,6 @@
 -- The facts of a TCP or MPTCP connection: the members of `struct tcp_info` of linux/tcp.h or of
--- `struct mptcp_info` of linux/mptcp.h, as Linux 6.18 defines them. JSON has them under the
--- kernel's names without the prefix `tcpi_` or `mptcpi_`.
+-- `struct mptcp_info` of linux/mptcp.h, as Linux 7.2 defines them. JSON has them under the kernel's
+-- names without the prefix `tcpi_` or `mptcpi_`.
 use Rattle.std.specs.Prelude.{ℕ, ◌+◌, ◌==◌, ◌/◌, ◌%◌, nat_le, if◌then◌else◌, Bool, false, not, List}
 use Rattle.std.specs.Prelude.{[], ◌∷◌, bit_and, codes, drop, length, Option, None, Some, option_map}
 use Rattle.std.specs.Borrow.{Bor}
@@ -28,8 +28,9 @@ use Rattle.sslist_lister.specs.declared.facts.Shown.TheVariants.{Bits, Halves, N
 use Rattle.sslist_lister.specs.declared.facts.Shown.TheVariants.{NonzeroHex, Threshold}
 use Rattle.sslist_lister.specs.declared.tcp.FieldPart.{FieldPart}
 use Rattle.sslist_lister.specs.declared.tcp.FieldPart.TheVariants.{Byte, Eight, FirstBit, Four}
-use Rattle.sslist_lister.specs.declared.tcp.FieldPart.TheVariants.{HighFour, LowFour}
-use Rattle.sslist_lister.specs.declared.tcp.FieldPart.TheVariants.{Negotiated, NextTwo, Two}
+use Rattle.sslist_lister.specs.declared.tcp.FieldPart.TheVariants.{HighFour, LowFour, LowTwo}
+use Rattle.sslist_lister.specs.declared.tcp.FieldPart.TheVariants.{MiddleTwo, Negotiated, NextTwo}
+use Rattle.sslist_lister.specs.declared.tcp.FieldPart.TheVariants.{Two}
 
 -- a row: the offset of a field (`.0`), which number or bits of it the row is about (`.1`), how the
 -- table shows them (`.2`), their text in the table (`.3`), and their name in JSON (`.4`)
@@ -127,7 +128,13 @@ tcp_metric_rows =
     nonzero field.RcvSpace (codes " rcv_space:") (codes "rcv_space") ∷
     nonzero field.TotalRetrans (codes " retrans:") (codes "total_retrans") ∷ []
 
--- the rows of the rates and counters, from `tcpi_pacing_rate` on
+-- `bits_row offset part text member`: the row of some bits (`part`) of the byte at the offset, which
+-- the table shows after `text` if they are not 0 (Nonzero), and JSON has under `member`
+abbrev pub bits_row : ℕ → FieldPart → List ℕ → List ℕ → FieldRow
+bits_row offset part text member = (offset, part, Nonzero, text, Some member)
+
+-- The rows of the rates and counters, from `tcpi_pacing_rate` on. The last three are bit fields,
+-- which Linux 7.0 and later have in the byte at 276. Earlier kernels send 0 there, or fewer bytes.
 unfoldable pub tcp_rate_rows : List FieldRow
 tcp_rate_rows =
     nonzero field.PacingRate (codes " pacing_rate:") (codes "pacing_rate") ∷
@@ -165,9 +172,9 @@ tcp_rate_rows =
     nonzero field.ReceivedE1Bytes (codes " received_e1_bytes:") (codes "received_e1_bytes") ∷
     nonzero field.ReceivedE0Bytes (codes " received_e0_bytes:") (codes "received_e0_bytes") ∷
     nonzero field.ReceivedCeBytes (codes " received_ce_bytes:") (codes "received_ce_bytes") ∷
-    nonzero field.AccecnFailMode (codes " accecn_fail_mode:") (codes "accecn_fail_mode") ∷
-    nonzero field.AccecnOptSeen (codes " accecn_opt_seen:") (codes "accecn_opt_seen") ∷
-    []
+    bits_row 276 LowTwo (codes " ecn_mode:") (codes "ecn_mode") ∷
+    bits_row 276 MiddleTwo (codes " accecn_opt_seen:") (codes "accecn_opt_seen") ∷
+    bits_row 276 HighFour (codes " accecn_fail_mode:") (codes "accecn_fail_mode") ∷ []
 
 -- `mptcp_nonzero f text member`: the row of the field `f` of `struct mptcp_info`, which the table
 -- shows after `text` if it is neither 0 nor unlimited (Nonzero), and JSON has under `member`
@@ -217,12 +224,14 @@ mptcp_rows =
     mptcp_nonzero mptcp.LastAckRecv (codes " last_ack_recv:") (codes "last_ack_recv") ∷ []
 
 -- `part_bits part n`: the bits of the byte `n` that a row is about: bits 0 to 3, bits 4 to 7, bit
--- 0, or bits 1 and 2; or else the whole byte
+-- 0, bits 1 and 2, bits 0 and 1, or bits 2 and 3; or else the whole byte
 abbrev pub part_bits : FieldPart → ℕ → ℕ
 part_bits LowFour n = n % 16
 part_bits HighFour n = n / 16
 part_bits FirstBit n = n % 2
 part_bits NextTwo n = n / 2 % 4
+part_bits LowTwo n = n % 4
+part_bits MiddleTwo n = n / 4 % 4
 part_bits _ n = n
 
 -- `bytes_from width offset bytes`: the bytes from the offset on, or None if there are fewer than

@@ -42,6 +42,10 @@ pub(crate) enum FieldPart {
     FirstBit,
     /// Bits 1 and 2 of a byte.
     NextTwo,
+    /// Bits 0 and 1 of a byte.
+    LowTwo,
+    /// Bits 2 and 3 of a byte.
+    MiddleTwo,
 }
 
 /// A row: the offset of a field in bytes, which number or bits of it the row is about, how the
@@ -55,7 +59,7 @@ macro_rules! row {
     };
 }
 
-/// A field that the table shows if it is neither 0 nor unlimited.
+/// A field, or some bits of it, that the table shows if it is neither 0 nor unlimited.
 macro_rules! nonzero {
     ($offset:literal, $part:ident, $text:literal, $member:literal) => {
         row!($offset, $part, Shown::Nonzero, $text, Some($member))
@@ -150,8 +154,9 @@ static TCP_METRIC_ROWS: [FieldRow; 24] = [
     nonzero!(100, Four, b" retrans:", "total_retrans"),
 ];
 
-/// The facts of the rates and counters in `struct tcp_info`, from `tcpi_pacing_rate` on.
-static TCP_RATE_ROWS: [FieldRow; 36] = [
+/// The facts of the rates and counters in `struct tcp_info`, from `tcpi_pacing_rate` on. The last
+/// three are bit fields of Linux 7.0 and later. Earlier kernels send 0 there, or fewer bytes.
+static TCP_RATE_ROWS: [FieldRow; 37] = [
     nonzero!(104, Eight, b" pacing_rate:", "pacing_rate"),
     nonzero!(112, Eight, b" max_pacing_rate:", "max_pacing_rate"),
     nonzero!(120, Eight, b" bytes_acked:", "bytes_acked"),
@@ -186,8 +191,9 @@ static TCP_RATE_ROWS: [FieldRow; 36] = [
     nonzero!(264, Four, b" received_e1_bytes:", "received_e1_bytes"),
     nonzero!(268, Four, b" received_e0_bytes:", "received_e0_bytes"),
     nonzero!(272, Four, b" received_ce_bytes:", "received_ce_bytes"),
-    nonzero!(276, Two, b" accecn_fail_mode:", "accecn_fail_mode"),
-    nonzero!(278, Two, b" accecn_opt_seen:", "accecn_opt_seen"),
+    nonzero!(276, LowTwo, b" ecn_mode:", "ecn_mode"),
+    nonzero!(276, MiddleTwo, b" accecn_opt_seen:", "accecn_opt_seen"),
+    nonzero!(276, HighFour, b" accecn_fail_mode:", "accecn_fail_mode"),
 ];
 
 /// The facts of `struct mptcp_info`, in the order of its members.
@@ -342,7 +348,9 @@ fn number_in(value: &[u8], offset: usize, part: FieldPart) -> Option<u64>
         | FieldPart::LowFour
         | FieldPart::HighFour
         | FieldPart::FirstBit
-        | FieldPart::NextTwo => Some(part_bits(byte_at(value, offset)?, part)),
+        | FieldPart::NextTwo
+        | FieldPart::LowTwo
+        | FieldPart::MiddleTwo => Some(part_bits(byte_at(value, offset)?, part)),
     }
 }
 
@@ -388,6 +396,8 @@ fn part_bits(byte: u64, part: FieldPart) -> u64
         FieldPart::HighFour => byte / 16,
         FieldPart::FirstBit => byte % 2,
         FieldPart::NextTwo => byte / 2 % 4,
+        FieldPart::LowTwo => byte % 4,
+        FieldPart::MiddleTwo => byte / 4 % 4,
         _ => byte,
     }
 }
