@@ -522,6 +522,17 @@ def lists_bit_fields_of_tcp_info(sslist):
         assert list(info.items())[-3:] == list(last.items()), info
 
 
+def names_timers(sslist):
+    """Each kind of timer has a name, and one above 5 is unknown. Linux 7.2 has the kind 5. The
+    timers expire in 36 milliseconds."""
+    names = ("on", "keepalive", "timewait", "persist", "delack", "unknown")
+    for kind, name in enumerate(names, 1):
+        reply = OBJECTS[4][0]
+        reply = f"{reply[:36]}{kind:02x}{reply[38:136]}24000000{reply[144:]}"
+        lines = [INET4_LINE.splitlines()[0], f" timer:({name},36ms,0)\n"]
+        sslist.run(pcap(HEADERS[0], (SOCK_DIAG, reply)), ["-oO"], lines)
+
+
 def shows_names_in_utf8(sslist):
     """A name that is valid UTF-8 shows letters only with --utf8. It never shows a space or a
     character that changes the direction of writing. A Chinese letter takes two columns."""
@@ -727,8 +738,8 @@ def main():
     sslist, failed = Lister(sys.argv[1]), 0
     for check in (
         lists_captures_of_both_orders, lists_other_families, lists_attributes_of_newer_kernels,
-        lists_short_tcp_info, lists_bit_fields_of_tcp_info, shows_names_in_utf8, lists_objects,
-        selects_by_address,
+        lists_short_tcp_info, lists_bit_fields_of_tcp_info, names_timers, shows_names_in_utf8,
+        lists_objects, selects_by_address,
         selects_states_without_a_name, lists_requests, lists_by_the_last_protocol_of_a_request,
         separates_lists, lists_a_long_datagram,
         reports_where_a_capture_is_truncated, reports_why, reports_another_capture,

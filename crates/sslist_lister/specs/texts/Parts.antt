@@ -29,12 +29,13 @@ directions state =
     32 ∷ (if bit_and state RCV_SHUTDOWN == 0 then 60 else 45) ∷ 45
     ∷ (if bit_and state SEND_SHUTDOWN == 0 then 62 else 45) ∷ []
 
--- the name of a kind of timer (`idiag_timer`, sock_diag(7)), as ss(8) prints it
+-- the name of a kind of timer (`idiag_timer`, sock_diag(7)), as ss(8) prints it; 5 is the timer of
+-- a delayed acknowledgement (IDIAG_TIMER_DELACK) of Linux 7.2 and later
 abbrev pub timer_name : ℕ → List ℕ
 timer_name class =
     if class == 1 then codes "on" else if class == 2 then codes "keepalive"
     else if class == 3 then codes "timewait" else if class == 4 then codes "persist"
-    else codes "unknown"
+    else if class == 5 then codes "delack" else codes "unknown"
 
 -- The timer: its kind, the time until it expires, in milliseconds, and the number of retransmits.
 -- Nothing if no timer runs. Example: ` timer:(on,200ms,3)`. 44 is the first comma, 41 the closing

@@ -77,7 +77,8 @@ fn push_timer(text: &mut Vec<u8>, timer: &TimerFields) -> Result<(), AllocError>
     Ok(text.push(b')')?)
 }
 
-/// Returns the name of a kind of timer (`idiag_timer`, sock_diag(7)), as ss(8) prints it.
+/// Returns the name of a kind of timer (`idiag_timer`, sock_diag(7)), as ss(8) prints it. 5 is the
+/// timer of a delayed acknowledgement (`IDIAG_TIMER_DELACK`) of Linux 7.2 and later.
 fn name_of_timer(class: u8) -> &'static [u8]
     ensures { result.now ≡ timer_name class }
 {
@@ -86,6 +87,7 @@ fn name_of_timer(class: u8) -> &'static [u8]
         2 => b"keepalive",
         3 => b"timewait",
         4 => b"persist",
+        5 => b"delack",
         _ => b"unknown",
     }
 }
