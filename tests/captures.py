@@ -434,11 +434,18 @@ def enhanced(order, *digits):
     return pcapng.enhanced(order, 0, 7_000_009, len(packet), packet)
 
 
-def with_attributes(reply, *attributes):
-    """Returns a reply with these further attributes, each a type and the digits of its value."""
-    for kind, value in attributes:
+def attributes(*pairs):
+    """Returns the digits of these attributes, each a type and the digits of its value."""
+    digits = ""
+    for kind, value in pairs:
         length = 4 + len(value) // 2
-        reply += struct.pack("<2H", length, kind).hex() + value + "00" * (-length % 4)
+        digits += struct.pack("<2H", length, kind).hex() + value + "00" * (-length % 4)
+    return digits
+
+
+def with_attributes(reply, *pairs):
+    """Returns a reply with these further attributes."""
+    reply += attributes(*pairs)
     return struct.pack("<I", len(reply) // 2).hex() + reply[8:]
 
 
@@ -520,6 +527,34 @@ def lists_bit_fields_of_tcp_info(sslist):
         info = sslist.objects(capture)[0]["info"]
         last = {"ecn_mode": mode, "accecn_opt_seen": seen, "accecn_fail_mode": failed}
         assert list(info.items())[-3:] == list(last.items()), info
+
+
+def lists_the_payload_limit_of_tls(sslist):
+    """Linux 7.2 sends the limit of the payload of TLS records: attribute 7 in those of TLS. One that
+    does not have two bytes is left out."""
+    for value, details, members in (
+        ("0040", " tx_max_payload_len:16384", {"tx_max_payload_len": 16384}),
+        ("00400000", "", {}),
+    ):
+        tls = attributes((1, "0403"), (7, value), (6, ""))
+        ulp = attributes((1, "746c7300"), (2, tls))
+        capture = pcap(HEADERS[0], (SOCK_DIAG, with_attributes(OBJECTS[4][0], (19, ulp))))
+        sslist.run(capture, ["-iO"], [INET4_LINE.splitlines()[0], " tcp-ulp-tls version:1.3",
+                                      details, " no_pad_rx\n"])
+        members = {"version": 772, **members, "zc_ro_tx": False, "rx_no_pad": True}
+        shown = sslist.objects(capture)[0]["ulp_info"]["tls"]
+        assert list(shown.items()) == list(members.items()), shown
+
+
+def lists_the_last_endpoints_of_mptcp_info(sslist):
+    """Linux 7.2 has the number of fullmesh endpoints at 82, between two others."""
+    reply = with_attributes(OBJECTS[4][0], (2, "00" * 81 + "050700" + "00" * 12))
+    capture = pcap(HEADERS[0], (SOCK_DIAG, MPTCP_REQUEST), (SOCK_DIAG, reply))
+    columns = INET4_LINE.splitlines()[0].replace("inet ", "mptcp")
+    sslist.run(capture, ["-iO"], [columns, " endp_laminar_max:5 endp_fullmesh_max:7\n"])
+    info = sslist.objects(capture)[0]["info"]
+    last = {"endp_laminar_max": 5, "endp_fullmesh_max": 7, "last_data_sent": 0}
+    assert list(info.items())[-5:-2] == list(last.items()), info
 
 
 def names_timers(sslist):
@@ -738,8 +773,9 @@ def main():
     sslist, failed = Lister(sys.argv[1]), 0
     for check in (
         lists_captures_of_both_orders, lists_other_families, lists_attributes_of_newer_kernels,
-        lists_short_tcp_info, lists_bit_fields_of_tcp_info, names_timers, shows_names_in_utf8,
-        lists_objects, selects_by_address,
+        lists_short_tcp_info, lists_bit_fields_of_tcp_info, lists_the_payload_limit_of_tls,
+        lists_the_last_endpoints_of_mptcp_info, names_timers, shows_names_in_utf8, lists_objects,
+        selects_by_address,
         selects_states_without_a_name, lists_requests, lists_by_the_last_protocol_of_a_request,
         separates_lists, lists_a_long_datagram,
         reports_where_a_capture_is_truncated, reports_why, reports_another_capture,

@@ -128,8 +128,8 @@ tcp_metric_rows =
     nonzero field.RcvSpace (codes " rcv_space:") (codes "rcv_space") ∷
     nonzero field.TotalRetrans (codes " retrans:") (codes "total_retrans") ∷ []
 
--- `bits_row offset part text member`: the row of some bits (`part`) of the byte at the offset, which
--- the table shows after `text` if they are not 0 (Nonzero), and JSON has under `member`
+-- `bits_row offset part text member`: the row of some bits (`part`) of the byte at the offset. The
+-- table shows them after `text` if they are not 0 (Nonzero), and JSON has them under `member`.
 abbrev pub bits_row : ℕ → FieldPart → List ℕ → List ℕ → FieldRow
 bits_row offset part text member = (offset, part, Nonzero, text, Some member)
 
@@ -191,7 +191,8 @@ mptcp_hex f text member = row_of (mptcp_span_of f) NonzeroHex text (Some member)
 abbrev pub mptcp_flag : ℕ → List ℕ → FieldRow
 mptcp_flag bit text = row_of (mptcp_span_of mptcp.Flags) (Bits bit) text None
 
--- the rows of `struct mptcp_info`, in the order of the members
+-- The rows of `struct mptcp_info`, in the order of the members. `endp_fullmesh_max`, of Linux 7.2
+-- and later, is the byte at 82.
 unfoldable pub mptcp_rows : List FieldRow
 mptcp_rows =
     mptcp_nonzero mptcp.Subflows (codes " subflows:") (codes "subflows") ∷
@@ -219,6 +220,7 @@ mptcp_rows =
     mptcp_nonzero mptcp.BytesAcked (codes " bytes_acked:") (codes "bytes_acked") ∷
     mptcp_nonzero mptcp.SubflowsTotal (codes " subflows_total:") (codes "subflows_total") ∷
     mptcp_nonzero mptcp.EndpLaminarMax (codes " endp_laminar_max:") (codes "endp_laminar_max") ∷
+    row_of (82, 1) Nonzero (codes " endp_fullmesh_max:") (Some (codes "endp_fullmesh_max")) ∷
     mptcp_nonzero mptcp.LastDataSent (codes " last_data_sent:") (codes "last_data_sent") ∷
     mptcp_nonzero mptcp.LastDataRecv (codes " last_data_recv:") (codes "last_data_recv") ∷
     mptcp_nonzero mptcp.LastAckRecv (codes " last_ack_recv:") (codes "last_ack_recv") ∷ []

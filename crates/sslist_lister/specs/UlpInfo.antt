@@ -23,10 +23,11 @@ use Rattle.sslist_lister.specs.Facts.{no_facts, number_row_facts, numbers, parse
 use Rattle.sslist_lister.specs.Facts.{text_facts}
 use Rattle.sslist_lister.specs.Pieces.{first_of_kind, pieces_in}
 use Rattle.sslist_lister.specs.declared.facts.Shown.{Shown}
-use Rattle.sslist_lister.specs.declared.facts.Shown.TheVariants.{Bits, Cipher, Closed, Hex}
+use Rattle.sslist_lister.specs.declared.facts.Shown.TheVariants.{Always, Bits, Cipher, Closed, Hex}
 use Rattle.sslist_lister.specs.declared.facts.Shown.TheVariants.{Letters, Mode, Never, Version}
 use Rattle.sslist_lister.specs.declared.ulp_info.UlpField.{UlpField}
-use Rattle.sslist_lister.specs.declared.ulp_info.UlpField.TheVariants.{Subflow, Tls}
+use Rattle.sslist_lister.specs.declared.ulp_info.UlpField.TheVariants.{Subflow, Tls, TlsPayload}
+use Rattle.sslist_lister.specs.declared.ulp_info.TheConstants.{TLS_INFO_TX_MAX_PAYLOAD_LEN}
 
 -- ---- nested attributes
 
@@ -47,6 +48,7 @@ nested_number (kind, width) bytes = option_and_then
 -- not have it
 abbrev pub ulp_number : List ℕ → UlpField → Option ℕ
 ulp_number bytes (Tls field) = nested_number (tls_row field) bytes
+ulp_number bytes TlsPayload = nested_number (TLS_INFO_TX_MAX_PAYLOAD_LEN, 2) bytes
 ulp_number bytes (Subflow field) = nested_number (subflow_row field) bytes
 
 -- the name of the protocol in the value, without its terminating NUL if it has one; an error if
@@ -80,7 +82,8 @@ tls_rows =
     (Cipher, codes " cipher:", Some (codes "cipher"), Tls tls.Cipher) ∷
     (Mode, codes " rxconf:", None, Tls tls.Receiving) ∷
     (Mode, codes " txconf:", Some (codes "txconf"), Tls tls.Sending) ∷
-    (Never, [], Some (codes "rxconf"), Tls tls.Receiving) ∷ []
+    (Never, [], Some (codes "rxconf"), Tls tls.Receiving) ∷
+    (Always, codes " tx_max_payload_len:", Some (codes "tx_max_payload_len"), TlsPayload) ∷ []
 
 -- `presence_facts kind text member bytes`: whether the nested attributes `bytes` have one of this
 -- type. The table shows `text` if they do (`Bits 1` of the number 0 or 1). JSON has `member`.

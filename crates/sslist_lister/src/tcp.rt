@@ -197,7 +197,7 @@ static TCP_RATE_ROWS: [FieldRow; 37] = [
 ];
 
 /// The facts of `struct mptcp_info`, in the order of its members.
-static MPTCP_ROWS: [FieldRow; 26] = [
+static MPTCP_ROWS: [FieldRow; 27] = [
     nonzero!(0, Byte, b" subflows:", "subflows"),
     nonzero!(1, Byte, b" add_addr_signal:", "add_addr_signal"),
     nonzero!(2, Byte, b" add_addr_accepted:", "add_addr_accepted"),
@@ -221,6 +221,7 @@ static MPTCP_ROWS: [FieldRow; 26] = [
     nonzero!(72, Eight, b" bytes_acked:", "bytes_acked"),
     nonzero!(80, Byte, b" subflows_total:", "subflows_total"),
     nonzero!(81, Byte, b" endp_laminar_max:", "endp_laminar_max"),
+    nonzero!(82, Byte, b" endp_fullmesh_max:", "endp_fullmesh_max"),
     nonzero!(84, Four, b" last_data_sent:", "last_data_sent"),
     nonzero!(88, Four, b" last_data_recv:", "last_data_recv"),
     nonzero!(92, Four, b" last_ack_recv:", "last_ack_recv"),

@@ -27,11 +27,17 @@ use sock_diag_extras::constants::{
 use sock_diag_extras::{SubflowField, TlsField};
 use std::alloc::AllocError;
 
+/// Type of the nested attribute with the limit of the payload of sent records, in linux/tls.h of
+/// Linux 7.2 and later.
+const TLS_INFO_TX_MAX_PAYLOAD_LEN: u16 = 7;
+
 /// A number in the nested attributes.
 #[derive(Clone, Copy)]
 pub(crate) enum UlpField {
     /// A field about TLS.
     Tls(TlsField),
+    /// The limit of the payload of sent TLS records, in bytes (`TLS_INFO_TX_MAX_PAYLOAD_LEN`).
+    TlsPayload,
     /// A field of a subflow of an MPTCP connection.
     Subflow(SubflowField),
 }
@@ -65,12 +71,18 @@ macro_rules! subflow {
 
 /// The numbers about TLS. `rxconf` has two rows, since the table shows it before `txconf`, and JSON
 /// after it.
-static TLS_ROWS: [UlpRow; 5] = [
+static TLS_ROWS: [UlpRow; 6] = [
     tls!(Version, b" version:", Some("version"), Version),
     tls!(Cipher, b" cipher:", Some("cipher"), Cipher),
     tls!(Mode, b" rxconf:", None, Receiving),
     tls!(Mode, b" txconf:", Some("txconf"), Sending),
     tls!(Never, b"", Some("rxconf"), Receiving),
+    (
+        Shown::Always,
+        b" tx_max_payload_len:",
+        Some("tx_max_payload_len"),
+        UlpField::TlsPayload,
+    ),
 ];
 
 /// The numbers of a subflow. The table shows the flags, the tokens and the ids before these, by
@@ -343,6 +355,7 @@ fn number_of(bytes: &[u8], field: UlpField) -> Option<u64>
             let (kind, width) = field.row();
             find_number(bytes, kind, width)
         }
+        UlpField::TlsPayload => find_number(bytes, TLS_INFO_TX_MAX_PAYLOAD_LEN, 2),
         UlpField::Subflow(field) => {
             let (kind, width) = field.row();
             find_number(bytes, kind, width)
