@@ -8,19 +8,10 @@ ghost use Rattle.sslist_lister.specs.Table.{family_name, inet_kind, unix_kind};
 
 use crate::command_line::{Family, IPPROTO_MPTCP, IPPROTO_TCP, IPPROTO_UDP};
 use netlink_core::DecodeError;
-use sock_diag_records::constants::{AF_INET6, SOCK_DGRAM, SOCK_RAW, SOCK_SEQPACKET, SOCK_STREAM};
-
-/// The number of DCCP in a request, `IPPROTO_DCCP` of linux/in.h.
-const IPPROTO_DCCP: u32 = 33;
-
-/// The number of SCTP in a request, `IPPROTO_SCTP` of linux/in.h.
-const IPPROTO_SCTP: u32 = 132;
-
-/// The number of UDP-Lite in a request, `IPPROTO_UDPLITE` of linux/in.h.
-const IPPROTO_UDPLITE: u32 = 136;
-
-/// The number of raw sockets in a request, `IPPROTO_RAW` of linux/in.h.
-const IPPROTO_RAW: u32 = 255;
+use sock_diag_records::constants::{
+    AF_INET6, IPPROTO_DCCP, IPPROTO_RAW, IPPROTO_SCTP, IPPROTO_UDPLITE, SOCK_DGRAM, SOCK_RAW,
+    SOCK_SEQPACKET, SOCK_STREAM,
+};
 
 /// Returns the column Netid of a UNIX socket, by its type `SOCK_..`, as ss(8) prints it.
 pub(crate) fn name_of_unix_kind(kind: u8) -> &'static str
@@ -43,10 +34,10 @@ pub(crate) fn name_of_inet_kind(protocol: Option<u32>, family: u8) -> &'static s
     match protocol {
         Some(IPPROTO_TCP) => "tcp",
         Some(IPPROTO_UDP) => "udp",
-        Some(IPPROTO_DCCP) => "dccp",
-        Some(IPPROTO_SCTP) => "sctp",
-        Some(IPPROTO_UDPLITE) => "udplite",
-        Some(IPPROTO_RAW) => "raw",
+        Some(number) if number == IPPROTO_DCCP as u32 => "dccp",
+        Some(number) if number == IPPROTO_SCTP as u32 => "sctp",
+        Some(number) if number == IPPROTO_UDPLITE as u32 => "udplite",
+        Some(number) if number == IPPROTO_RAW as u32 => "raw",
         Some(IPPROTO_MPTCP) => "mptcp",
         _ => name_of_inet_family(family),
     }
