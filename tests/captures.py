@@ -68,6 +68,22 @@ MPTCP_REQUEST = (
 )
 OTHER_REQUEST = "180000001400010307000000000000001000000000000000"
 
+# A request for SCTP sockets, and the header of a reply about an SCTP association, as a kernel sent
+# it. Its attributes are INET_DIAG_INFO, _LOCALS, _CONG and _PEERS, in the kernel's order and with
+# the kernel's lengths. A reply about the socket has the first two of them.
+SCTP_REQUEST = TCP_REQUEST[:34] + "84" + TCP_REQUEST[36:]
+ASSOCIATION = (
+    "5800000014000200070000000000000002030000b77417707f0000010000000000000000000000007f00000100"
+    "000000000000000000000001000000a300000000000000000000000000000000000000000000000a1a0000"
+)
+ASSOCIATION_ATTRIBUTES = [(2, "01" * 368), (12, "02" * 128), (4, "72656e6f00"), (13, "03" * 128)]
+
+# The names of the states 0 to 8 of an association.
+ASSOCIATION_STATES = [
+    "CLOSED", "COOKIE_WAIT", "COOKIE_ECHOED", "ESTAB", "SHUTDOWN_PENDING", "SHUTDOWN_SENT",
+    "SHUTDOWN_RECEIVED", "ACK_SENT", "UNKNOWN",
+]
+
 # The cooked header of a packet of sock_diag(7), and of one of another protocol.
 SOCK_DIAG = "00040338000000000000000000000004"
 OTHER = "00040338000000000000000000000000"
@@ -557,6 +573,65 @@ def lists_the_last_endpoints_of_mptcp_info(sslist):
     assert list(info.items())[-5:-2] == list(last.items()), info
 
 
+def association(state, *pairs):
+    """Returns a reply with this state, SCTP's addresses and the attributes `pairs`."""
+    return with_attributes(f"{ASSOCIATION[:34]}{state:02x}{ASSOCIATION[36:]}", *pairs)
+
+
+def association_columns(netid, state):
+    """Returns the columns of such a reply."""
+    return (f"{netid:5} {state:10} 0      0      6666       0     127.0.0.1%1:46964              "
+            "127.0.0.1:6000")
+
+
+def lists_sctp_associations(sslist):
+    """The kernel lists an SCTP socket, and then each of its associations with INET_DIAG_PEERS and
+    SCTP's own states. Without the request it may also be one. INET_DIAG_INFO is not a tcp_info."""
+    others = [{"kind": kind, "length": len(value) // 2}
+              for kind, value in ASSOCIATION_ATTRIBUTES if kind != 4]
+    for packets, netid in (([(SOCK_DIAG, SCTP_REQUEST)], "sctp"), ([], "inet")):
+        for state, name in enumerate(ASSOCIATION_STATES):
+            reply = association(state, *ASSOCIATION_ATTRIBUTES)
+            capture = pcap(HEADERS[0], *packets, (SOCK_DIAG, reply))
+            details = " cong:reno unknown:(2,368)\n"
+            sslist.run(capture, ["-iO"], [association_columns(netid, name), details])
+            shown = sslist.objects(capture)[0]
+            assert (shown["netid"], shown["state_name"], shown["state"]) == (netid, name, state)
+            assert "info" not in shown and shown["other_attributes"] == others, shown
+
+
+def lists_sctp_sockets(sslist):
+    """A reply without INET_DIAG_PEERS is about a socket, and has a TCP state. So has a reply that
+    has this attribute and answers a request for TCP sockets."""
+    for request, netid, pairs, details in (
+        (SCTP_REQUEST, "sctp", ASSOCIATION_ATTRIBUTES[:2], " unknown:(2,368)"),
+        (TCP_REQUEST, "tcp", ASSOCIATION_ATTRIBUTES[3:], ""),
+    ):
+        for state, name in ((1, "ESTAB"), (3, "SYN-RECV"), (7, "UNCONN"), (10, "LISTEN")):
+            reply = association(state, *pairs)
+            capture = pcap(HEADERS[0], (SOCK_DIAG, request), (SOCK_DIAG, reply))
+            sslist.run(capture, ["-iO"], [association_columns(netid, name), details, "\n"])
+            assert sslist.objects(capture)[0]["state_name"] == name
+
+
+def selects_associations_by_state(sslist):
+    """An association is closed, established, or in a state that TCP does not have. Such a state is
+    in each group except bucket."""
+    single = ("established", "syn-sent", "syn-recv", "fin-wait-1", "fin-wait-2", "time-wait",
+              "closed", "close-wait", "last-ack", "listening", "closing")
+    selecting = {0: {"closed", "all", "big"},
+                 3: {"established", "all", "connected", "synchronized", "big"}}
+    for state, name in enumerate(ASSOCIATION_STATES):
+        reply = association(state, *ASSOCIATION_ATTRIBUTES)
+        capture = pcap(HEADERS[0], (SOCK_DIAG, SCTP_REQUEST), (SOCK_DIAG, reply))
+        lines = [association_columns("sctp", name), "\n"]
+        groups = selecting.get(state, {"all", "connected", "synchronized", "big"})
+        for option in (*single, "all", "connected", "synchronized", "bucket", "big"):
+            shown = lines if option in groups else []
+            sslist.run(capture, ["-oO", f"--state={option}"], shown)
+        sslist.run(capture, ["-oOl"], lines if state == 0 else [])
+
+
 def names_timers(sslist):
     """Each kind of timer has a name, and one above 5 is unknown. Linux 7.2 has the kind 5. The
     timers expire in 36 milliseconds."""
@@ -774,7 +849,8 @@ def main():
     for check in (
         lists_captures_of_both_orders, lists_other_families, lists_attributes_of_newer_kernels,
         lists_short_tcp_info, lists_bit_fields_of_tcp_info, lists_the_payload_limit_of_tls,
-        lists_the_last_endpoints_of_mptcp_info, names_timers, shows_names_in_utf8, lists_objects,
+        lists_the_last_endpoints_of_mptcp_info, lists_sctp_associations, lists_sctp_sockets,
+        selects_associations_by_state, names_timers, shows_names_in_utf8, lists_objects,
         selects_by_address,
         selects_states_without_a_name, lists_requests, lists_by_the_last_protocol_of_a_request,
         separates_lists, lists_a_long_datagram,

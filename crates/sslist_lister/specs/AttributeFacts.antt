@@ -56,7 +56,7 @@ use Rattle.sslist_lister.specs.Md5Keys.{md5_outcome}
 use Rattle.sslist_lister.specs.Tcp.{mptcp_info, tcp_info}
 use Rattle.sslist_lister.specs.UlpInfo.{ulp_outcome}
 use Rattle.sslist_lister.specs.declared.attributes.Info.{Info}
-use Rattle.sslist_lister.specs.declared.attributes.Info.TheVariants.{Mptcp, Tcp, Unknown}
+use Rattle.sslist_lister.specs.declared.attributes.Info.TheVariants.{Mptcp, Sctp, Tcp, Unknown}
 use Rattle.sslist_lister.specs.declared.attributes.Sockets.{Sockets}
 use Rattle.sslist_lister.specs.declared.attributes.Sockets.TheVariants.{Inet, Other, Unix}
 use Rattle.sslist_lister.specs.declared.facts.Shown.TheVariants.{Always, Closed, Directions}
@@ -254,8 +254,8 @@ port_inet_outcome utf8 a = decoded_outcome (λ v. decoded_inet_outcome utf8 a (i
     (decode_attribute inet_attribute_set a)
 
 -- `inet_attribute_outcome utf8 info a`: what an attribute of an IPv4 or IPv6 socket says. `info` is
--- the meaning of INET_DIAG_INFO: for Tcp and Mptcp its value may have any length, and for Unknown
--- the port decodes it.
+-- the meaning of INET_DIAG_INFO: for Tcp and Mptcp its value may have any length, for Sctp its type
+-- is unknown, and for Unknown the port decodes it.
 abbrev pub inet_attribute_outcome : Bool → Info → Attribute → Outcome
 inet_attribute_outcome utf8 Tcp a =
     if attribute_kind a == INET_DIAG_INFO then Ok (Some (tcp_info a.value))
@@ -263,6 +263,8 @@ inet_attribute_outcome utf8 Tcp a =
 inet_attribute_outcome utf8 Mptcp a =
     if attribute_kind a == INET_DIAG_INFO then Ok (Some (mptcp_info a.value))
     else port_inet_outcome utf8 a
+inet_attribute_outcome utf8 Sctp a =
+    if attribute_kind a == INET_DIAG_INFO then Ok None else port_inet_outcome utf8 a
 inet_attribute_outcome utf8 Unknown a = port_inet_outcome utf8 a
 
 -- ---- netlink, packet, vsock and XDP sockets

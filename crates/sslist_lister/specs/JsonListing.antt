@@ -24,9 +24,9 @@ unix_output o list h s =
 -- `inet_output o list socket s`: what is written for the IPv4 or IPv6 socket `socket`
 abbrev pub inet_output : Options → ℕ → InetSocket → Summary → List ℕ
 inet_output o list socket s =
-    if lists_inet o socket.protocol socket.header
+    if lists_inet o socket
     then (if o.json
-    then socket_json list (inet_header_members socket.protocol socket.timer socket.header) s
+    then socket_json list (inet_header_members socket) s
     else inet_lines o socket s) else []
 
 -- `other_output o list socket header s`: what is written for a netlink, packet, vsock or XDP

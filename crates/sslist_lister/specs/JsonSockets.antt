@@ -1,14 +1,16 @@
 -- Members of the headers of sockets in lines of JSON. Names of members are the kernel's names in
 -- lowercase, without the prefix that all names of a struct have. Two members are added: `netid` and
 -- `state_name` are the columns Netid and State of the table.
-use Rattle.std.specs.Prelude.{ℕ, List, [], ◌∷◌, ◌++◌, codes, Option}
+use Rattle.std.specs.Prelude.{List, [], ◌∷◌, ◌++◌, codes}
 use Rattle.sock_diag_records.specs.declared.inet.response.InetResponseHeader.{InetResponseHeader}
 use Rattle.sock_diag_records.specs.declared.unix.response.UnixResponseHeader.{UnixResponseHeader}
 use Rattle.sock_diag_records.specs.declared.constants.TheConstants.{AF_UNIX}
 use Rattle.sslist_lister.specs.texts.Cells.{state_name}
 use Rattle.sslist_lister.specs.texts.JsonData.{JsonMember, address_member, cookie_member}
 use Rattle.sslist_lister.specs.texts.JsonData.{number_members, text_member}
+use Rattle.sslist_lister.specs.Sctp.{inet_state_name}
 use Rattle.sslist_lister.specs.Table.{inet_kind, unix_kind}
+use Rattle.sslist_lister.specs.declared.line.InetSocket.{InetSocket}
 use Rattle.sslist_lister.specs.declared.texts.parts.TimerFields.{TimerFields}
 
 -- The members of the header of a UNIX socket, `struct unix_diag_msg` of linux/unix_diag.h:
@@ -38,16 +40,17 @@ inet_back_members timer h =
     number_members ((codes "expires", timer.expires) ∷ (codes "rqueue", h.recv_queue) ∷
     (codes "wqueue", h.send_queue) ∷ (codes "uid", h.uid) ∷ (codes "inode", h.inode) ∷ [])
 
--- `inet_header_members protocol timer h`: the members of the header `h` of an IPv4 or IPv6 socket,
--- `struct inet_diag_msg` of linux/inet_diag.h. `src`, `dst`, `if` and `cookie` are `idiag_src`,
--- `idiag_dst`, `idiag_if` and `idiag_cookie` of its `id`. `protocol` is the protocol of the
--- request, None if that is not known, and `timer` are the timer fields of the header.
-unfoldable pub inet_header_members : Option ℕ → TimerFields → InetResponseHeader → List JsonMember
-inet_header_members protocol timer h =
-    text_member (codes "netid") (inet_kind protocol h.family)
-    ++ (text_member (codes "state_name") (state_name h.state)
-    ++ (inet_front_members timer h
-    ++ (address_member (codes "src") h.socket_id.source_address
-    ++ (address_member (codes "dst") h.socket_id.destination_address
-    ++ (number_members ((codes "if", h.socket_id.interface_id) ∷ [])
-    ++ (cookie_member h.socket_id.cookie ++ inet_back_members timer h))))))
+-- The members of the header of an IPv4 or IPv6 socket, `struct inet_diag_msg` of
+-- linux/inet_diag.h. `src`, `dst`, `if` and `cookie` are `idiag_src`, `idiag_dst`, `idiag_if` and
+-- `idiag_cookie` of its `id`.
+unfoldable pub inet_header_members : InetSocket → List JsonMember
+inet_header_members socket =
+    text_member (codes "netid") (inet_kind socket.protocol socket.header.family)
+    ++ (text_member (codes "state_name")
+    (inet_state_name socket.is_association socket.header.state)
+    ++ (inet_front_members socket.timer socket.header
+    ++ (address_member (codes "src") socket.header.socket_id.source_address
+    ++ (address_member (codes "dst") socket.header.socket_id.destination_address
+    ++ (number_members ((codes "if", socket.header.socket_id.interface_id) ∷ [])
+    ++ (cookie_member socket.header.socket_id.cookie
+    ++ inet_back_members socket.timer socket.header))))))

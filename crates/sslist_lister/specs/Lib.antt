@@ -4,6 +4,7 @@ pub mod Pieces
 pub mod Messages
 pub mod Requests
 pub mod Lists
+pub mod Sctp
 pub mod Selection
 pub mod Table
 pub mod Md5Keys

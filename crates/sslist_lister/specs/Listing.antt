@@ -33,7 +33,8 @@ use Rattle.sock_diag_families.specs.VsockResponseHeader.{vsock_header}
 use Rattle.sock_diag_families.specs.XdpResponseHeader.{xdp_header}
 use Rattle.sslist_lister.specs.Collected.{Summary, summary_of}
 use Rattle.sslist_lister.specs.Pieces.{AttributeOrError, framing_error_of, pieces_in}
-use Rattle.sslist_lister.specs.Table.{info_of_protocol}
+use Rattle.sslist_lister.specs.Sctp.{is_association}
+use Rattle.sslist_lister.specs.Table.{info_of_reply}
 use Rattle.sslist_lister.specs.declared.attributes.Sockets.{Sockets}
 use Rattle.sslist_lister.specs.declared.attributes.Sockets.TheVariants.{Inet, Other, Unix}
 use Rattle.sslist_lister.specs.Headings.{list_heading}
@@ -114,11 +115,17 @@ family_error (Some Vsock) b = reply_error vsock_header b
 family_error (Some Xdp) b = reply_error xdp_header b
 family_error None b = None
 
+-- `is_association_in protocol b`: the reply with the payload `b` is about an SCTP association.
+-- `protocol` is the protocol of the request.
+abbrev pub is_association_in : Option ℕ → List ℕ → Bool
+is_association_in protocol b = is_association protocol (drop inet_response_header.least b)
+
 -- `inet_socket protocol b header`: the IPv4 or IPv6 socket of the reply with the payload `b`, which
 -- begins with this header. `protocol` is the protocol of the request.
 abbrev pub inet_socket : Option ℕ → List ℕ → InetResponseHeader → InetSocket
 inet_socket protocol b header = record {
   protocol = protocol;
+  is_association = is_association_in protocol b;
   timer = timer_in b;
   header = header;
 }
@@ -133,7 +140,8 @@ abbrev pub payload_lines : Options → ℕ → Option ℕ → Result MessageKind
 payload_lines o list protocol (Ok unix_response) b =
     reply_lines unix_response_header Unix (unix_output o list) b
 payload_lines o list protocol (Ok inet_response) b =
-    reply_lines inet_response_header (Inet (info_of_protocol protocol))
+    reply_lines inet_response_header
+    (Inet (info_of_reply protocol (is_association_in protocol b)))
     (λ header s. inet_output o list (inet_socket protocol b header) s) b
 payload_lines o list protocol (Err (UnknownFamily n)) b =
     family_lines o list (family_numbered n) b

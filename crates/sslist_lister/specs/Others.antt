@@ -3,7 +3,7 @@ use Rattle.std.specs.Prelude.{ℕ, ◌+◌, ◌*◌, ◌==◌, nat_lt, if◌then
 use Rattle.std.specs.Prelude.{drop, codes, Option, None, Some, option_and_then}
 use Rattle.byteorder.specs.Endian.{little_bytes, little_number}
 use Rattle.sslist_lister.specs.texts.Parts.{no_timer, details_after_separator}
-use Rattle.sslist_lister.specs.texts.Cells.{FirstColumns, table_line, number_or_star}
+use Rattle.sslist_lister.specs.texts.Cells.{FirstColumns, number_or_star, state_name, table_line}
 use Rattle.sslist_lister.specs.declared.command_line.options.Family.{Family}
 use Rattle.sslist_lister.specs.declared.command_line.options.Family.TheVariants.{Netlink, Packet}
 use Rattle.sslist_lister.specs.declared.command_line.options.Family.TheVariants.{Vsock, Xdp}
@@ -156,7 +156,7 @@ other_kind Xdp kind = codes "xdp"
 abbrev pub other_first_columns : OtherSocket → Summary → FirstColumns
 other_first_columns socket s = record {
   kind = other_kind socket.family socket.kind;
-  state = socket.state;
+  state = state_name socket.state;
   receive_queue = u32_in_first (memory_kind socket.family) (4 * SK_MEMINFO_RMEM_ALLOC) s;
   send_queue = u32_in_first (memory_kind socket.family) (4 * SK_MEMINFO_WMEM_ALLOC) s;
   inode = socket.inode;

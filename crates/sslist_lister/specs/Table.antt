@@ -8,14 +8,13 @@ use Rattle.netlink_core.specs.AttributeSet.{AttributeValue, ValueOfKind, decode_
 use Rattle.netlink_core.specs.AttributeSet.{value_of_kind}
 use Rattle.netlink_core.specs.declared.error.DecodeError.{DecodeError}
 use Rattle.sslist_lister.specs.texts.Cells.{FirstColumns, endpoint, first_columns, number_or_star}
-use Rattle.sslist_lister.specs.texts.Cells.{table_line}
+use Rattle.sslist_lister.specs.texts.Cells.{state_name, table_line}
 use Rattle.sslist_lister.specs.texts.Widths.{name_column}
 use Rattle.sslist_lister.specs.texts.Parts.{no_timer, details_after_separator}
 use Rattle.sslist_lister.specs.texts.Escapes.{byte_digits, unescaped_bytes, shown_name}
 use Rattle.sslist_lister.specs.declared.command_line.options.Options.{Options}
 use Rattle.sslist_lister.specs.declared.command_line.options.TheConstants.{IPPROTO_MPTCP}
 use Rattle.sslist_lister.specs.declared.command_line.options.TheConstants.{IPPROTO_TCP, IPPROTO_UDP}
-use Rattle.sock_diag_records.specs.declared.inet.response.InetResponseHeader.{InetResponseHeader}
 use Rattle.sock_diag_records.specs.declared.unix.response.UnixResponseHeader.{UnixResponseHeader}
 use Rattle.sock_diag_records.specs.declared.constants.TheConstants.{AF_INET6, IPPROTO_DCCP}
 use Rattle.sock_diag_records.specs.declared.constants.TheConstants.{IPPROTO_RAW, IPPROTO_SCTP}
@@ -27,10 +26,11 @@ use Rattle.sock_diag_attributes.specs.declared.unix.name.SocketName.{SocketName}
 use Rattle.sock_diag_attributes.specs.declared.unix.name.SocketName.TheVariants.{Abstract, Pathname}
 use Rattle.sock_diag_attributes.specs.UnixAttributes.{unix_attribute_set}
 use Rattle.sslist_lister.specs.Details.{details}
+use Rattle.sslist_lister.specs.Sctp.{inet_state_name}
 use Rattle.sslist_lister.specs.declared.line.InetSocket.{InetSocket}
 use Rattle.sslist_lister.specs.declared.line.TheConstants.{NO_INTERFACE}
 use Rattle.sslist_lister.specs.declared.attributes.Info.{Info}
-use Rattle.sslist_lister.specs.declared.attributes.Info.TheVariants.{Mptcp, Tcp, Unknown}
+use Rattle.sslist_lister.specs.declared.attributes.Info.TheVariants.{Mptcp, Sctp, Tcp, Unknown}
 use Rattle.sslist_lister.specs.Collected.{Summary, first_in}
 use Rattle.sock_diag_extras.specs.declared.constants.TheConstants.{UNIX_DIAG_UID}
 
@@ -119,7 +119,7 @@ unix_value k s =
 abbrev pub unix_first_columns : UnixResponseHeader → Option (ℕ × ℕ) → Option ℕ → FirstColumns
 unix_first_columns h queues uid = record {
   kind = unix_kind h.kind;
-  state = h.state;
+  state = state_name h.state;
   receive_queue = option_map (λ lengths. lengths.0) queues;
   send_queue = option_map (λ lengths. lengths.1) queues;
   inode = h.inode;
@@ -137,24 +137,23 @@ unix_columns o h s =
     ++ name_column o.utf8 30 (name_cell o.utf8 (unix_value UNIX_DIAG_NAME s))
     ++ number_or_star (unix_value UNIX_DIAG_PEER s)
 
--- `inet_first_columns protocol h`: the first columns of an IPv4 or IPv6 socket, whose header is
--- `h`. `protocol` is the protocol of the request.
-abbrev pub inet_first_columns : Option ℕ → InetResponseHeader → FirstColumns
-inet_first_columns protocol h = record {
-  kind = inet_kind protocol h.family;
-  state = h.state;
-  receive_queue = Some h.recv_queue;
-  send_queue = Some h.send_queue;
-  inode = h.inode;
-  uid = Some h.uid;
+-- the first columns of an IPv4 or IPv6 socket
+abbrev pub inet_first_columns : InetSocket → FirstColumns
+inet_first_columns socket = record {
+  kind = inet_kind socket.protocol socket.header.family;
+  state = inet_state_name socket.is_association socket.header.state;
+  receive_queue = Some socket.header.recv_queue;
+  send_queue = Some socket.header.send_queue;
+  inode = socket.header.inode;
+  uid = Some socket.header.uid;
 }
 
--- `inet_columns protocol h`: the columns of an IPv4 or IPv6 socket. The interface is shown after
--- the local address only, so the endpoint of the peer has NO_INTERFACE.
-abbrev pub inet_columns : Option ℕ → InetResponseHeader → List ℕ
-inet_columns protocol h =
-    let id = h.socket_id in
-    table_line (inet_first_columns protocol h)
+-- The columns of an IPv4 or IPv6 socket. The interface is shown after the local address only, so
+-- the endpoint of the peer has NO_INTERFACE.
+abbrev pub inet_columns : InetSocket → List ℕ
+inet_columns socket =
+    let id = socket.header.socket_id in
+    table_line (inet_first_columns socket)
     (endpoint id.source_address id.interface_id id.source_port)
     (endpoint id.destination_address NO_INTERFACE id.destination_port)
 
@@ -163,18 +162,24 @@ abbrev pub unix_lines : Options → UnixResponseHeader → Summary → List ℕ
 unix_lines o h s =
     unix_columns o h s ++ details_after_separator o (details o no_timer h.cookie s) ++ 10 ∷ []
 
--- the meaning of INET_DIAG_INFO, by the protocol of the request; Unknown for any other protocol, or
--- if it is not known (None)
+-- the meaning of INET_DIAG_INFO of a socket, by the protocol of the request; Unknown for any other
+-- protocol, or if it is not known (None)
 abbrev pub info_of_protocol : Option ℕ → Info
 info_of_protocol None = Unknown
 info_of_protocol (Some protocol) =
-    if protocol == IPPROTO_TCP then Tcp
-    else if protocol == IPPROTO_MPTCP then Mptcp else Unknown
+    if protocol == IPPROTO_TCP then Tcp else if protocol == IPPROTO_MPTCP then Mptcp
+    else if protocol == IPPROTO_SCTP then Sctp else Unknown
+
+-- `info_of_reply protocol is_association`: the meaning of INET_DIAG_INFO of a socket, or of an SCTP
+-- association, whose request may be unknown
+abbrev pub info_of_reply : Option ℕ → Bool → Info
+info_of_reply protocol is_association =
+    if is_association then Sctp else info_of_protocol protocol
 
 -- `inet_lines o socket s`: the lines of an IPv4 or IPv6 socket: the columns, the details and a line
 -- feed (10)
 abbrev pub inet_lines : Options → InetSocket → Summary → List ℕ
 inet_lines o socket s =
-    inet_columns socket.protocol socket.header
+    inet_columns socket
     ++ details_after_separator o (details o socket.timer socket.header.socket_id.cookie s)
     ++ 10 ∷ []

@@ -77,13 +77,15 @@ pub(crate) enum Sockets {
     Other(Family),
 }
 
-/// The meaning of `INET_DIAG_INFO`, by the protocol of the request.
+/// The meaning of `INET_DIAG_INFO`, by the protocol.
 #[derive(Clone, Copy)]
 pub(crate) enum Info {
     /// TCP: `struct tcp_info`, of any length.
     Tcp,
     /// MPTCP: `struct mptcp_info`, of any length.
     Mptcp,
+    /// SCTP: `struct sctp_info`, which is not decoded.
+    Sctp,
     /// Another protocol, or one that is not known: `struct tcp_info` as the port decodes it.
     Unknown,
 }
@@ -296,6 +298,7 @@ fn show_inet<S: FactSink>(
     match info {
         Info::Tcp if is_info => shown_status(show_tcp_info(sink, nla.value())),
         Info::Mptcp if is_info => shown_status(show_mptcp_info(sink, nla.value())),
+        Info::Sctp if is_info => Ok(Ok(false)),
         _ => show_port_inet(sink, alloc, utf8, nla),
     }
 }

@@ -11,6 +11,7 @@ ghost use Rattle.sslist_lister.specs.texts.JsonWriting.{KeepsPrefix, members_tok
 use crate::json_attributes::JsonHeader;
 use crate::kinds::{name_of_inet_kind, name_of_unix_kind};
 use crate::line::InetSocket;
+use crate::sctp::name_of_inet_state;
 use crate::texts::cells::name_of_state;
 use crate::texts::json_writing::{write_address, write_cookie, write_numbers, write_text};
 use crate::texts::parts::TimerFields;
@@ -29,10 +30,10 @@ impl JsonHeader for UnixResponseHeader {
 }
 
 impl JsonHeader for InetSocket {
-    ghost json_members = { λ inet. inet_header_members inet.protocol inet.timer inet.header };
+    ghost json_members = { inet_header_members };
 
     fn write_json(&self, alloc: Global, writer: &mut Writer) -> Result<(), AllocError> {
-        write_inet_header(alloc, writer, self.protocol, &self.timer, &self.header)
+        write_inet_header(alloc, writer, self)
     }
 }
 
@@ -58,28 +59,27 @@ fn write_unix_header(
     write_cookie(alloc, writer, &header.cookie)
 }
 
-/// Writes the members of the header of an IPv4 or IPv6 socket. `protocol` is that of the request,
-/// if it is known.
+/// Writes the members of the header of an IPv4 or IPv6 socket.
 fn write_inet_header(
     alloc: Global,
     writer: &mut Writer,
-    protocol: Option<u32>,
-    timer: &TimerFields,
-    header: &InetResponseHeader,
+    socket: &InetSocket,
 ) -> Result<(), AllocError>
     ensures prefix { KeepsPrefix result writer.old writer.new }
     ensures members { OnOk result (writer.new.tokens ≡ writer.old.tokens
-        ++ members_tokens (inet_header_members protocol timer.now header.now)) }
+        ++ members_tokens (inet_header_members socket.now)) }
 {
+    let header = &socket.header;
     let id = &header.socket_id;
-    write_text(writer, "netid", name_of_inet_kind(protocol, header.family))?;
-    write_text(writer, "state_name", name_of_state(header.state))?;
-    write_inet_front(writer, timer, header)?;
+    let state = name_of_inet_state(socket.is_association, header.state);
+    write_text(writer, "netid", name_of_inet_kind(socket.protocol, header.family))?;
+    write_text(writer, "state_name", state)?;
+    write_inet_front(writer, &socket.timer, header)?;
     write_address(alloc, writer, "src", id.source_address)?;
     write_address(alloc, writer, "dst", id.destination_address)?;
     write_numbers(writer, &[("if", id.interface_id as u64)])?;
     write_cookie(alloc, writer, &id.cookie)?;
-    write_inet_back(writer, timer, header)
+    write_inet_back(writer, &socket.timer, header)
 }
 
 /// Writes the members of the header of an IPv4 or IPv6 socket that precede the addresses.

@@ -34,6 +34,7 @@ mod others;
 mod pieces;
 mod request_line;
 mod requests;
+mod sctp;
 mod stream;
 mod tcp;
 mod texts;

@@ -18,12 +18,12 @@ ghost use Rattle.sslist_lister.specs.Collected.{collected, first_in, summary_of}
 ghost use Rattle.sslist_lister.specs.JsonAttributes.{socket_json};
 ghost use Rattle.sslist_lister.specs.JsonListing.{inet_output, unix_output};
 ghost use Rattle.sslist_lister.specs.JsonSockets.{inet_header_members, unix_header_members};
-ghost use Rattle.sslist_lister.specs.Listing.{reply_error, inet_socket};
+ghost use Rattle.sslist_lister.specs.Listing.{inet_socket, is_association_in, reply_error};
 ghost use Rattle.sslist_lister.specs.Listing.{reply_lines, payload_error, payload_lines};
 ghost use Rattle.sslist_lister.specs.Pieces.{framing_error_of, pieces_in};
 ghost use Rattle.sslist_lister.specs.Selection.{lists_inet};
 ghost use Rattle.sslist_lister.specs.Table.{inet_columns, inet_first_columns, inet_lines};
-ghost use Rattle.sslist_lister.specs.Table.{info_of_protocol, unix_columns, unix_first_columns};
+ghost use Rattle.sslist_lister.specs.Table.{info_of_reply, unix_columns, unix_first_columns};
 ghost use Rattle.sslist_lister.specs.Table.{unix_lines, unix_value, user_id};
 ghost use Rattle.sslist_lister.specs.declared.attributes.Sockets.TheVariants.{Inet, Unix};
 
@@ -36,8 +36,10 @@ use crate::kinds::{name_of_inet_kind, name_of_unix_kind};
 use crate::name_cells::push_name_column;
 use crate::others::push_other;
 use crate::pieces::find_framing_error;
+use crate::sctp::{is_association, name_of_inet_state, tcp_state_of};
 use crate::texts::cells::{
-    Cells, push_endpoint, push_endpoint_column, push_first_columns, push_number_or_star,
+    Cells, name_of_state, push_endpoint, push_endpoint_column, push_first_columns,
+    push_number_or_star,
 };
 use crate::texts::parts::{NO_TIMER, TimerFields};
 use netlink_core::DecodeError;
@@ -45,7 +47,7 @@ use sock_diag_attributes::unix::nlas::{NameView, NlaView};
 use sock_diag_extras::constants::UNIX_DIAG_UID;
 use sock_diag_extras::parse_uid;
 use sock_diag_records::constants::{
-    AF_INET, AF_INET6, AF_UNIX, SOCK_DIAG_BY_FAMILY, UNIX_DIAG_NAME, UNIX_DIAG_PEER,
+    AF_INET, AF_INET6, AF_UNIX, IPPROTO_SCTP, SOCK_DIAG_BY_FAMILY, UNIX_DIAG_NAME, UNIX_DIAG_PEER,
     UNIX_DIAG_RQLEN,
 };
 use sock_diag_records::inet::{INET_RESPONSE_HEADER_LEN, InetResponseHeader};
@@ -189,7 +191,7 @@ fn push_unix_columns(
 /// its send queue; for a listening socket these are numbers of connections. `uid` is the user id of
 /// its owner. Each is `None` if the reply does not have it.
 fn unix_cells(header: &UnixResponseHeader, queues: Option<(u32, u32)>, uid: Option<u32>) -> Cells
-    // `cells_model`: the cells, with the text of `kind` as a list of bytes.
+    // `cells_model`: the cells, with the texts of `kind` and `state` as lists of bytes.
     ensures { cells_model result ≡ unix_first_columns header.now queues uid }
 {
     let (receive_queue, send_queue) = match queues {
@@ -198,7 +200,7 @@ fn unix_cells(header: &UnixResponseHeader, queues: Option<(u32, u32)>, uid: Opti
     };
     Cells {
         kind: name_of_unix_kind(header.kind).as_bytes(),
-        state: header.state,
+        state: name_of_state(header.state).as_bytes(),
         receive_queue,
         send_queue,
         inode: header.inode,
@@ -261,6 +263,8 @@ fn user_in(found: &Attributes<'_>) -> Option<u32>
 pub(crate) struct InetSocket {
     /// The protocol of the request, if it is known.
     pub(crate) protocol: Option<u32>,
+    /// Whether the reply is about an SCTP association instead of a socket.
+    pub(crate) is_association: bool,
     /// The timer fields of the header.
     pub(crate) timer: TimerFields,
     /// The header of the reply.
@@ -278,9 +282,10 @@ fn push_inet(
 ) -> Result<Option<DecodeError>, AllocError>
     // `reply_lines layout sockets lines payload`: the lines of a reply with this layout of its
     // header: `lines` of the header and its attributes; none if the header is invalid.
-    // `info_of_protocol`: the meaning of `INET_DIAG_INFO`.
+    // `info_of_reply ..`: the meaning of `INET_DIAG_INFO`.
     ensures lines { OnOk result (text.new.items ≡ text.old.items
-        ++ reply_lines inet_response_header (Inet (info_of_protocol protocol))
+        ++ reply_lines inet_response_header
+        (Inet (info_of_reply protocol (is_association_in protocol payload.now)))
         (λ header summary.
         inet_output options list (inet_socket protocol payload.now header) summary)
         payload.now) }
@@ -292,6 +297,7 @@ fn push_inet(
             let timer = timer_of(payload);
             let socket = InetSocket {
                 protocol,
+                is_association: is_association(protocol, attributes),
                 timer,
                 header,
             };
@@ -311,18 +317,19 @@ fn push_inet_socket(
     bytes: &[u8],
 ) -> Result<Option<DecodeError>, AllocError>
     // `inet_output ..`: what is written for the socket. `summary_of ..`: the first valid attribute
-    // of each kind, the unknown and the invalid ones, and the framing error. `info_of_protocol`:
+    // of each kind, the unknown and the invalid ones, and the framing error. `info_of_reply ..`:
     // the meaning of `INET_DIAG_INFO`.
     ensures lines { OnOk result (text.new.items ≡ text.old.items
-        ++ inet_output options list socket.now
-        (summary_of (Inet (info_of_protocol socket.now.protocol)) (pieces_in bytes.now))) }
+        ++ inet_output options list socket.now (summary_of
+        (Inet (info_of_reply socket.now.protocol socket.now.is_association))
+        (pieces_in bytes.now))) }
     ensures error { IfOk result
         (λ error. error ≡ framing_error_of (pieces_in bytes.now)) }
 {
-    if !lists_inet(options, socket.protocol, &socket.header) {
+    if !lists_inet(options, socket) {
         return Ok(find_framing_error(bytes));
     }
-    let sockets = Sockets::Inet(info_of(socket.protocol));
+    let sockets = Sockets::Inet(info_of(socket.protocol, socket.is_association));
     let mut found = Attributes::new(*text.allocator(), sockets);
     found.collect(bytes)?;
     push_inet_lines(text, options, list, socket, &found)?;
@@ -340,28 +347,28 @@ fn push_inet_lines(
 ) -> Result<(), AllocError>
     // `socket_json list members ..`: the line of JSON, with these members of the header.
     ensures { OnOk result (text.new.items ≡ text.old.items ++ (if options.json
-        then socket_json list (inet_header_members socket.now.protocol socket.now.timer
-        socket.now.header) (collected found.now)
+        then socket_json list (inet_header_members socket.now) (collected found.now)
         else inet_lines options socket.now (collected found.now))) }
 {
     if options.json {
         return push_json(text, list, socket, found);
     }
-    push_inet_columns(text, socket.protocol, &socket.header)?;
+    push_inet_columns(text, socket)?;
     let cookie = &socket.header.socket_id.cookie;
     push_details(text, options, &socket.timer, cookie, found)?;
     Ok(text.push(b'\n')?)
 }
 
-/// Returns whether the options select the IPv4 or IPv6 socket with this header: they list its
-/// protocol, its IP version and its state, and its ports and addresses meet their conditions.
-fn lists_inet(options: Options, protocol: Option<u32>, header: &InetResponseHeader) -> bool
-    ensures { result ≡ lists_inet options protocol header.now }
+/// Returns whether the options select an IPv4 or IPv6 socket: they list its protocol, its IP
+/// version and its state, and its ports and addresses meet their conditions.
+fn lists_inet(options: Options, socket: &InetSocket) -> bool
+    ensures { result ≡ lists_inet options socket.now }
 {
+    let header = &socket.header;
     let id = &header.socket_id;
-    options.lists_protocol(protocol)
+    options.lists_protocol(socket.protocol)
         && options.lists_version(header.family == AF_INET6)
-        && options.lists_state(header.state)
+        && options.lists_state(tcp_state_of(socket.is_association, header.state))
         && options
             .filter
             .meets_ports(id.source_port, id.destination_port)
@@ -370,28 +377,26 @@ fn lists_inet(options: Options, protocol: Option<u32>, header: &InetResponseHead
             .meets_addresses(id.source_address, id.destination_address)
 }
 
-/// Returns the meaning of `INET_DIAG_INFO` by the protocol: `Unknown` for any other than TCP and
-/// MPTCP, and for `None`.
-fn info_of(protocol: Option<u32>) -> Info
-    ensures { result ≡ info_of_protocol protocol }
+/// Returns the meaning of `INET_DIAG_INFO` of an SCTP association, or else by the protocol:
+/// `Unknown` for any other than TCP, MPTCP and SCTP, and for `None`.
+fn info_of(protocol: Option<u32>, is_association: bool) -> Info
+    ensures { result ≡ info_of_reply protocol is_association }
 {
     match protocol {
+        _ if is_association => Info::Sctp,
         Some(IPPROTO_TCP) => Info::Tcp,
         Some(IPPROTO_MPTCP) => Info::Mptcp,
+        Some(number) if number == IPPROTO_SCTP as u32 => Info::Sctp,
         _ => Info::Unknown,
     }
 }
 
 /// Appends the columns of an IPv4 or IPv6 socket.
-fn push_inet_columns(
-    text: &mut Vec<u8>,
-    protocol: Option<u32>,
-    header: &InetResponseHeader,
-) -> Result<(), AllocError>
-    ensures { OnOk result (text.new.items ≡ text.old.items ++ inet_columns protocol header.now) }
+fn push_inet_columns(text: &mut Vec<u8>, socket: &InetSocket) -> Result<(), AllocError>
+    ensures { OnOk result (text.new.items ≡ text.old.items ++ inet_columns socket.now) }
 {
-    push_first_columns(text, &inet_cells(protocol, header))?;
-    let id = &header.socket_id;
+    push_first_columns(text, &inet_cells(socket))?;
+    let id = &socket.header.socket_id;
     push_endpoint_column(
         text,
         LOCAL_WIDTH,
@@ -408,13 +413,14 @@ fn push_inet_columns(
 }
 
 /// Returns the first columns of an IPv4 or IPv6 socket.
-fn inet_cells(protocol: Option<u32>, header: &InetResponseHeader) -> Cells
-    // `cells_model`: the cells, with the text of `kind` as a list of bytes.
-    ensures { cells_model result ≡ inet_first_columns protocol header.now }
+fn inet_cells(socket: &InetSocket) -> Cells
+    // `cells_model`: the cells, with the texts of `kind` and `state` as lists of bytes.
+    ensures { cells_model result ≡ inet_first_columns socket.now }
 {
+    let header = &socket.header;
     Cells {
-        kind: name_of_inet_kind(protocol, header.family).as_bytes(),
-        state: header.state,
+        kind: name_of_inet_kind(socket.protocol, header.family).as_bytes(),
+        state: name_of_inet_state(socket.is_association, header.state).as_bytes(),
         receive_queue: Some(header.recv_queue),
         send_queue: Some(header.send_queue),
         inode: header.inode,

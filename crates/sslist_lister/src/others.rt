@@ -36,7 +36,9 @@ use crate::details::push_details;
 use crate::json_attributes::{JsonHeader, push_json};
 use crate::kinds::name_of_other_kind;
 use crate::line::LOCAL_WIDTH;
-use crate::texts::cells::{Cells, end_column, push_first_columns, push_number_or_star};
+use crate::texts::cells::{
+    Cells, end_column, name_of_state, push_first_columns, push_number_or_star,
+};
 use crate::texts::parts::NO_TIMER;
 use byteorder::{ByteOrder, LittleEndian};
 use netlink_core::{DecodeError, NlaBuffer, Record, read_record};
@@ -252,13 +254,13 @@ fn push_other_columns(
 /// Returns the first columns of a socket. The queues are in the attribute with its memory, and the
 /// user id is in an attribute too.
 fn other_cells(socket: &OtherSocket, found: &Attributes<'_>) -> Cells
-    // `cells_model`: the cells, with the text of `kind` as a list of bytes.
+    // `cells_model`: the cells, with the texts of `kind` and `state` as lists of bytes.
     ensures { cells_model result ≡ other_first_columns socket.now (collected found.now) }
 {
     let memory = memory_kind(socket.family);
     Cells {
         kind: name_of_other_kind(socket.family, socket.kind).as_bytes(),
-        state: socket.state,
+        state: name_of_state(socket.state).as_bytes(),
         receive_queue: u32_in_first(found, memory, RMEM_ALLOC_OFFSET),
         send_queue: u32_in_first(found, memory, WMEM_ALLOC_OFFSET),
         inode: socket.inode,

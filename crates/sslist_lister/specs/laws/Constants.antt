@@ -7,6 +7,7 @@ use Rattle.sslist_lister.specs.declared.line.TheConstants.{LOCAL_WIDTH, NO_INTER
 use Rattle.sslist_lister.specs.declared.list.TheConstants.{EINVAL, ENOENT}
 use Rattle.sslist_lister.specs.declared.md5_keys.TheConstants.{KEY_LENGTH}
 use Rattle.sslist_lister.specs.declared.others.TheConstants.{ANY, NETLINK_CONNECTED}
+use Rattle.sslist_lister.specs.declared.sctp.TheConstants.{NO_TCP_STATE}
 use Rattle.sslist_lister.specs.declared.texts.cells.TheConstants as cells
 use Rattle.sslist_lister.specs.declared.texts.names.TheConstants as names
 use Rattle.sslist_lister.specs.declared.texts.parts.TheConstants as parts
@@ -24,6 +25,10 @@ pub kernel_numbers : (options.IPPROTO_TCP ≡ 6) × (options.IPPROTO_UDP ≡ 17)
     × (NO_INTERFACE ≡ 0) × (parts.RCV_SHUTDOWN ≡ 1) × (parts.SEND_SHUTDOWN ≡ 2)
     × (KEY_LENGTH ≡ 100) × (TLS_INFO_TX_MAX_PAYLOAD_LEN ≡ 7)
 kernel_numbers = (refl, refl, refl, refl, refl, refl, refl, refl, refl, refl)
+
+-- a number above those of the states with a bit of their own in a set of states
+pub no_tcp_state : NO_TCP_STATE ≡ 255
+no_tcp_state = refl
 
 -- a slot for each kind up to the last one of linux/inet_diag.h
 pub number_of_kinds : KINDS ≡ INET_DIAG_SOCKOPT + 1

@@ -49,13 +49,13 @@ abbrev pub endpoint : IpAddr → ℕ → ℕ → List ℕ
 endpoint address interface port =
     bracketed_address address ++ scope_text interface ++ 58 ∷ port_text port
 
--- The content of the first columns of a line: Netid, State, Recv-Q, Send-Q, Inode and Uid. `state`
--- is the kernel's number. None means that the reply does not contain the value.
+-- The content of the first columns of a line: Netid, State, Recv-Q, Send-Q, Inode and Uid. None
+-- means that the reply does not contain the value.
 pub record FirstColumns : Type 0 where
   -- the column Netid
   pub kind : List ℕ
-  -- the column State, as the kernel numbers it
-  pub state : ℕ
+  -- the column State
+  pub state : List ℕ
   -- the column Recv-Q
   pub receive_queue : Option ℕ
   -- the column Send-Q
@@ -69,7 +69,7 @@ pub record FirstColumns : Type 0 where
 abbrev pub first_columns : FirstColumns → List ℕ
 first_columns cells =
     column NETID_WIDTH cells.kind
-    ++ column STATE_WIDTH (state_name cells.state)
+    ++ column STATE_WIDTH cells.state
     ++ column QUEUE_WIDTH (number_cell cells.receive_queue)
     ++ column QUEUE_WIDTH (number_cell cells.send_queue)
     ++ column INODE_WIDTH (decimal cells.inode)

@@ -2,11 +2,11 @@
 use Rattle.sslist_lister.specs.declared.texts.cells.Cells.{Cells}
 use Rattle.sslist_lister.specs.texts.Cells.{FirstColumns}
 
--- the same fields, and the bytes of `kind` for the reference to them
+-- the same fields, and the bytes of `kind` and `state` for the references to them
 abbrev pub cells_model : Cells → FirstColumns
 cells_model cells = record {
   kind = cells.kind.now;
-  state = cells.state;
+  state = cells.state.now;
   receive_queue = cells.receive_queue;
   send_queue = cells.send_queue;
   inode = cells.inode;

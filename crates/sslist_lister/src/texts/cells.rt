@@ -127,8 +127,8 @@ pub(crate) fn push_number_column(
 pub struct Cells {
     /// Kind of the socket, the column Netid.
     pub kind: &'static [u8],
-    /// State of the socket, as the kernel numbers it.
-    pub state: u8,
+    /// Name of the state of the socket, the column State.
+    pub state: &'static [u8],
     /// Content of the column Recv-Q. `None` if the reply does not contain it.
     pub receive_queue: Option<u32>,
     /// Content of the column Send-Q. `None` if the reply does not contain it.
@@ -139,15 +139,15 @@ pub struct Cells {
     pub uid: Option<u32>,
 }
 
-/// Appends the columns before the two addresses, each as by [`push_column`]: Netid; State, its name
-/// as in ss(8); Recv-Q, Send-Q, Inode and Uid, in decimal, or `-` for `None`.
+/// Appends the columns before the two addresses, each as by [`push_column`]: Netid, State, and
+/// Recv-Q, Send-Q, Inode and Uid in decimal, or `-` for `None`.
 pub(crate) fn push_first_columns(text: &mut Vec<u8>, cells: &Cells) -> Result<(), AllocError>
-    // `cells_model`: the cells, with the text of `kind` as a list of bytes.
+    // `cells_model`: the cells, with the texts of `kind` and `state` as lists of bytes.
     ensures { OnOk result (text.new.items ≡ text.old.items
         ++ first_columns (cells_model cells.now)) }
 {
     push_column(text, NETID_WIDTH, cells.kind)?;
-    push_column(text, STATE_WIDTH, name_of_state(cells.state).as_bytes())?;
+    push_column(text, STATE_WIDTH, cells.state)?;
     push_number_column(text, QUEUE_WIDTH, cells.receive_queue)?;
     push_number_column(text, QUEUE_WIDTH, cells.send_queue)?;
     push_number_column(text, INODE_WIDTH, Some(cells.inode))?;

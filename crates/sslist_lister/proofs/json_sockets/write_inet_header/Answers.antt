@@ -6,7 +6,7 @@ use Rattle.sslist_lister.proofs.json_sockets.write_inet_header.Goals as goal
 pub returns-clause-members : goal.returns-clause-members
 unfolding inet_header_members
 returns-clause-members c =
-    rw (← c.name_of_inet_kind.ensures, ← c.name_of_state.ensures)
+    rw (← c.name_of_inet_kind.ensures, ← c.name_of_inet_state-state.ensures)
     (on_ok_weaker c.write_inet_back.result
     (λ last. joined_members _ _ _ _ _ c.in_ok-write_text.ensures.members
     (joined_members _ _ _ _ _ c.in_ok-write_text-2.ensures.members

@@ -23,9 +23,10 @@ timer_of-timer-requires c =
 pub returns-in-Ok-clause-lines : goal.returns-in-Ok-clause-lines
 unfolding inet_response_header
 returns-in-Ok-clause-lines c =
+    let rest = take_rest c.args.payload.now 72 in
+    let found = rw rest at c.is_association.ensures in
     rw (← c.in-Ok.ensures.value)
-    (rw (take_rest c.args.payload.now 72, c.timer_of-timer.ensures) at
-    c.push_inet_socket.ensures.lines)
+    (rw (rest, c.timer_of-timer.ensures, found) at c.push_inet_socket.ensures.lines)
 
 pub returns-in-Ok-clause-error : goal.returns-in-Ok-clause-error
 unfolding inet_response_header
