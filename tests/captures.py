@@ -848,6 +848,7 @@ def main():
     sslist, failed = Lister(sys.argv[1]), 0
     for check in (
         lists_captures_of_both_orders, lists_other_families, lists_attributes_of_newer_kernels,
+        lists_the_first_valid_attribute,
         lists_short_tcp_info, lists_bit_fields_of_tcp_info, lists_the_payload_limit_of_tls,
         lists_the_last_endpoints_of_mptcp_info, lists_sctp_associations, lists_sctp_sockets,
         selects_associations_by_state, names_timers, shows_names_in_utf8, lists_objects,
