@@ -26,8 +26,7 @@ use Rattle.sslist_lister.specs.declared.facts.Shown.{Shown}
 use Rattle.sslist_lister.specs.declared.facts.Shown.TheVariants.{Always, Bits, Cipher, Closed, Hex}
 use Rattle.sslist_lister.specs.declared.facts.Shown.TheVariants.{Letters, Mode, Never, Version}
 use Rattle.sslist_lister.specs.declared.ulp_info.UlpField.{UlpField}
-use Rattle.sslist_lister.specs.declared.ulp_info.UlpField.TheVariants.{Subflow, Tls, TlsPayload}
-use Rattle.sslist_lister.specs.declared.ulp_info.TheConstants.{TLS_INFO_TX_MAX_PAYLOAD_LEN}
+use Rattle.sslist_lister.specs.declared.ulp_info.UlpField.TheVariants.{Subflow, Tls}
 
 -- ---- nested attributes
 
@@ -48,7 +47,6 @@ nested_number (kind, width) bytes = option_and_then
 -- not have it
 abbrev pub ulp_number : List ℕ → UlpField → Option ℕ
 ulp_number bytes (Tls field) = nested_number (tls_row field) bytes
-ulp_number bytes TlsPayload = nested_number (TLS_INFO_TX_MAX_PAYLOAD_LEN, 2) bytes
 ulp_number bytes (Subflow field) = nested_number (subflow_row field) bytes
 
 -- the name of the protocol in the value, without its terminating NUL if it has one; an error if
@@ -82,8 +80,12 @@ tls_rows =
     (Cipher, codes " cipher:", Some (codes "cipher"), Tls tls.Cipher) ∷
     (Mode, codes " rxconf:", None, Tls tls.Receiving) ∷
     (Mode, codes " txconf:", Some (codes "txconf"), Tls tls.Sending) ∷
-    (Never, [], Some (codes "rxconf"), Tls tls.Receiving) ∷
-    (Always, codes " tx_max_payload_len:", Some (codes "tx_max_payload_len"), TlsPayload) ∷ []
+    (Never, [], Some (codes "rxconf"), Tls tls.Receiving) ∷ (
+      Always,
+      codes " tx_max_payload_len:",
+      Some (codes "tx_max_payload_len"),
+      Tls tls.SendingMaxPayload,
+    ) ∷ []
 
 -- `presence_facts kind text member bytes`: whether the nested attributes `bytes` have one of this
 -- type. The table shows `text` if they do (`Bits 1` of the number 0 or 1). JSON has `member`.

@@ -72,7 +72,11 @@ fn write_inet_header(
     let header = &socket.header;
     let id = &header.socket_id;
     let state = name_of_inet_state(socket.is_association, header.state);
-    write_text(writer, "netid", name_of_inet_kind(socket.protocol, header.family))?;
+    write_text(
+        writer,
+        "netid",
+        name_of_inet_kind(socket.protocol, header.family),
+    )?;
     write_text(writer, "state_name", state)?;
     write_inet_front(writer, &socket.timer, header)?;
     write_address(alloc, writer, "src", id.source_address)?;

@@ -27,17 +27,11 @@ use sock_diag_extras::constants::{
 use sock_diag_extras::{SubflowField, TlsField};
 use std::alloc::AllocError;
 
-/// Type of the nested attribute with the limit of the payload of sent records, in linux/tls.h of
-/// Linux 7.2 and later.
-const TLS_INFO_TX_MAX_PAYLOAD_LEN: u16 = 7;
-
 /// A number in the nested attributes.
 #[derive(Clone, Copy)]
 pub(crate) enum UlpField {
     /// A field about TLS.
     Tls(TlsField),
-    /// The limit of the payload of sent TLS records, in bytes (`TLS_INFO_TX_MAX_PAYLOAD_LEN`).
-    TlsPayload,
     /// A field of a subflow of an MPTCP connection.
     Subflow(SubflowField),
 }
@@ -81,7 +75,7 @@ static TLS_ROWS: [UlpRow; 6] = [
         Shown::Always,
         b" tx_max_payload_len:",
         Some("tx_max_payload_len"),
-        UlpField::TlsPayload,
+        UlpField::Tls(TlsField::SendingMaxPayload),
     ),
 ];
 
@@ -355,7 +349,6 @@ fn number_of(bytes: &[u8], field: UlpField) -> Option<u64>
             let (kind, width) = field.row();
             find_number(bytes, kind, width)
         }
-        UlpField::TlsPayload => find_number(bytes, TLS_INFO_TX_MAX_PAYLOAD_LEN, 2),
         UlpField::Subflow(field) => {
             let (kind, width) = field.row();
             find_number(bytes, kind, width)

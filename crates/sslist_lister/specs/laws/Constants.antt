@@ -11,20 +11,18 @@ use Rattle.sslist_lister.specs.declared.sctp.TheConstants.{NO_TCP_STATE}
 use Rattle.sslist_lister.specs.declared.texts.cells.TheConstants as cells
 use Rattle.sslist_lister.specs.declared.texts.names.TheConstants as names
 use Rattle.sslist_lister.specs.declared.texts.parts.TheConstants as parts
-use Rattle.sslist_lister.specs.declared.ulp_info.TheConstants.{TLS_INFO_TX_MAX_PAYLOAD_LEN}
 
 -- numbers of errno(3)
 pub error_numbers : (ENOENT ≡ 2) × (EINVAL ≡ 22)
 error_numbers = (refl, refl)
 
 -- numbers of the kernel: protocols, the state of a connected netlink socket, VMADDR_CID_ANY and
--- VMADDR_PORT_ANY, the bits of `sk_shutdown`, the size of `struct tcp_diag_md5sig`, and a type of
--- linux/tls.h
+-- VMADDR_PORT_ANY, the bits of `sk_shutdown`, and the size of `struct tcp_diag_md5sig`
 pub kernel_numbers : (options.IPPROTO_TCP ≡ 6) × (options.IPPROTO_UDP ≡ 17)
     × (options.IPPROTO_MPTCP ≡ 262) × (NETLINK_CONNECTED ≡ 1) × (ANY ≡ 0xffffffff)
     × (NO_INTERFACE ≡ 0) × (parts.RCV_SHUTDOWN ≡ 1) × (parts.SEND_SHUTDOWN ≡ 2)
-    × (KEY_LENGTH ≡ 100) × (TLS_INFO_TX_MAX_PAYLOAD_LEN ≡ 7)
-kernel_numbers = (refl, refl, refl, refl, refl, refl, refl, refl, refl, refl)
+    × (KEY_LENGTH ≡ 100)
+kernel_numbers = (refl, refl, refl, refl, refl, refl, refl, refl, refl)
 
 -- a number above those of the states with a bit of their own in a set of states
 pub no_tcp_state : NO_TCP_STATE ≡ 255
