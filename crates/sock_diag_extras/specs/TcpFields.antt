@@ -1,6 +1,6 @@
 -- The fields of `struct tcp_info` of linux/tcp.h, as Linux 7.2 defines them: 280 bytes. The field
 -- `LastDataSent` is the member `tcpi_last_data_sent`, and so on.
-use Rattle.std.specs.Prelude.{ℕ, ◌+◌, ◌*◌, ◌==◌, if◌then◌else◌, List, [], ◌∷◌, count_ones}
+use Rattle.std.specs.Prelude.{ℕ, ◌+◌, ◌*◌, ◌==◌, if◌then◌else◌, List, [], ◌∷◌}
 use Rattle.std.specs.Prelude.{Option, None, Some}
 use Rattle.netlink_core.specs.Table.{Field, byte, number}
 use Rattle.sock_diag_extras.specs.Spans.{bits_of, number_in_span}
@@ -84,13 +84,13 @@ tcp_span_of field.AccecnOptSeen = (276, 4)
 tcp_span_of field.AccecnFailMode = (276, 4)
 tcp_span_of field.Options2 = (276, 4)
 
--- `tcp_bits_of f`: the shift (`.0`) and the mask (`.1`) of the bit field `f` in the number at its
--- span, or None if the field is this number
+-- `tcp_bits_of f`: the lowest bit (`.0`) and the number of bits (`.1`) of the bit field `f` in the
+-- number at its span, or None if the field is this number
 abbrev pub tcp_bits_of : TcpField → Option (ℕ × ℕ)
-tcp_bits_of field.EcnMode = Some (0, 3)
-tcp_bits_of field.AccecnOptSeen = Some (2, 3)
-tcp_bits_of field.AccecnFailMode = Some (4, 15)
-tcp_bits_of field.Options2 = Some (8, 0xff_ffff)
+tcp_bits_of field.EcnMode = Some (0, 2)
+tcp_bits_of field.AccecnOptSeen = Some (2, 2)
+tcp_bits_of field.AccecnFailMode = Some (4, 4)
+tcp_bits_of field.Options2 = Some (8, 24)
 tcp_bits_of _ = None
 
 -- `tcp_value_in f bytes`: the value of the field `f` in bytes that contain all of it: the number at
@@ -102,12 +102,12 @@ tcp_value_in f bytes = bits_of (tcp_bits_of f) (number_in_span (tcp_span_of f) b
 -- counted from the first byte of the struct on, in each byte from the least significant bit on
 abbrev pub first_bit : ℕ × ℕ → Option (ℕ × ℕ) → ℕ
 first_bit (offset, width) None = 8 * offset
-first_bit (offset, width) (Some (shift, mask)) = 8 * offset + shift
+first_bit (offset, width) (Some (lowest, count)) = 8 * offset + lowest
 
 -- `bit_count span bits`: how many bits a field with this span and these bits has
 abbrev pub bit_count : ℕ × ℕ → Option (ℕ × ℕ) → ℕ
 bit_count (offset, width) None = 8 * width
-bit_count (offset, width) (Some (shift, mask)) = count_ones mask
+bit_count (offset, width) (Some (lowest, count)) = count
 
 -- the index of the first bit of a field
 abbrev pub tcp_first_bit : TcpField → ℕ

@@ -1,6 +1,6 @@
 //! The value of INET_DIAG_INFO with any number of bytes: fewer than the port parses, or more.
 
-ghost use Rattle.std.specs.Prelude.{◌≡◌, ◌<◌, ◌≤◌, drop, length, IfSome, SomeIff};
+ghost use Rattle.std.specs.Prelude.{◌≡◌, ◌<◌, ◌≤◌, drop, length, IfSome, SomeIff, option_map};
 ghost use Rattle.std.specs.Result.{result_ok};
 ghost use Rattle.netlink_core.specs.Layout.{parse_record};
 ghost use Rattle.sock_diag_values.specs.TcpInfo.{tcp_info};
@@ -174,6 +174,7 @@ pub enum TcpField {
 }
 
 impl TcpField {
+    ghost use Rattle.sock_diag_extras.specs.Spans.{shift_and_mask};
     ghost use Rattle.sock_diag_extras.specs.TcpFields.{tcp_bits_of, tcp_span_of};
 
     /// Returns the offset of the field and its width, both in bytes. Of a bit field, these are the
@@ -259,8 +260,9 @@ impl TcpField {
     /// Returns the shift and the mask of a bit field: its value is `number >> shift & mask`, where
     /// `number` is the number at its span. Returns `None` if the field is the whole number.
     pub fn bits(self) -> Option<(u32, u64)>
-        // `tcp_bits_of field`: its shift and its mask, as a table in `specs/TcpFields.antt`.
-        ensures row { result ≡ tcp_bits_of self }
+        // `tcp_bits_of field`: its lowest bit and its number of bits, as a table in
+        // `specs/TcpFields.antt`.
+        ensures row { result ≡ option_map shift_and_mask (tcp_bits_of self) }
         ensures shift { IfSome result (λ bits. bits.0 < 64) }
     {
         match self {

@@ -1,5 +1,4 @@
 use Rattle.std.proofs.Common.{refl}
-use Rattle.std.specs.Prelude.{count_ones}
 use Rattle.sock_diag_values.specs.TcpInfo.{tcp_info}
 use Rattle.sock_diag_extras.proofs.laws.tcp_fields_are_rows.Goals as goal
 
@@ -8,5 +7,4 @@ unfolding tcp_info
 returns-clause-first c = refl
 
 pub returns-clause-later : goal.returns-clause-later
-unfolding count_ones
 returns-clause-later c = refl
