@@ -89,8 +89,8 @@ pub fn main_theorem<T: HasCodec>()
     ensures same_form_iff_equivalent { (b c b_form c_form : List ℕ) (p : T.Param) → IsBytes b
         → IsBytes c → HasCanonicalForm T.codec p b b_form → HasCanonicalForm T.codec p c c_form
         → ((b_form ≡ c_form) ↔ T.codec.equivalent p b c) }
-    // The canonical form of bytes, if they have one, is equivalent to them, and is its own canonical
-    // form.
+    // The canonical form of bytes, if they have one, is equivalent to them, and is its own
+    // canonical form.
     ensures canonical_form { (b form : List ℕ) (p : T.Param) → IsBytes b
         → HasCanonicalForm T.codec p b form → IsBytes form × T.codec.equivalent p b form
         × HasCanonicalForm T.codec p form form }

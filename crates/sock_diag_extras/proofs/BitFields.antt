@@ -11,7 +11,8 @@ pub bits_by_mask : (bits : Option (ℕ × ℕ)) (shift mask number : ℕ)
 bits_by_mask None shift mask number is = absurd cc
 bits_by_mask (Some (lowest, count)) shift mask number is =
     let same : ◌≡◌ {A = ℕ × ℕ} (shift, mask) (lowest, 2 ^ count - 1) = cc is in
-    rw (ap (λ (both : ℕ × ℕ). both.0) same, ap (λ (both : ℕ × ℕ). both.1) same) (and_mask (number / 2 ^ lowest) count)
+    rw (ap (λ (both : ℕ × ℕ). both.0) same, ap (λ (both : ℕ × ℕ). both.1) same)
+    (and_mask (number / 2 ^ lowest) count)
 
 -- without a shift and a mask the value is the whole number
 pub whole_number : (bits : Option (ℕ × ℕ)) (number : ℕ) → None ≡ option_map shift_and_mask bits

@@ -13,8 +13,8 @@ end_of_span span = span.0 + span.1
 abbrev pub number_in_span : ℕ × ℕ → List ℕ → ℕ
 number_in_span span bytes = little_number span.1 (drop span.0 bytes)
 
--- `bits_of bits number`: the value of a bit field in a number, by its lowest bit (`.0`), counted from
--- the least significant one, and its number of bits (`.1`). None is the whole number.
+-- `bits_of bits number`: the value of a bit field in a number, by its lowest bit (`.0`), counted
+-- from the least significant one, and its number of bits (`.1`). None is the whole number.
 abbrev pub bits_of : Option (ℕ × ℕ) → ℕ → ℕ
 bits_of None number = number
 bits_of (Some (lowest, count)) number = number / 2 ^ lowest % 2 ^ count
