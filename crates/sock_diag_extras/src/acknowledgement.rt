@@ -48,13 +48,7 @@ impl<'a> AckView<'a> {
     /// Returns `None` if there are fewer than 20 bytes, or if the whole request is sent and its
     /// length field is below 16 or past the end of the bytes.
     pub fn of_error(flags: u16, payload: &'a [u8]) -> Option<AckView<'a>>
-        // `HasCompleteRequest flags payload`: the error number, the header of the request and all
-        // bytes of the request that are sent are within the payload.
         ensures contained { IsSome result ↔ HasCompleteRequest flags payload.entry.now }
-        // `leading_error_number`: `Some` of the signed little-endian number in the first four
-        // bytes. `acked_request_bytes`: the bytes of the request that are sent.
-        // `error_attribute_bytes`: the bytes after the request and its padding, or none if the
-        // flags lack `NLM_F_ACK_TLVS`.
         ensures number { IfSome result (λ ack.
             leading_error_number payload.entry.now ≡ Some (ack_number ack)) }
         ensures request { IfSome result (λ ack.
@@ -82,10 +76,8 @@ impl<'a> AckView<'a> {
     /// attributes, if the flags have `NLM_F_ACK_TLVS`. Returns `None` if there are fewer than four
     /// bytes.
     pub fn of_done(flags: u16, payload: &'a [u8]) -> Option<AckView<'a>>
-        // `leading_error_number`: the signed little-endian number in the first four bytes, or
-        // `None` if there are fewer. So the result is `None` if and only if there are fewer.
-        // `ack_attribute_bytes_from flags 4`: the bytes after the number, or none if the flags lack
-        // `NLM_F_ACK_TLVS`.
+        // `leading_error_number` is `None` if and only if there are fewer than four bytes, and so
+        // is the result.
         ensures number { option_map ack_number result ≡ leading_error_number payload.entry.now }
         ensures request { IfSome result (λ ack. ack_request ack ≡ []) }
         ensures attributes { IfSome result (λ ack.
@@ -117,8 +109,6 @@ impl<'a> AckView<'a> {
     /// Returns the header of the request. Returns `None` if the message contains fewer than the 16
     /// bytes of a header, as for the end of a dump.
     pub fn request_header(&self) -> Option<NetlinkHeader>
-        // `header_values header`: the five numbers of the returned header. `values_of header_fields
-        // bytes`: those in the first 16 bytes of the request.
         ensures { SomeIff (option_map header_values result)
             (NETLINK_HEADER_LEN ≤ length (ack_request self.now))
             (values_of header_fields (ack_request self.now)) }
@@ -144,11 +134,9 @@ impl<'a> AckView<'a> {
 
     /// Returns the attributes `NLMSGERR_ATTR_..`, or their first framing error.
     pub fn attributes(&self) -> Result<AckAttributes<'a>, DecodeError>
-        // `nested_bytes parsed.0`: the bytes of the returned attributes.
         ensures kept { IfOk result (λ parsed. nested_bytes parsed.0 ≡ ack_attributes self.now) }
-        // `HasAttributeError decode bytes e`: `e` is the first error in the bytes.
-        // `decode_attribute []`: no attribute type is known, so every value is accepted, and only
-        // the framing can be invalid.
+        // `decode_attribute []` knows no attribute type, so every value is accepted, and only the
+        // framing can be invalid.
         ensures error { IfErr result (HasAttributeError (decode_attribute [])
             (ack_attributes self.now)) }
     {
@@ -165,9 +153,6 @@ impl<'a> AckAttributes<'a> {
     /// Returns the error message or warning, `NLMSGERR_ATTR_MSG`, without one terminating NUL if it
     /// has one, or `Ok(None)` if there is none. Text that is not valid UTF-8 is `NotUtf8`.
     pub fn message(&self) -> Result<Option<&'a str>, DecodeError>
-        // `map_ok option_copied result`: the returned text as a list of bytes, or the error.
-        // `nested_text_in kind bytes`: the bytes of the text in the first attribute of this kind,
-        // `Ok None` if there is none, or the error.
         ensures { map_ok option_copied result
             ≡ nested_text_in NLMSGERR_ATTR_MSG (nested_bytes self.now.0) }
     {
@@ -178,8 +163,6 @@ impl<'a> AckAttributes<'a> {
     /// header: the little-endian `u32` in `NLMSGERR_ATTR_OFFS`, or `Ok(None)` if there is none. A
     /// length other than 4 is `WrongLength`, without the kind.
     pub fn offset(&self) -> Result<Option<u32>, DecodeError>
-        // `nested_u32_in kind bytes`: the little-endian `u32` in the first attribute of this kind,
-        // `Ok None` if there is none, or the error.
         ensures { result ≡ nested_u32_in NLMSGERR_ATTR_OFFS (nested_bytes self.now.0) }
     {
         self.0.word_of(NLMSGERR_ATTR_OFFS)
@@ -188,8 +171,6 @@ impl<'a> AckAttributes<'a> {
     /// Returns the cookie: the bytes of `NLMSGERR_ATTR_COOKIE`, or `None` if there is none. Their
     /// format depends on the kernel's subsystem.
     pub fn cookie(&self) -> Option<&'a [u8]>
-        // `option_copied result`: the bytes that the result borrows, as a list. `first_value_in
-        // kind bytes`: the value of the first attribute of this kind in the bytes, or `None`.
         ensures { option_copied result
             ≡ first_value_in NLMSGERR_ATTR_COOKIE (nested_bytes self.now.0) }
     {
@@ -199,8 +180,6 @@ impl<'a> AckAttributes<'a> {
     /// Returns the policy of the rejected attribute: the value of `NLMSGERR_ATTR_POLICY`, which is
     /// the bytes of nested attributes, or `None` if there is none.
     pub fn policy(&self) -> Option<&'a [u8]>
-        // `option_copied result`: the bytes that the result borrows, as a list. `first_value_in
-        // kind bytes`: the value of the first attribute of this kind in the bytes, or `None`.
         ensures { option_copied result
             ≡ first_value_in NLMSGERR_ATTR_POLICY (nested_bytes self.now.0) }
     {
@@ -211,8 +190,6 @@ impl<'a> AckAttributes<'a> {
     /// `NLMSGERR_ATTR_MISS_TYPE`, or `Ok(None)` if there is none. A length other than 4 is
     /// `WrongLength`, without the kind.
     pub fn missing_kind(&self) -> Result<Option<u32>, DecodeError>
-        // `nested_u32_in kind bytes`: the little-endian `u32` in the first attribute of this kind,
-        // `Ok None` if there is none, or the error.
         ensures { result ≡ nested_u32_in NLMSGERR_ATTR_MISS_TYPE (nested_bytes self.now.0) }
     {
         self.0.word_of(NLMSGERR_ATTR_MISS_TYPE)
@@ -223,8 +200,6 @@ impl<'a> AckAttributes<'a> {
     /// `Ok(None)` if there is none. The kernel does not send it if the attribute is missing in the
     /// message itself. A length other than 4 is `WrongLength`, without the kind.
     pub fn missing_nest(&self) -> Result<Option<u32>, DecodeError>
-        // `nested_u32_in kind bytes`: the little-endian `u32` in the first attribute of this kind,
-        // `Ok None` if there is none, or the error.
         ensures { result ≡ nested_u32_in NLMSGERR_ATTR_MISS_NEST (nested_bytes self.now.0) }
     {
         self.0.word_of(NLMSGERR_ATTR_MISS_NEST)
@@ -236,7 +211,6 @@ impl<'a> AckAttributes<'a> {
 // and of a header.
 fn request_length(flags: u16, payload: &[u8]) -> usize
     requires { 4 + NETLINK_HEADER_LEN ≤ length payload.now }
-    // `acked_request_length flags payload`: this length.
     ensures length { result ≡ acked_request_length flags payload.now }
     // Stated so that the sum of this length, its padding and 4 does not overflow.
     ensures small { result < 2 ^ 32 }
@@ -253,8 +227,6 @@ fn request_length(flags: u16, payload: &[u8]) -> usize
 // Returns the bytes of the attributes, which start at the offset `offset` of the payload, or none
 // if the flags lack `NLM_F_ACK_TLVS`.
 fn attribute_bytes_from(flags: u16, offset: usize, payload: &[u8]) -> &[u8]
-    // `ack_attribute_bytes_from flags offset payload`: the bytes from the offset on, or none if the
-    // flags lack `NLM_F_ACK_TLVS`.
     ensures { result.now ≡ ack_attribute_bytes_from flags offset payload.entry.now }
 {
     if flags & NLM_F_ACK_TLVS == 0 {

@@ -20,8 +20,6 @@ pub(crate) fn suffix_from(bytes: &[u8], count: usize) -> &[u8]
 pub(crate) fn number_at(bytes: &[u8], offset: usize, width: usize) -> Option<u64>
     requires one { 1 ≤ width }
     requires eight { width ≤ 8 }
-    // `end_of_span span`: the offset of the byte after the number. `number_in_span span bytes`: the
-    // little-endian number at this offset and of this width.
     ensures { SomeIff result (end_of_span (offset, width) ≤ length bytes.now)
         (number_in_span (offset, width) bytes.now) }
 {

@@ -1,6 +1,7 @@
 //! Measurements of congestion control algorithms for a TCP connection: INET_DIAG_VEGASINFO,
 //! INET_DIAG_DCTCPINFO and INET_DIAG_BBRINFO. The algorithm, whose name INET_DIAG_CONG contains,
-//! determines which of them the kernel sends.
+//! determines which of them the kernel sends. No record here has an array, so the conditions on the
+//! layouts, in `laws`, hold by computation.
 
 ghost use Rattle.std.specs.Prelude.{refl};
 ghost use Rattle.netlink_core.proofs.LayoutLaws.{plain_sound, record_laws};
@@ -49,7 +50,6 @@ impl AttributeRecord for VegasInfo {
         LittleEndian::write_u32_into(&numbers, buffer);
     }
 
-    // Proof only: the record has no array, so the conditions on its layout hold by computation.
     ghost laws = { λ name. record_laws (layout_with_name vegas_info name)
         (plain_sound refl (λ _. refl)
         (λ _. refl) (λ _. tt) (λ _ _. refl)) };
@@ -98,7 +98,6 @@ impl AttributeRecord for DctcpInfo {
         LittleEndian::write_u32_into(&numbers, u32_fields);
     }
 
-    // Proof only: the record has no array, so the conditions on its layout hold by computation.
     ghost laws = { λ name. record_laws (layout_with_name dctcp_info name)
         (plain_sound refl (λ _. refl)
         (λ _. refl) (λ _. tt) (λ _ _. refl)) };
@@ -145,7 +144,6 @@ impl AttributeRecord for BbrInfo {
         LittleEndian::write_u32_into(&numbers, u32_fields);
     }
 
-    // Proof only: the record has no array, so the conditions on its layout hold by computation.
     ghost laws = { λ name. record_laws (layout_with_name bbr_info name)
         (plain_sound refl (λ _. refl)
         (λ _. refl) (λ _. tt) (λ _ _. refl)) };

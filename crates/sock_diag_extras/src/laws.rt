@@ -26,11 +26,9 @@ use std::alloc::AllocError;
 /// bits: the first starts at bit 0, each other one where the one before it ends, and the last ends
 /// with the byte at offset 279.
 pub fn tcp_fields_are_rows()
-    // `tag_fields tcp_info tt`: the fields of the layout of `TcpInfo`. `tcp_layout_field f`: the
-    // field `f` as a field of a layout, by its offset and its width.
     ensures first { map tcp_layout_field first_fields ≡ tag_fields tcp_info tt }
-    // `tcp_first_bit f`, `tcp_end_bit f`: where the field `f` starts and ends, in bits. The starts
-    // of all fields and then 280 bytes are 0 and then the ends of these fields.
+    // The starts of all fields, and then the end of 280 bytes, are 0 and then the ends of these
+    // fields.
     ensures later { map tcp_first_bit (first_fields ++ later_fields) ++ 8 * 280 ∷ []
         ≡ 0 ∷ map tcp_end_bit (first_fields ++ later_fields) }
 {}
@@ -39,9 +37,6 @@ pub fn tcp_fields_are_rows()
 /// places numbers of their widths: each starts at the first multiple of its width after the field
 /// before it.
 pub fn mptcp_fields_are_aligned()
-    // `mptcp_span_of`: the offset and the width of a field; `mptcp_width_of`: its width.
-    // `aligned_spans 0 widths`: the offsets and widths of consecutive members of these widths, from
-    // offset 0 on.
     ensures { map mptcp_span_of mptcp_fields ≡ aligned_spans 0 (map mptcp_width_of mptcp_fields) }
 {}
 
@@ -152,7 +147,6 @@ pub fn compared_subflow_infos<'a>(
 /// Returns `left == right`: whether two acknowledgements have the same number, request and bytes of
 /// attributes.
 pub fn equal_ack_views(left: &AckView<'_>, right: &AckView<'_>) -> bool
-    // `ack_number`, `ack_request`, `ack_attributes`: the number, and the bytes of the other two.
     ensures { IsTrue result ↔ ((ack_number left.now ≡ ack_number right.now)
         × (ack_request left.now ≡ ack_request right.now)
         × (ack_attributes left.now ≡ ack_attributes right.now)) }
@@ -163,7 +157,6 @@ pub fn equal_ack_views(left: &AckView<'_>, right: &AckView<'_>) -> bool
 /// Returns the clone of an acknowledgement. It has the same number, request and bytes of
 /// attributes, and `clone` never fails.
 pub fn copied_ack_view<'a>(view: &AckView<'a>) -> Result<AckView<'a>, AllocError>
-    // `ack_number`, `ack_request`, `ack_attributes`: the number, and the bytes of the other two.
     ensures ok { IsOk result }
     ensures number { IfOk result (λ copy. ack_number copy ≡ ack_number view.now) }
     ensures request { IfOk result (λ copy. ack_request copy ≡ ack_request view.now) }

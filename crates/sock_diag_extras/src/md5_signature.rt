@@ -73,7 +73,6 @@ impl Md5Signature {
     /// if the family is 2 (`AF_INET`), and the IPv6 address in all of them if it is 10
     /// (`AF_INET6`). Returns `None` for any other family.
     pub fn ip(&self) -> Option<IpAddr>
-        // `peer_ip signature`: this address.
         ensures { result ≡ peer_ip self.now }
     {
         let [a, b, c, d, ..] = self.address;
@@ -87,7 +86,6 @@ impl Md5Signature {
     /// Returns the bytes of the key that are used: the first `key_length` bytes of `key`, or all 80
     /// if it is greater.
     pub fn used_key(&self) -> &[u8]
-        // `used_key signature`: these bytes of its key.
         ensures { result.now ≡ used_key self.now }
     {
         let length = self.key_length as usize;

@@ -79,7 +79,6 @@ impl MptcpField {
 
     /// Returns the offset of the field and its width, both in bytes.
     pub fn span(self) -> (usize, usize)
-        // `mptcp_span_of field`: its offset and its width, as a table in `specs/MptcpFields.antt`.
         ensures { result ≡ mptcp_span_of self }
     {
         match self {
@@ -140,9 +139,6 @@ impl<'a> MptcpInfoBytes<'a> {
     /// Returns the value of the field, a little-endian number. Returns `None` if the bytes end
     /// before the end of the field.
     pub fn get(&self, field: MptcpField) -> Option<u64>
-        // `mptcp_span_of field`: the offset and the width of the field. `end_of_span span`: the
-        // offset of the byte after it. `number_in_span span bytes`: the number at this offset and
-        // of this width.
         ensures { SomeIff result
             (end_of_span (mptcp_span_of field) ≤ length (mptcp_info_bytes self.now))
             (number_in_span (mptcp_span_of field) (mptcp_info_bytes self.now)) }

@@ -1,5 +1,6 @@
 //! Attributes that are nested in the value of another attribute or follow a header, with getters by
-//! kind.
+//! kind. `decode_attribute []` in the contracts knows no attribute type, so every value is
+//! accepted, and only the framing can be invalid.
 
 ghost use Rattle.std.specs.Prelude.{◌≡◌, ◌≤◌, ℕ, List, [], IfErr, IfOk, Some, option_copied};
 ghost use Rattle.std.specs.Prelude.{option_map};
@@ -31,10 +32,7 @@ impl<'a> NestedNlas<'a> {
     /// Borrows the attributes in the bytes. Returns the first framing error, if there is one. The
     /// values are not parsed.
     pub fn parse(bytes: &'a [u8]) -> Result<NestedNlas<'a>, DecodeError>
-        // `nested_bytes nested`: the bytes of the attributes.
         ensures kept { IfOk result (λ nested. nested_bytes nested ≡ bytes.entry.now) }
-        // `HasAttributeError decode bytes e`: `e` is the first error in the bytes.
-        // `decode_attribute []`: no attribute type is known, so every value is accepted.
         ensures error { IfErr result (HasAttributeError (decode_attribute []) bytes.entry.now) }
     {
         check_nlas::<RawNla>(bytes)?;
@@ -43,7 +41,6 @@ impl<'a> NestedNlas<'a> {
 
     /// Returns an iterator over all of the attributes, in order.
     pub fn walk(&self) -> NlasIterator<'a>
-        // `unread_bytes iterator`: the bytes that the iterator has not read yet.
         ensures { unread_bytes result ≡ nested_bytes self.now }
     {
         NlasIterator::new(self.bytes)
@@ -51,8 +48,6 @@ impl<'a> NestedNlas<'a> {
 
     /// Returns the value of the first attribute of the kind, or `None` if there is none.
     pub fn value_of(&self, kind: u16) -> Option<&'a [u8]>
-        // `option_copied result`: the bytes that the result borrows, as a list. `first_value_in
-        // kind bytes`: the value of the first attribute of this kind in the bytes, or `None`.
         ensures { option_copied result ≡ first_value_in kind (nested_bytes self.now) }
     {
         let mut nlas = self.walk();
@@ -68,9 +63,6 @@ impl<'a> NestedNlas<'a> {
     /// it has one. Returns `Ok(None)` if there is no such attribute. Text that is not valid UTF-8
     /// is `NotUtf8`; `value_of` returns its bytes.
     pub fn text_of(&self, kind: u16) -> Result<Option<&'a str>, DecodeError>
-        // `map_ok option_copied result`: the returned text as a list of bytes, or the error.
-        // `nested_text_in kind bytes`: the bytes of the text in the first attribute of this kind,
-        // `Ok None` if there is none, or the error.
         ensures { map_ok option_copied result ≡ nested_text_in kind (nested_bytes self.now) }
     {
         match self.value_of(kind) {
@@ -83,8 +75,6 @@ impl<'a> NestedNlas<'a> {
     /// `Ok(None)` if there is no such attribute. A length other than 4 is `WrongLength`, without
     /// the kind.
     pub fn word_of(&self, kind: u16) -> Result<Option<u32>, DecodeError>
-        // `nested_u32_in kind bytes`: the little-endian `u32` in the first attribute of this kind,
-        // `Ok None` if there is none, or the error.
         ensures { result ≡ nested_u32_in kind (nested_bytes self.now) }
     {
         match self.value_of(kind) {
@@ -99,8 +89,6 @@ impl<'a> NestedNlas<'a> {
     pub fn number_of(&self, kind: u16, width: usize) -> Result<Option<u64>, DecodeError>
         requires one { 1 ≤ width }
         requires eight { width ≤ 8 }
-        // `nested_number_in (kind, width) bytes`: the little-endian number in the first attribute
-        // of this kind, whose value has `width` bytes, `Ok None` if there is none, or the error.
         ensures { result ≡ nested_number_in (kind, width) (nested_bytes self.now) }
     {
         match self.value_of(kind) {
@@ -118,13 +106,8 @@ impl<'a> NestedNlas<'a> {
     /// `Ok(None)` if there is no such attribute, and the first framing error in its value, if there
     /// is one.
     pub fn nested_of(&self, kind: u16) -> Result<Option<NestedNlas<'a>>, DecodeError>
-        // `nested_bytes found`: the bytes of the returned attributes. `first_value_in kind bytes`:
-        // the value of the first attribute of this kind in the bytes, or `None`. The result is
-        // `None` if and only if that is.
         ensures kept { IfOk result (λ found. option_map nested_bytes found
             ≡ first_value_in kind (nested_bytes self.now)) }
-        // `value`: the value of the attribute, in which the framing error is. `decode_attribute
-        // []`: no attribute type is known, so every nested value is accepted.
         ensures error { IfErr result (λ e. (value : List ℕ)
             × (first_value_in kind (nested_bytes self.now) ≡ Some value)
             × HasAttributeError (decode_attribute []) value e) }

@@ -72,7 +72,6 @@ impl SocketOptions {
 
     /// Returns whether the option is set: whether `bits` has the bit of the option.
     pub fn has(&self, option: SocketOption) -> bool
-        // `bit_of option`: the index of the option's bit.
         ensures { IsTrue result ↔ IsBitSet self.now.bits (bit_of option) }
     {
         // Each value is 2 to the power of the index of the option's bit.

@@ -21,14 +21,12 @@ pub trait AttributeRecord: Sized {
     /// bytes after the record are ignored.
     fn from_fields(bytes: &[u8]) -> Self
         requires { layout.size ≤ length bytes.now }
-        // `parse_by_table layout bytes`: the record at the start of the bytes.
         ensures { result ≡ parse_by_table layout bytes.now };
 
     /// Serializes the record to a buffer of `size()` bytes. The previous content of the buffer does
     /// not matter.
     fn write_fields(&self, buffer: &mut [u8])
         requires { length buffer.old ≡ layout.size }
-        // `bytes_by_table layout value`: the bytes of the record.
         ensures { buffer.new ≡ bytes_by_table layout self.now };
 
     // Proof only: the layout keeps the laws of records, whatever name its errors have.
@@ -39,12 +37,11 @@ pub trait AttributeRecord: Sized {
 /// record has. The bytes that follow are ignored.
 #[inline(always)]
 pub fn read_attribute_record<T: AttributeRecord>(value: &[u8]) -> Option<T>
-    // `parse_by_table layout bytes`: the record at the start of the bytes.
     ensures value { SomeIff result (T.layout.size ≤ length value.now)
         (parse_by_table T.layout value.now) }
     // The result is what `parse_record` of `netlink_core` returns for this layout, with `None` in
-    // place of its error (`result_ok`). A layout there has a name, which only the error contains,
-    // so this holds for any name.
+    // place of its error. A layout there has a name, which only the error contains, so this holds
+    // for any name.
     ensures by_layout { (name : RecordName)
         → result ≡ result_ok (parse_record (layout_with_name T.layout name) tt value.now) }
 {
@@ -58,7 +55,6 @@ pub fn read_attribute_record<T: AttributeRecord>(value: &[u8]) -> Option<T>
 /// The bytes after it are unchanged.
 pub fn write_attribute_record<T: AttributeRecord>(value: &T, buffer: &mut [u8])
     requires { T.layout.size ≤ length buffer.old }
-    // `bytes_by_table layout value`: the bytes of the record.
     ensures { buffer.new ≡ bytes_by_table T.layout value.now ++ drop T.layout.size buffer.old }
 {
     value.write_fields(&mut buffer[..T::size()]);

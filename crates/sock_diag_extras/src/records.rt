@@ -20,7 +20,6 @@ pub struct AttributeRecords<'a, T> {
 impl<'a, T> AttributeRecords<'a, T> {
     /// Returns an iterator over the records in the value.
     pub fn new(value: &'a [u8]) -> AttributeRecords<'a, T>
-        // `unread_record_bytes result`: the bytes that the iterator has not parsed yet.
         ensures { unread_record_bytes result ≡ value.entry.now }
     {
         AttributeRecords {
@@ -42,9 +41,6 @@ impl<'a, T> AttributeRecords<'a, T> {
 impl<'a, T: AttributeRecord> Iterator for AttributeRecords<'a, T> {
     type Item = T;
 
-    // `YieldsRecord layout left given later`: `given` is the record at the start of the bytes
-    // `left`, and `later` are the bytes after it; or `given` is `None`, and `left` has too few
-    // bytes.
     ghost next_gives = { λ old given new. YieldsRecord T.layout (unread_record_bytes old) given
         (unread_record_bytes new) };
 
@@ -64,9 +60,8 @@ impl<'a, T: AttributeRecord> Iterator for AttributeRecords<'a, T> {
     /// Returns `(0, None)`: the number of records left is not computed in advance.
     fn size_hint(&self) -> (usize, Option<usize>)
         ensures unknown { result ≡ (0, None) }
-        // The clauses of the trait follow from `unknown`: the lower bound is at most the number of
-        // items (`IsWithinCount`), and the upper one, if there is one, at least this number
-        // (`UpTo`). `at_most n`: of this number only the bound `n` is known.
+        // The clauses of the trait follow from `unknown`. Of the number of items only the bound is
+        // known.
         ensures lower { IsWithinCount result.0 (at_most (length (unread_record_bytes self.now))) }
         ensures upper { IfSome result.1 (UpTo (at_most (length (unread_record_bytes self.now)))) }
     {

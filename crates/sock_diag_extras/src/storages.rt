@@ -24,15 +24,12 @@ impl<'a> BpfStorage<'a> {
     /// of the attribute is not `SK_DIAG_BPF_STORAGE` (1). Otherwise returns the first framing error
     /// in the value, if there is one.
     pub fn parse(nla: &NlaBuffer<'a>) -> Result<Option<BpfStorage<'a>>, DecodeError>
-        // `buffered_attribute nla`: the attribute in the buffer. `attribute_kind attribute`: its
-        // kind, the type field without the two flag bits. `nested_bytes storage.0`: the bytes of
-        // the nested attributes, here the value of the attribute.
         ensures kept { IfOk result (λ found. MatchOption found
             (attribute_kind (buffered_attribute nla.now) ≢ SK_DIAG_BPF_STORAGE)
             (λ storage. (attribute_kind (buffered_attribute nla.now) ≡ SK_DIAG_BPF_STORAGE)
             × (nested_bytes storage.0 ≡ (buffered_attribute nla.now).value))) }
-        // `HasAttributeError decode bytes e`: `e` is the first error in the bytes.
-        // `decode_attribute []`: no attribute type is known, so every value is accepted.
+        // `decode_attribute []` knows no attribute type, so every value is accepted, and only the
+        // framing can be invalid.
         ensures error { IfErr result (λ e.
             (attribute_kind (buffered_attribute nla.now) ≡ SK_DIAG_BPF_STORAGE)
             × HasAttributeError (decode_attribute []) (buffered_attribute nla.now).value e) }
@@ -47,8 +44,6 @@ impl<'a> BpfStorage<'a> {
     /// `SK_DIAG_BPF_STORAGE_MAP_ID`, or `Ok(None)` if there is none. A length other than 4 is
     /// `WrongLength`, without the kind.
     pub fn map_id(&self) -> Result<Option<u32>, DecodeError>
-        // `nested_u32_in kind bytes`: the little-endian `u32` in the first attribute of this kind
-        // in the bytes, `Ok None` if there is none, or the error.
         ensures { result ≡ nested_u32_in SK_DIAG_BPF_STORAGE_MAP_ID (nested_bytes self.now.0) }
     {
         self.0.word_of(SK_DIAG_BPF_STORAGE_MAP_ID)
@@ -57,8 +52,6 @@ impl<'a> BpfStorage<'a> {
     /// Returns the bytes that the map stores for the socket: the value of the first
     /// `SK_DIAG_BPF_STORAGE_MAP_VALUE`, or `None` if there is none.
     pub fn map_value(&self) -> Option<&'a [u8]>
-        // `option_copied result`: the bytes that the result borrows, as a list. `first_value_in
-        // kind bytes`: the value of the first attribute of this kind in the bytes, or `None`.
         ensures { option_copied result
             ≡ first_value_in SK_DIAG_BPF_STORAGE_MAP_VALUE (nested_bytes self.now.0) }
     {

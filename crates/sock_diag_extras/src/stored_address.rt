@@ -91,7 +91,6 @@ impl StoredAddress {
     /// Returns the IP address: the IPv4 address in `front` if the family is 2 (`AF_INET`), and the
     /// IPv6 address in `segments` if it is 10 (`AF_INET6`). Returns `None` for any other family.
     pub fn ip(&self) -> Option<IpAddr>
-        // `ip_of address`: this IP address.
         ensures { result ≡ ip_of self.now }
     {
         match self.family {

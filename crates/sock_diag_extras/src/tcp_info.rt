@@ -180,7 +180,6 @@ impl TcpField {
     /// Returns the offset of the field and its width, both in bytes. Of a bit field, these are the
     /// offset and the width of the number that contains it.
     pub fn span(self) -> (usize, usize)
-        // `tcp_span_of field`: its offset and its width, as a table in `specs/TcpFields.antt`.
         ensures { result ≡ tcp_span_of self }
     {
         match self {
@@ -260,8 +259,6 @@ impl TcpField {
     /// Returns the shift and the mask of a bit field: its value is `number >> shift & mask`, where
     /// `number` is the number at its span. Returns `None` if the field is the whole number.
     pub fn bits(self) -> Option<(u32, u64)>
-        // `tcp_bits_of field`: its lowest bit and its number of bits, as a table in
-        // `specs/TcpFields.antt`.
         ensures row { result ≡ option_map shift_and_mask (tcp_bits_of self) }
         ensures shift { IfSome result (λ bits. bits.0 < 64) }
     {
@@ -303,9 +300,6 @@ impl<'a> TcpInfoBytes<'a> {
     /// Returns the value of the field, a little-endian number or bits of one. Returns `None` if the
     /// bytes end before the end of the number.
     pub fn get(&self, field: TcpField) -> Option<u64>
-        // `tcp_span_of field`: the offset and the width of the number. `end_of_span span`: the
-        // offset of the byte after it. `tcp_value_in field bytes`: this number, or the bits of it
-        // that the field is.
         ensures { SomeIff result
             (end_of_span (tcp_span_of field) ≤ length (tcp_info_bytes self.now))
             (tcp_value_in field (tcp_info_bytes self.now)) }
@@ -321,8 +315,6 @@ impl<'a> TcpInfoBytes<'a> {
     /// Returns the record that the port parses from the first 232 bytes. Returns `None` if there
     /// are fewer bytes.
     pub fn whole(&self) -> Option<TcpInfo>
-        // `result_ok r`: the value of `r`, or `None` for an error. `parse_record tcp_info tt
-        // bytes`: the record of the layout `tcp_info` at the start of the bytes, or its error.
         ensures { result ≡ result_ok (parse_record tcp_info tt (tcp_info_bytes self.now)) }
     {
         TcpInfo::parse(self.bytes).ok()

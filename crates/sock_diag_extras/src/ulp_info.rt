@@ -1,4 +1,6 @@
-//! The upper layer protocol of a TCP connection: INET_DIAG_ULP_INFO.
+//! The upper layer protocol of a TCP connection: INET_DIAG_ULP_INFO. `decode_attribute []` in the
+//! contracts knows no attribute type, so every value is accepted, and only the framing can be
+//! invalid.
 
 ghost use Rattle.std.specs.Prelude.{◌≡◌, ◌↔◌, ℕ, List, [], IfErr, IfOk, IsSome, IsTrue, Some};
 ghost use Rattle.std.specs.Prelude.{option_copied, option_map};
@@ -28,9 +30,6 @@ pub struct UlpInfo<'a>(pub NestedNlas<'a>);
 impl<'a> UlpInfo<'a> {
     /// Borrows the attributes in the value. Returns the first framing error, if there is one.
     pub fn parse(value: &'a [u8]) -> Result<UlpInfo<'a>, DecodeError>
-        // `nested_bytes info.0`: the bytes of the attributes. `HasAttributeError decode bytes e`:
-        // `e` is the first error in the bytes. `decode_attribute []`: no attribute type is known,
-        // so every value is accepted, and only the framing can be invalid.
         ensures kept { IfOk result (λ info. nested_bytes info.0 ≡ value.entry.now) }
         ensures error { IfErr result (HasAttributeError (decode_attribute []) value.entry.now) }
     {
@@ -41,9 +40,6 @@ impl<'a> UlpInfo<'a> {
     /// without one terminating NUL if it has one. Returns `Ok(None)` if there is none. A name that
     /// is not valid UTF-8 is `NotUtf8`.
     pub fn name(&self) -> Result<Option<&'a str>, DecodeError>
-        // `map_ok option_copied result`: the returned text as a list of bytes, or the error.
-        // `nested_text_in kind bytes`: the bytes of the text in the first attribute of this kind,
-        // `Ok None` if there is none, or the error.
         ensures { map_ok option_copied result
             ≡ nested_text_in INET_ULP_INFO_NAME (nested_bytes self.now.0) }
     {
@@ -54,13 +50,8 @@ impl<'a> UlpInfo<'a> {
     /// `INET_ULP_INFO_TLS`, or `Ok(None)` if there is none. Returns the first framing error in its
     /// value, if there is one.
     pub fn tls(&self) -> Result<Option<TlsInfo<'a>>, DecodeError>
-        // `nested_bytes tls.0`: the bytes of the returned attributes. `first_value_in kind bytes`:
-        // the value of the first attribute of this kind in the bytes, or `None`. The result is
-        // `None` if and only if that is.
         ensures kept { IfOk result (λ found. option_map (λ tls. nested_bytes tls.0) found
             ≡ first_value_in INET_ULP_INFO_TLS (nested_bytes self.now.0)) }
-        // `value`: the value of the attribute, in which the framing error is. `decode_attribute
-        // []`: no attribute type is known, so every nested value is accepted.
         ensures error { IfErr result (λ e. (value : List ℕ)
             × (first_value_in INET_ULP_INFO_TLS (nested_bytes self.now.0) ≡ Some value)
             × HasAttributeError (decode_attribute []) value e) }
@@ -75,13 +66,8 @@ impl<'a> UlpInfo<'a> {
     /// the first `INET_ULP_INFO_MPTCP`, or `Ok(None)` if there is none. Returns the first framing
     /// error in its value, if there is one.
     pub fn mptcp(&self) -> Result<Option<SubflowInfo<'a>>, DecodeError>
-        // `nested_bytes subflow.0`: the bytes of the returned attributes. `first_value_in kind
-        // bytes`: the value of the first attribute of this kind in the bytes, or `None`. The result
-        // is `None` if and only if that is.
         ensures kept { IfOk result (λ found. option_map (λ subflow. nested_bytes subflow.0) found
             ≡ first_value_in INET_ULP_INFO_MPTCP (nested_bytes self.now.0)) }
-        // `value`: the value of the attribute, in which the framing error is. `decode_attribute
-        // []`: no attribute type is known, so every nested value is accepted.
         ensures error { IfErr result (λ e. (value : List ℕ)
             × (first_value_in INET_ULP_INFO_MPTCP (nested_bytes self.now.0) ≡ Some value)
             × HasAttributeError (decode_attribute []) value e) }
@@ -119,8 +105,6 @@ impl TlsField {
 
     /// Returns the kind of the field's attribute, and the length of its value in bytes.
     pub fn row(self) -> (u16, usize)
-        // `tls_row field`: the kind and the length of the field, as a table in
-        // `specs/UlpInfo.antt`.
         ensures { result ≡ tls_row self }
     {
         match self {
@@ -140,9 +124,6 @@ impl TlsInfo<'_> {
     /// or `Ok(None)` if there is none. A length of the attribute's value other than the field's
     /// (`row`) is `WrongLength`, with the kind.
     pub fn get(&self, field: TlsField) -> Result<Option<u64>, DecodeError>
-        // `tls_row field`: what `row` returns. `nested_number_in (kind, width) bytes`: the
-        // little-endian number in the first attribute of this kind, whose value has `width` bytes,
-        // `Ok None` if there is none, or the error.
         ensures { result ≡ nested_number_in (tls_row field) (nested_bytes self.now.0) }
     {
         let (kind, width) = field.row();
@@ -151,8 +132,6 @@ impl TlsInfo<'_> {
 
     /// Returns whether files are sent without a copy: whether `TLS_INFO_ZC_RO_TX` is present.
     pub fn sends_without_copy(&self) -> bool
-        // `first_value_in kind bytes`: the value of the first attribute of this kind in the bytes,
-        // or `None`. It may be empty.
         ensures { IsTrue result
             ↔ IsSome (first_value_in TLS_INFO_ZC_RO_TX (nested_bytes self.now.0)) }
     {
@@ -162,8 +141,6 @@ impl TlsInfo<'_> {
     /// Returns whether received records are expected to have no padding: whether
     /// `TLS_INFO_RX_NO_PAD` is present.
     pub fn expects_no_padding(&self) -> bool
-        // `first_value_in kind bytes`: the value of the first attribute of this kind in the bytes,
-        // or `None`. It may be empty.
         ensures { IsTrue result
             ↔ IsSome (first_value_in TLS_INFO_RX_NO_PAD (nested_bytes self.now.0)) }
     {
@@ -209,8 +186,6 @@ impl SubflowField {
 
     /// Returns the kind of the field's attribute, and the length of its value in bytes.
     pub fn row(self) -> (u16, usize)
-        // `subflow_row field`: the kind and the length of the field, as a table in
-        // `specs/UlpInfo.antt`.
         ensures { result ≡ subflow_row self }
     {
         match self {
@@ -235,9 +210,6 @@ impl SubflowInfo<'_> {
     /// or `Ok(None)` if there is none. A length of the attribute's value other than the field's
     /// (`row`) is `WrongLength`, with the kind.
     pub fn get(&self, field: SubflowField) -> Result<Option<u64>, DecodeError>
-        // `subflow_row field`: what `row` returns. `nested_number_in (kind, width) bytes`: the
-        // little-endian number in the first attribute of this kind, whose value has `width` bytes,
-        // `Ok None` if there is none, or the error.
         ensures { result ≡ nested_number_in (subflow_row field) (nested_bytes self.now.0) }
     {
         let (kind, width) = field.row();
