@@ -99,7 +99,7 @@ module _ {D : Type 0} where
 
   -- `memory_row kind fields`: the row of the memory counters `SK_MEMINFO_..` of an attribute of
   -- this kind: seven to nine `__u32`, little-endian. Fewer than 28 bytes are rejected with
-  -- BufferTooSmall. Their parser has no parameter (`tt`).
+  -- BufferTooSmall.
   abbrev pub memory_row : ℕ → (D → Memory) → StructRow D
   memory_row kind fields = record {
     Value = MemInfo;

@@ -188,7 +188,7 @@ module _ {D : Type 0} (family : Family D) where
 
   -- `AgreesWithCodec family R`: each payload for which the strict call returns details parses by
   -- the codec of `R`, as some value `v`; and each error of the strict call is an error by this
-  -- codec. So the call and the codec accept the same payloads. The codec has no parameter (`tt`).
+  -- codec. So the call and the codec accept the same payloads.
   abbrev pub AgreesWithCodec : ResponseSpec → Type 0
   AgreesWithCodec R =
       ((payload : List ℕ) (d : D) → AreDetailsOf family payload d

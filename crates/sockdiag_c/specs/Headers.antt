@@ -54,8 +54,7 @@ inet_header_of h = record {
   inode = h.inode;
 }
 
--- `unix_check payload`: the check of a reply about a UNIX socket, which stores its header. The
--- codec of the reply has no parameter (`tt`).
+-- `unix_check payload`: the check of a reply about a UNIX socket, which stores its header.
 abbrev pub unix_check : List ℕ → Check (ReplyValue unix_response_spec) UnixHeader
 unix_check payload = record {
   parses = (response_codec unix_response_spec).parses payload tt;
@@ -64,7 +63,6 @@ unix_check payload = record {
 }
 
 -- `inet_check payload`: the check of a reply about an IPv4 or IPv6 socket, which stores its header.
--- The codec of the reply has no parameter (`tt`).
 abbrev pub inet_check : List ℕ → Check (ReplyValue inet_response_spec) InetHeader
 inet_check payload = record {
   parses = (response_codec inet_response_spec).parses payload tt;

@@ -41,8 +41,7 @@ inet_rows =
     ∷ []
 
 -- Replies about IPv4 and IPv6 sockets. Each row rejects an attribute that `inet_attribute_set`
--- rejects, also one without a field, such as a short `INET_DIAG_INFO`. The parser of the header has
--- no parameter (`tt`).
+-- rejects, also one without a field, such as a short `INET_DIAG_INFO`.
 abbrev pub inet_family : Family InetDetails
 inet_family = record {
   Header = InetHeader;

@@ -12,8 +12,8 @@ use Rattle.sockdiag_c.specs.Details.{bytes_row, memory_row, u32_row}
 use Rattle.sockdiag_c.specs.Family.{Family}
 use Rattle.sockdiag_c.specs.declared.netlink_details.NetlinkDetails.{NetlinkDetails}
 
--- Replies about netlink sockets: the header, of `netlink_header.least` bytes, whose parser has no
--- parameter (`tt`); and the memory counters, the bytes of the groups, and the flags
+-- Replies about netlink sockets: the header, of `netlink_header.least` bytes; and the memory
+-- counters, the bytes of the groups, and the flags
 abbrev pub netlink_family : Family NetlinkDetails
 netlink_family = record {
   Header = NetlinkResponseHeader;

@@ -43,9 +43,8 @@ zero_packet_ring = record {
   features = 0;
 }
 
--- Replies about packet sockets. The header has `packet_header.least` bytes, and its parser has no
--- parameter (`tt`). `parse_packet_ring kind` parses the record of a ring; the kind is for errors,
--- which contain it.
+-- Replies about packet sockets. The header has `packet_header.least` bytes.
+-- `parse_packet_ring kind` parses the record of a ring; the kind is for errors, which contain it.
 abbrev pub packet_family : Family PacketDetails
 packet_family = record {
   Header = PacketResponseHeader;

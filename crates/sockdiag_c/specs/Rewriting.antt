@@ -64,7 +64,7 @@ ParsesAndWrites {V} conversion call =
     × (call.outcome ≡ outcome_struct (error_code e) 0) × WritesNothing call)
 
 -- `reply_conversion R payload`: the payload is parsed as a reply by the codec of `R`, and the value
--- is serialized. The codec has no parameter (`tt`).
+-- is serialized.
 abbrev pub reply_conversion : (R : ResponseSpec) → List ℕ → Conversion (ReplyValue R)
 reply_conversion R payload = record {
   parses = (response_codec R).parses payload tt;
@@ -76,7 +76,6 @@ reply_conversion R payload = record {
 -- `IsCanonicalForm R payload written`: `written` is the canonical form of the payload, for replies
 -- of `R`. That is a statement about all replies `d` (bytes, each below 256) that parse as a
 -- writable value `w`: `w` serializes to `written` if and only if `d` is equivalent to the payload.
--- The codec has no parameter (`tt`).
 abbrev pub IsCanonicalForm : ResponseSpec → List ℕ → List ℕ → Type 0
 IsCanonicalForm R payload written =
     (d : List ℕ) (w : ReplyValue R) → IsBytes d → (response_codec R).parses d tt w

@@ -52,8 +52,7 @@ unix_rows =
     ∷ []
 
 -- Replies about UNIX sockets. Each row rejects an attribute that `unix_attribute_set` rejects, also
--- one without a field, such as a `UNIX_DIAG_ICONS` whose length is not a multiple of 4. The parser
--- of the header has no parameter (`tt`).
+-- one without a field, such as a `UNIX_DIAG_ICONS` whose length is not a multiple of 4.
 abbrev pub unix_family : Family UnixDetails
 unix_family = record {
   Header = UnixHeader;

@@ -7,9 +7,9 @@ use Rattle.sock_diag_families.specs.declared.vsock.response.VsockResponseHeader.
 }
 use Rattle.sockdiag_c.specs.Family.{Family}
 
--- Replies about vsock sockets. The struct is the header itself, of `vsock_header.least` bytes,
--- whose parser has no parameter (`tt`). There are no rows (`[]`), since Linux adds no attributes:
--- if a reply has some, only their framing is checked.
+-- Replies about vsock sockets. The struct is the header itself, of `vsock_header.least` bytes.
+-- There are no rows (`[]`), since Linux adds no attributes: if a reply has some, only their framing
+-- is checked.
 abbrev pub vsock_family : Family VsockResponseHeader
 vsock_family = record {
   Header = VsockResponseHeader;

@@ -47,8 +47,7 @@ zero_xdp_statistics = record {
   send_ring_empty = 0;
 }
 
--- Replies about XDP sockets. The header has `xdp_header.least` bytes, and its parser has no
--- parameter (`tt`).
+-- Replies about XDP sockets. The header has `xdp_header.least` bytes.
 abbrev pub xdp_family : Family XdpDetails
 xdp_family = record {
   Header = XdpResponseHeader;

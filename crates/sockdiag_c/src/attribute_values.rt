@@ -36,7 +36,6 @@ const _: () = prove!(std::mem::size_of::<StoredAddress>() == 128);
 /// or 0 if the value has another length, and then the user id is unchanged.
 #[unsafe(no_mangle)]
 pub extern "C" fn sockdiag_get_uid(value: &[u8], uid: &mut u32) -> u32
-    // `IsStoredIf`: if the value has 4 bytes, its number is stored, and the result is 1; else 0.
     ensures { IsStoredIf (length value.now ≡ 4) (little_number 4 value.now)
         record { old = uid.old; new = uid.new; returned = result } }
 {
@@ -48,7 +47,6 @@ pub extern "C" fn sockdiag_get_uid(value: &[u8], uid: &mut u32) -> u32
 /// is unchanged.
 #[unsafe(no_mangle)]
 pub extern "C" fn sockdiag_get_cgroup_id(value: &[u8], id: &mut u64) -> u32
-    // `IsStoredIf`: if the value has 8 bytes, its number is stored, and the result is 1; else 0.
     ensures { IsStoredIf (length value.now ≡ 8) (little_number 8 value.now)
         record { old = id.old; new = id.new; returned = result } }
 {
@@ -59,8 +57,6 @@ pub extern "C" fn sockdiag_get_cgroup_id(value: &[u8], id: &mut u64) -> u32
 /// bytes. Returns 1; or 0 if the value is shorter, and then the options are unchanged.
 #[unsafe(no_mangle)]
 pub extern "C" fn sockdiag_get_socket_options(value: &[u8], options: &mut SocketOptions) -> u32
-    // `IsStoredIf`: if the value has at least the size of `socket_options`, the table of the
-    // struct's fields, what is parsed by this table is stored, and the result is 1; else 0.
     ensures { IsStoredIf (socket_options.size ≤ length value.now)
         (parse_by_table socket_options value.now)
         record { old = options.old; new = options.new; returned = result } }
@@ -73,8 +69,6 @@ pub extern "C" fn sockdiag_get_socket_options(value: &[u8], options: &mut Socket
 /// struct is unchanged.
 #[unsafe(no_mangle)]
 pub extern "C" fn sockdiag_get_vegas_info(value: &[u8], info: &mut VegasInfo) -> u32
-    // `IsStoredIf`: if the value has at least the size of `vegas_info`, the table of the struct's
-    // fields, what is parsed by this table is stored, and the result is 1; else 0.
     ensures { IsStoredIf (vegas_info.size ≤ length value.now)
         (parse_by_table vegas_info value.now)
         record { old = info.old; new = info.new; returned = result } }
@@ -86,8 +80,6 @@ pub extern "C" fn sockdiag_get_vegas_info(value: &[u8], info: &mut VegasInfo) ->
 /// 1; or 0 if the value is shorter, and then the struct is unchanged.
 #[unsafe(no_mangle)]
 pub extern "C" fn sockdiag_get_dctcp_info(value: &[u8], info: &mut DctcpInfo) -> u32
-    // `IsStoredIf`: if the value has at least the size of `dctcp_info`, the table of the struct's
-    // fields, what is parsed by this table is stored, and the result is 1; else 0.
     ensures { IsStoredIf (dctcp_info.size ≤ length value.now)
         (parse_by_table dctcp_info value.now)
         record { old = info.old; new = info.new; returned = result } }
@@ -99,8 +91,6 @@ pub extern "C" fn sockdiag_get_dctcp_info(value: &[u8], info: &mut DctcpInfo) ->
 /// or 0 if the value is shorter, and then the struct is unchanged.
 #[unsafe(no_mangle)]
 pub extern "C" fn sockdiag_get_bbr_info(value: &[u8], info: &mut BbrInfo) -> u32
-    // `IsStoredIf`: if the value has at least the size of `bbr_info`, the table of the struct's
-    // fields, what is parsed by this table is stored, and the result is 1; else 0.
     ensures { IsStoredIf (bbr_info.size ≤ length value.now)
         (parse_by_table bbr_info value.now)
         record { old = info.old; new = info.new; returned = result } }
@@ -117,9 +107,6 @@ pub extern "C" fn sockdiag_next_md5_signature(
     cursor: &mut Cursor,
     signature: &mut Md5Signature,
 ) -> u32
-    // `StepsOverItem size parse`: if `size` bytes are left at the cursor, the item that `parse`
-    // makes of them is stored, and 1 returned; else nothing is written, and 0 returned.
-    // `md5_signature`: the table of the fields of the struct.
     ensures { StepsOverItem md5_signature.size (parse_by_table md5_signature) record {
       bytes = value.now;
       old_cursor = cursor.old;
@@ -141,9 +128,6 @@ pub extern "C" fn sockdiag_next_address(
     cursor: &mut Cursor,
     address: &mut StoredAddress,
 ) -> u32
-    // `StepsOverItem size parse`: if `size` bytes are left at the cursor, the item that `parse`
-    // makes of them is stored, and 1 returned; else nothing is written, and 0 returned.
-    // `stored_address`: the table of the fields of the struct.
     ensures { StepsOverItem stored_address.size (parse_by_table stored_address) record {
       bytes = value.now;
       old_cursor = cursor.old;
@@ -162,8 +146,6 @@ pub extern "C" fn sockdiag_next_address(
 /// nothing is written. The time for a whole list is proportional to its length.
 #[unsafe(no_mangle)]
 pub extern "C" fn sockdiag_next_pending(value: &[u8], cursor: &mut Cursor, inode: &mut u32) -> u32
-    // `StepsOverItem size parse`: if `size` bytes are left at the cursor, the item that `parse`
-    // makes of them is stored, and 1 returned; else nothing is written, and 0 returned.
     ensures { StepsOverItem 4 (little_number 4) record {
       bytes = value.now;
       old_cursor = cursor.old;
@@ -180,9 +162,6 @@ pub extern "C" fn sockdiag_next_pending(value: &[u8], cursor: &mut Cursor, inode
 // Stores the record at the cursor, and advances the cursor past it. Returns 1. Returns 0 if fewer
 // bytes are left; then nothing is written.
 fn next_record<T: AttributeRecord + Copy>(value: &[u8], cursor: &mut Cursor, found: &mut T) -> u32
-    // `StepsOverItem size parse`: if `size` bytes are left at the cursor, the item that `parse`
-    // makes of them is stored, and 1 returned; else nothing is written, and 0 returned. `T.layout`:
-    // the table of the fields of the record.
     ensures { StepsOverItem T.layout.size (parse_by_table T.layout) record {
       bytes = value.now;
       old_cursor = cursor.old;
@@ -199,8 +178,6 @@ fn next_record<T: AttributeRecord + Copy>(value: &[u8], cursor: &mut Cursor, fou
 // Returns all bytes from the cursor on, and advances the cursor by `size` bytes. Returns `None` if
 // fewer bytes are left; then the cursor is unchanged.
 fn bytes_at_cursor<'a>(value: &'a [u8], cursor: &mut Cursor, size: usize) -> Option<&'a [u8]>
-    // `left`: the bytes from the cursor on. The first part of `MatchOption` is about `None`, the
-    // second about `Some(bytes)`.
     ensures { let left = bytes_after_cursor value.entry.now cursor.old in
         MatchOption result ((length left < size) × (cursor.new ≡ cursor.old))
         (λ bytes. (bytes.now ≡ left) × (size ≤ length left)

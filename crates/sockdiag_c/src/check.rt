@@ -40,9 +40,6 @@ pub(crate) fn store_parsed<T: Copy>(parsed: Result<T, DecodeError>, target: &mut
 /// attributes, without a check of their values.
 #[unsafe(no_mangle)]
 pub extern "C" fn sockdiag_check_unix_reply(payload: &[u8], header: &mut UnixHeader) -> u32
-    // `IsCheckResult`: the header is stored, and the result is 0; or nothing is stored, and the
-    // result is the code of the first error. `unix_check`: the header or the error, by the codec of
-    // these replies.
     ensures { IsCheckResult (unix_check payload.now)
         record { old = header.old; new = header.new; returned = result } }
 {
@@ -65,9 +62,6 @@ pub extern "C" fn sockdiag_check_unix_reply(payload: &[u8], header: &mut UnixHea
 /// - other attributes: `sockdiag_next_attribute`, which does not check their values.
 #[unsafe(no_mangle)]
 pub extern "C" fn sockdiag_check_inet_reply(payload: &[u8], header: &mut InetHeader) -> u32
-    // `IsCheckResult`: the header is stored, and the result is 0; or nothing is stored, and the
-    // result is the code of the first error. `inet_check`: the header or the error, by the codec of
-    // these replies.
     ensures { IsCheckResult (inet_check payload.now)
         record { old = header.old; new = header.new; returned = result } }
 {
@@ -87,9 +81,6 @@ pub extern "C" fn sockdiag_check_message(
     message_type: u16,
     reply: &mut Reply,
 ) -> u32
-    // `IsCheckResult`: the struct is stored, and the result is 0; or nothing is stored, and the
-    // result is the code of the first error. `message_check`: the struct with the kind and the
-    // header of the reply, and the other header of `reply.old`; or the error.
     ensures { IsCheckResult (message_check payload.now message_type reply.old)
         record { old = reply.old; new = reply.new; returned = result } }
 {

@@ -1,6 +1,7 @@
 //! Numbers and texts of a reply, and how its attributes are read into a struct of C, in one pass.
 //! The table `family` of [`ReplyDetails`] says how: it has the parser and the length of the header,
-//! and a row for each field.
+//! and a row for each field. In the contracts `o` is the number before a call, or None; nothing is
+//! stated of a struct with other contents, which does not occur. No error has the code 0.
 
 ghost use Rattle.std.specs.Prelude.{◌≡◌, ◌≢◌, ℕ, [], drop, Err, IfErr, IfOk, None, Ok, Option};
 ghost use Rattle.std.specs.Prelude.{Some};
@@ -62,9 +63,6 @@ pub(crate) const BYTES: u32 = 3;
 impl Number {
     /// Sets the number, unless it is set already.
     pub(crate) fn set(&mut self, value: u32)
-        // `o`: the number before the call, or None. `optional_number o`: the struct that has it;
-        // nothing is stated of other structs, which do not occur. `option_or`: the first
-        // number, or else the second.
         ensures { (o : Option ℕ) → self.old ≡ optional_number o
             → self.new ≡ optional_number (option_or o (Some value)) }
     {
@@ -76,14 +74,9 @@ impl Number {
     /// Parses the value of an attribute of this kind as a little-endian `u32`, and sets the number,
     /// unless it is set already. Fails if the value has another length than 4 bytes.
     pub(crate) fn set_u32(&mut self, value: &[u8], kind: u16) -> Result<(), DecodeError>
-        // `o`: the number before the call, or None. `optional_number o`: the struct that has it.
-        // `option_or`: the first number, or else the second. `result_ok`: the value of a
-        // result, or None. `number_of_width (Some kind) 4`: the parser of a little-endian `u32`,
-        // whose error has this kind.
         ensures number { (o : Option ℕ) → self.old ≡ optional_number o → self.new
             ≡ optional_number (option_or o
             (result_ok (number_of_width (Some kind) 4 value.now))) }
-        // `result_err`: the error of a result, or None.
         ensures error { result_err result ≡ result_err (number_of_width (Some kind) 4 value.now) }
     {
         self.set(parse_u32(value).map_err(|error| error.with_kind(kind))?);
@@ -108,8 +101,6 @@ impl<'a> Text<'a> {
     pub(crate) fn set(&mut self, kind: u32, bytes: &'a [u8])
         // The kind 0 denotes that there is no text.
         requires { kind ≢ 0 }
-        // `text_parts`: the kind and the bytes of the text, or None. `option_or`: the first
-        // text, or else the second.
         ensures { text_parts self.new
             ≡ option_or (text_parts self.old) (Some (kind, bytes.entry.now)) }
     {
@@ -121,8 +112,6 @@ impl<'a> Text<'a> {
     /// Sets the text to these bytes, with the kind `BYTES`, unless it is set already. Always
     /// returns `Ok`, since the bytes are not checked.
     pub(crate) fn set_bytes(&mut self, bytes: &'a [u8]) -> Result<(), DecodeError>
-        // `text_parts`: the kind and the bytes of the text, or None. `option_or`: the first
-        // text, or else the second.
         ensures text { text_parts self.new
             ≡ option_or (text_parts self.old) (Some (BYTES, bytes.entry.now)) }
         ensures error { result ≡ Ok tt }
@@ -141,11 +130,9 @@ pub(crate) trait ReplyDetails<'a>: Copy {
     /// Parses the header. Returns the struct with the header and without values, and the bytes
     /// after the header. Fails with the error of the header.
     fn parse_header(payload: &'a [u8]) -> Result<(Self, &'a [u8]), DecodeError>
-        // The header in the struct is the one that the parser of the table returns.
         ensures header { IfOk result (λ (details, rest). family.parse_header payload.entry.now
             ≡ Ok (family.header details)) }
-        // `HasValues rows details []`: the fields of the rows are zeros, as no attribute (`[]`) was
-        // parsed yet.
+        // The fields of the rows are zeros, as no attribute was parsed yet (`[]`).
         ensures values { IfOk result (λ (details, rest). HasValues family.rows details []) }
         ensures rest { IfOk result (λ (details, rest). rest.now
             ≡ drop family.header_size payload.entry.now) }
@@ -155,12 +142,8 @@ pub(crate) trait ReplyDetails<'a>: Copy {
     /// them. Fails with the error of the attribute.
     fn set_value(&mut self, nla: &NlaBuffer<'a>) -> Result<(), DecodeError>
         ensures header { family.header self.new ≡ family.header self.old }
-        // `AddsValues`: the fields of the rows have the values of the attribute, unless they were
-        // set before. `buffered_attribute nla`: the attribute in `nla`.
         ensures values { AddsValues family.rows (buffered_attribute nla.now)
             record { old = self.old; new = self.new } }
-        // `result_err`: the error of a result, or None. `value_error`: the error with which a row
-        // rejects the attribute, or None.
         ensures error { result_err result
             ≡ value_error family.rows (buffered_attribute nla.now) };
 }
@@ -168,8 +151,6 @@ pub(crate) trait ReplyDetails<'a>: Copy {
 /// Stores the contents of the reply in the details. Returns 0, or the code of the first error; then
 /// the details are unchanged.
 pub(crate) fn store_details<'a, T: ReplyDetails<'a>>(payload: &'a [u8], details: &mut T) -> u32
-    // Result 0: the reply has no error, and the struct has its header and values, by the table
-    // `T.family`. Else the result is the code (`IsCodeOf`) of the first error; no code is 0.
     ensures details { result ≡ 0 → AreDetailsOf T.family payload.entry.now details.new }
     ensures error { result ≢ 0 → IsCodeOf (IsFirstError T.family payload.entry.now) result }
     ensures unchanged { result ≢ 0 → details.new ≡ details.old }
@@ -179,8 +160,6 @@ pub(crate) fn store_details<'a, T: ReplyDetails<'a>>(payload: &'a [u8], details:
 
 /// Parses the reply, and returns its contents, or fails with its first error.
 pub(crate) fn strict_details<'a, T: ReplyDetails<'a>>(payload: &'a [u8]) -> Result<T, DecodeError>
-    // `AreDetailsOf`: the reply has no error, and the returned struct has its header and values, by
-    // the table `T.family`.
     ensures details { IfOk result (AreDetailsOf T.family payload.entry.now) }
     ensures error { IfErr result (IsFirstError T.family payload.entry.now) }
 {
@@ -201,9 +180,6 @@ pub(crate) fn store_lenient_details<'a, T: ReplyDetails<'a>>(
     details: &mut T,
     rejections: &mut Rejections,
 ) -> u32
-    // Result 0: the details have the header and the first valid values, and the rejections the
-    // codes of the errors, by the table `T.family`. Else the result is the code (`IsCodeOf`) of the
-    // error of the header; no code is 0.
     ensures details { result ≡ 0
         → LenientDetailsAre T.family payload.entry.now (details.new, rejections.new) }
     ensures error { result ≢ 0 → IsCodeOf (IsHeaderError T.family payload.entry.now) result }
@@ -219,8 +195,6 @@ fn lenient_details<'a, T: ReplyDetails<'a>>(
     payload: &'a [u8],
     rejections: &mut Rejections,
 ) -> Result<T, DecodeError>
-    // `LenientDetailsAre`: the returned struct has the header and the first valid values, and the
-    // rejections the codes of the errors, by the table `T.family`.
     ensures details { IfOk result (λ details.
         LenientDetailsAre T.family payload.entry.now (details, rejections.new)) }
     ensures error { IfErr result (IsHeaderError T.family payload.entry.now) }
@@ -237,10 +211,9 @@ fn lenient_details<'a, T: ReplyDetails<'a>>(
 // set already, and stores the errors of the others. The details have to be without values before
 // the call, as `parse_header` returns them. Earlier contents of the errors are discarded.
 fn set_values<'a, T: ReplyDetails<'a>>(bytes: &'a [u8], details: &mut T, errors: &mut Errors)
-    // `HasValues rows details []`: the details have no values (`[]`: of no attribute). `parts`: the
-    // header that the details have, and the attributes and the framing error of the bytes
-    // (`SplitsWithError`). After the call the details have the values of these attributes, and the
-    // errors have their codes (`HasRejections`) and the first error.
+    // If the details have no values (`[]`) before the call: `parts` are the header that they have,
+    // and the attributes and the framing error of the bytes. After the call the details have the
+    // values of these attributes, and the errors have their codes and the first one.
     ensures { HasValues T.family.rows details.old [] → (parts : ReplyParts T.family.Header)
         × SplitsWithError parts.attributes parts.framing_error bytes.entry.now
         × (parts.header ≡ T.family.header details.old)

@@ -33,15 +33,9 @@ pub extern "C" fn sockdiag_find_error_attributes(
     flags: u16,
     cursor: &mut Cursor,
 ) -> u32
-    // `SetsTargetIf condition IsTarget`: if the condition holds, the cursor is set to a target, and
-    // the result is 1; else it is 0. The payload has to contain the request (`HasCompleteRequest`).
-    // From the target on (`bytes_after_cursor`) it has the attributes after the request
-    // (`error_attribute_bytes`).
     ensures error { message_type ≡ NLMSG_ERROR → SetsTargetIf (HasCompleteRequest flags payload.now)
         (λ target. bytes_after_cursor payload.now target ≡ error_attribute_bytes flags payload.now)
         record { old = cursor.old; new = cursor.new; returned = result } }
-    // The payload has to contain an error number. From the target on it has the attributes after
-    // the 4 bytes of this number (`ack_attribute_bytes_from`).
     ensures done { message_type ≡ NLMSG_DONE
         → SetsTargetIf (IsSome (leading_error_number payload.now))
         (λ target. bytes_after_cursor payload.now target
@@ -60,8 +54,6 @@ pub extern "C" fn sockdiag_find_error_attributes(
 // Sets the cursor to the attributes, which end the payload of an acknowledgement. Returns 1; or 0
 // if there is no acknowledgement, and then the cursor is unchanged.
 fn point_at(found: Option<AckView<'_>>, payload: &[u8], cursor: &mut Cursor) -> u32
-    // The first part is about `None`, the second about `Some(ack)`. `ack_attributes`: the bytes of
-    // the attributes.
     ensures { MatchOption found.entry ((result ≡ 0) × (cursor.new ≡ cursor.old))
         (λ ack. (result ≡ 1)
         × (cursor.new.offset ≡ length payload.now - length (ack_attributes ack))) }

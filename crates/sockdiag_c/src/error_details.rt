@@ -137,8 +137,6 @@ fn details_of(error: DecodeError) -> ErrorDetails
 // `parsed` is `Ok`; then nothing is stored.
 #[inline(always)]
 fn explain<T: Drop>(parsed: Result<T, DecodeError>, error: &mut ErrorDetails) -> u32
-    // `error_code e`: the code of the error. `error_details_of e`: the struct with its code and its
-    // fields.
     ensures { MatchResult parsed (λ _. (result ≡ 0) × (error.new ≡ error.old))
         (λ e. (result ≡ error_code e) × (error.new ≡ error_details_of e)) }
 {
@@ -157,9 +155,6 @@ fn explain<T: Drop>(parsed: Result<T, DecodeError>, error: &mut ErrorDetails) ->
 /// and then the error is unchanged.
 #[unsafe(no_mangle)]
 pub extern "C" fn sockdiag_unix_explain(payload: &[u8], error: &mut ErrorDetails) -> u32
-    // `IsExplained parses rejects`: the payload has a value, and nothing is stored; or it has a
-    // first error, which is stored. `response_codec`: the codec of these replies, which has no
-    // parameter (`tt`).
     ensures { IsExplained ((response_codec unix_response_spec).parses payload.now tt)
         ((response_codec unix_response_spec).rejects payload.now tt)
         record { old = error.old; new = error.new; returned = result } }
@@ -173,9 +168,6 @@ pub extern "C" fn sockdiag_unix_explain(payload: &[u8], error: &mut ErrorDetails
 /// accepted, and then the error is unchanged.
 #[unsafe(no_mangle)]
 pub extern "C" fn sockdiag_inet_explain(payload: &[u8], error: &mut ErrorDetails) -> u32
-    // `IsExplained parses rejects`: the payload has a value, and nothing is stored; or it has a
-    // first error, which is stored. `response_codec`: the codec of these replies, which has no
-    // parameter (`tt`).
     ensures { IsExplained ((response_codec inet_response_spec).parses payload.now tt)
         ((response_codec inet_response_spec).rejects payload.now tt)
         record { old = error.old; new = error.new; returned = result } }
@@ -188,8 +180,6 @@ pub extern "C" fn sockdiag_inet_explain(payload: &[u8], error: &mut ErrorDetails
 /// reply is accepted, and then the error is unchanged.
 #[unsafe(no_mangle)]
 pub extern "C" fn sockdiag_netlink_explain(payload: &[u8], error: &mut ErrorDetails) -> u32
-    // `IsExplained`: the reply has details by the table `netlink_family`, and nothing is stored; or
-    // it has a first error, which is stored, and its code returned.
     ensures { IsExplained (AreDetailsOf netlink_family payload.now)
         (IsFirstError netlink_family payload.now)
         record { old = error.old; new = error.new; returned = result } }
@@ -202,8 +192,6 @@ pub extern "C" fn sockdiag_netlink_explain(payload: &[u8], error: &mut ErrorDeta
 /// reply is accepted, and then the error is unchanged.
 #[unsafe(no_mangle)]
 pub extern "C" fn sockdiag_packet_explain(payload: &[u8], error: &mut ErrorDetails) -> u32
-    // `IsExplained`: the reply has details by the table `packet_family`, and nothing is stored; or
-    // it has a first error, which is stored, and its code returned.
     ensures { IsExplained (AreDetailsOf packet_family payload.now)
         (IsFirstError packet_family payload.now)
         record { old = error.old; new = error.new; returned = result } }
@@ -216,8 +204,6 @@ pub extern "C" fn sockdiag_packet_explain(payload: &[u8], error: &mut ErrorDetai
 /// is accepted, and then the error is unchanged.
 #[unsafe(no_mangle)]
 pub extern "C" fn sockdiag_vsock_explain(payload: &[u8], error: &mut ErrorDetails) -> u32
-    // `IsExplained`: the reply has details by the table `vsock_family`, and nothing is stored; or
-    // it has a first error, which is stored, and its code returned.
     ensures { IsExplained (AreDetailsOf vsock_family payload.now)
         (IsFirstError vsock_family payload.now)
         record { old = error.old; new = error.new; returned = result } }
@@ -230,8 +216,6 @@ pub extern "C" fn sockdiag_vsock_explain(payload: &[u8], error: &mut ErrorDetail
 /// is accepted, and then the error is unchanged.
 #[unsafe(no_mangle)]
 pub extern "C" fn sockdiag_xdp_explain(payload: &[u8], error: &mut ErrorDetails) -> u32
-    // `IsExplained`: the reply has details by the table `xdp_family`, and nothing is stored; or it
-    // has a first error, which is stored, and its code returned.
     ensures { IsExplained (AreDetailsOf xdp_family payload.now)
         (IsFirstError xdp_family payload.now)
         record { old = error.old; new = error.new; returned = result } }
@@ -249,8 +233,6 @@ pub extern "C" fn sockdiag_message_explain(
     message_type: u16,
     error: &mut ErrorDetails,
 ) -> u32
-    // `IsExplained parses rejects`: the payload has a value, and nothing is stored; or it has a
-    // first error, which is stored. The parameter of the codec is the message type.
     ensures { IsExplained (message_codec.parses payload.now message_type)
         (message_codec.rejects payload.now message_type)
         record { old = error.old; new = error.new; returned = result } }
@@ -264,8 +246,6 @@ pub extern "C" fn sockdiag_message_explain(
 /// error is unchanged.
 #[unsafe(no_mangle)]
 pub extern "C" fn sockdiag_framing_explain(bytes: &[u8], error: &mut ErrorDetails) -> u32
-    // `IsExplained`: the bytes begin with a message (`HasHeader`), and nothing is stored; or they
-    // have a framing error (`IsMessageError`), which is stored.
     ensures { IsExplained (HasHeader bytes.now) (IsMessageError bytes.now)
         record { old = error.old; new = error.new; returned = result } }
 {
@@ -278,8 +258,6 @@ pub extern "C" fn sockdiag_framing_explain(bytes: &[u8], error: &mut ErrorDetail
 /// is unchanged.
 #[unsafe(no_mangle)]
 pub extern "C" fn sockdiag_unix_explain_attribute(bytes: &[u8], error: &mut ErrorDetails) -> u32
-    // `IsItemExplained`: the bytes are empty or begin with an attribute that is valid by
-    // `unix_attribute_set`, and nothing is stored; or the first error is stored.
     ensures { IsItemExplained unix_attribute_set bytes.now
         record { old = error.old; new = error.new; returned = result } }
 {
@@ -292,8 +270,6 @@ pub extern "C" fn sockdiag_unix_explain_attribute(bytes: &[u8], error: &mut Erro
 /// the error is unchanged.
 #[unsafe(no_mangle)]
 pub extern "C" fn sockdiag_inet_explain_attribute(bytes: &[u8], error: &mut ErrorDetails) -> u32
-    // `IsItemExplained`: the bytes are empty or begin with an attribute that is valid by
-    // `inet_attribute_set`, and nothing is stored; or the first error is stored.
     ensures { IsItemExplained inet_attribute_set bytes.now
         record { old = error.old; new = error.new; returned = result } }
 {
@@ -303,8 +279,6 @@ pub extern "C" fn sockdiag_inet_explain_attribute(bytes: &[u8], error: &mut Erro
 // Stores the code and the fields of the error of the first attribute, and returns its code. Returns
 // 0 if the attribute is valid or there are no bytes. `V`: the view of the attributes of a family.
 fn explain_item<'a, V: FamilyView<'a> + Drop>(bytes: &'a [u8], error: &mut ErrorDetails) -> u32
-    // `IsItemExplained`: the bytes are empty or begin with an attribute that is valid by the set of
-    // `V`, and nothing is stored; or the first error is stored.
     ensures { IsItemExplained V.attribute_set bytes.entry.now
         record { old = error.old; new = error.new; returned = result } }
 {

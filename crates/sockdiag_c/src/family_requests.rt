@@ -55,13 +55,10 @@ const _: () = prove!(std::mem::size_of::<VsockRequest>() == 24);
 /// if the family is none of `AF_NETLINK`, `AF_PACKET` and `AF_XDP`; then nothing is written.
 #[unsafe(no_mangle)]
 pub extern "C" fn sockdiag_write_show_request(request: &ShowRequest, buffer: &mut [u8]) -> usize
-    // `WritesMessage len message`: the message, of `len` bytes, is written and `len` returned; or 0
-    // is returned, if the buffer is shorter. `show_message`: a header and the record.
     ensures written { (request.now.family ≡ AF_NETLINK) ⊎ ((request.now.family ≡ AF_PACKET)
         ⊎ (request.now.family ≡ AF_XDP)) → WritesMessage 36
         (show_message request.now.family request.now)
         record { old = buffer.old; new = buffer.new; returned = result } }
-    // For any other family nothing is written.
     ensures family { request.now.family ≢ AF_NETLINK → request.now.family ≢ AF_PACKET
         → request.now.family ≢ AF_XDP → (result ≡ 0) × (buffer.new ≡ buffer.old) }
 {
@@ -78,8 +75,6 @@ pub extern "C" fn sockdiag_write_show_request(request: &ShowRequest, buffer: &mu
 /// written.
 #[unsafe(no_mangle)]
 pub extern "C" fn sockdiag_write_vsock_request(request: &VsockRequest, buffer: &mut [u8]) -> usize
-    // `WritesMessage len message`: the message, of `len` bytes, is written and `len` returned; or 0
-    // is returned, if the buffer is shorter. `vsock_message`: a header and the record.
     ensures { WritesMessage 40 (vsock_message request.now)
         record { old = buffer.old; new = buffer.new; returned = result } }
 {
@@ -93,8 +88,6 @@ pub extern "C" fn sockdiag_write_vsock_request(request: &VsockRequest, buffer: &
 // Writes a request for the sockets of this family. Returns 36, or 0 if the buffer is shorter; then
 // nothing is written.
 fn write_show<const FAMILY: u8>(request: &ShowRequest, buffer: &mut [u8]) -> usize
-    // `WritesMessage len message`: the message, of `len` bytes, is written and `len` returned; or 0
-    // is returned, if the buffer is shorter. `show_message`: a header and the record.
     ensures { WritesMessage 36 (show_message FAMILY request.now)
         record { old = buffer.old; new = buffer.new; returned = result } }
 {

@@ -1,5 +1,6 @@
 //! Memory counters and records of netlink, packet and XDP sockets, as C structs; and helpers that
-//! split a header off a payload, and store a value for C.
+//! split a header off a payload, and store a value for C. In the contracts `o` is the value before
+//! a call, or None.
 
 ghost use Rattle.std.specs.Prelude.{◌≡◌, drop, IfErr, IfOk, Ok, Err, Option, Some};
 ghost use Rattle.std.specs.Result.{result_err, result_ok};
@@ -44,7 +45,6 @@ pub struct Memory {
 const _: () = prove!(std::mem::size_of::<Memory>() == 72);
 
 impl From<Option<u32>> for Number {
-    // `number`: the struct that `from` returns for `value`.
     ghost from_gives = { λ value number. number ≡ optional_number value };
 
     fn from(value: Option<u32>) -> Number {
@@ -53,7 +53,6 @@ impl From<Option<u32>> for Number {
 }
 
 impl From<MemInfo> for Memory {
-    // `memory`: the struct that `from` returns for `value`; the counters are present (`Some`).
     ghost from_gives = { λ value memory. memory ≡ memory_struct (Some value) };
 
     fn from(memory: MemInfo) -> Memory {
@@ -75,12 +74,8 @@ impl Memory {
     /// Sets the memory to the value of `parsed`, unless it is set already. Fails with the error of
     /// `parsed`, if any.
     pub(crate) fn set(&mut self, parsed: Result<MemInfo, DecodeError>) -> Result<(), DecodeError>
-        // `o`: the memory counters before the call, or None. `memory_struct o`: the struct that has
-        // them. `option_or`: the first counters, or else the second. `result_ok`: the value of
-        // a result, or None.
         ensures memory { (o : Option MemInfoModel) → self.old ≡ memory_struct o
             → self.new ≡ memory_struct (option_or o (result_ok parsed)) }
-        // `result_err`: the error of a result, or None.
         ensures error { result_err result ≡ result_err parsed }
     {
         let memory = parsed?;
@@ -98,13 +93,10 @@ pub(crate) fn set_record<T: Copy>(
     is_set: &mut u32,
     record: &mut T,
 ) -> Result<(), DecodeError>
-    // `zero`: what `record` contains if none is set. `o`: the record before the call, or None.
-    // `optional_record zero o`: 1 and this record, or 0 and `zero`. `option_or`: the first
-    // record, or else the second. `result_ok`: the value of a result, or None.
+    // `zero` is what `record` contains if none is set.
     ensures record { (zero : T) (o : Option T)
         → (is_set.old, record.old) ≡ optional_record zero o
         → (is_set.new, record.new) ≡ optional_record zero (option_or o (result_ok parsed)) }
-    // `result_err`: the error of a result, or None.
     ensures error { result_err result ≡ result_err parsed }
 {
     let found = parsed?;
@@ -118,8 +110,6 @@ pub(crate) fn set_record<T: Copy>(
 /// Stores the record, if there is one. Returns 1, or 0 if there is none; then the target is
 /// unchanged.
 pub(crate) fn store<T: Copy>(found: Option<T>, target: &mut T) -> u32
-    // `IsGetterResult`: the item of `found` is stored, and the result is 1; or it is 0, if `found`
-    // is None.
     ensures { IsGetterResult found
         record { old = target.old; new = target.new; returned = result } }
 {
@@ -137,11 +127,8 @@ pub(crate) fn store<T: Copy>(found: Option<T>, target: &mut T) -> u32
 #[tactic(auto, using(netlink_core::proofs::LayoutLaws::parsed_by_fields))]
 #[inline(always)]
 pub(crate) fn split_header<H: Record<Param = ()>>(payload: &[u8]) -> Result<(H, &[u8]), DecodeError>
-    // `parse_record`: the parser of a record by its layout, `H.layout`, which has no parameter
-    // (`tt`).
     ensures header { IfOk result (λ (header, rest). parse_record H.layout tt payload.entry.now
         ≡ Ok header) }
-    // `least`: the length of the header in bytes.
     ensures rest { IfOk result (λ (header, rest). rest.now
         ≡ drop H.layout.least payload.entry.now) }
     ensures error { IfErr result (λ error. parse_record H.layout tt payload.entry.now

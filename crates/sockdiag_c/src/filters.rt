@@ -49,9 +49,6 @@ pub extern "C" fn sockdiag_write_inet_request_with_attributes(
     buffer: &mut [u8],
     outcome: &mut Outcome,
 ) -> usize
-    // `ParsesAndWrites`: bytes are written; or none are, for one of the reasons above.
-    // `filtered_request`: they are those of the request with these attributes, if their framing is
-    // valid.
     ensures { ParsesAndWrites (filtered_request request.now attributes.now) record {
       old = buffer.old;
       new = buffer.new;
@@ -77,10 +74,8 @@ struct FilteredRequest<'a> {
 }
 
 impl Emitable for FilteredRequest<'_> {
-    // The netlink message with the attributes.
     ghost bytes = { λ r. request_with_attributes r.request.now r.attributes.now };
 
-    // The family is IPv4 or IPv6, and the length fits `nlmsg_len`.
     ghost writable = { λ r. IsWritableInetRequest r.request.now r.attributes.now };
 
     fn is_writable(&self) -> bool {
@@ -120,10 +115,7 @@ fn request_len(protocol: u32) -> usize
 fn write_request(len: u32, request: &InetRequest, buffer: &mut [u8])
     // For any other family `write_inet` writes nothing.
     requires family { IsInetFamily request.now.family }
-    // The buffer has exactly the length of the request without the caller's attributes.
     requires whole { length buffer.old ≡ inet_message_length request.now.protocol }
-    // `request_header_of`: the netlink header with this length and type. After it the record
-    // (`record_bytes`) and, if the protocol is above 255, its attribute (`protocol_attribute`).
     ensures { buffer.new
         ≡ header_bytes (request_header_of len SOCK_DIAG_BY_FAMILY request.now.header)
         ++ record_bytes inet_request (inet_request_from_c request.now)
@@ -138,7 +130,6 @@ fn write_request(len: u32, request: &InetRequest, buffer: &mut [u8])
 fn write_padded(attributes: &[u8], buffer: &mut [u8])
     // So the sum with the padding does not overflow.
     requires small { length attributes.now ≤ 4294967295 }
-    // The attributes and their padding fit the buffer.
     requires room { length attributes.now + padding_length (length attributes.now)
         ≤ length buffer.old }
     ensures { HoldsAtStart (with_padding attributes.now) buffer.old buffer.new }

@@ -93,7 +93,6 @@ pub(crate) const UNIX: u32 = 1;
 pub(crate) const INET: u32 = 2;
 
 impl From<UnixResponseHeader> for UnixHeader {
-    // `found`: the struct that `from` returns for `header`.
     ghost from_gives = { λ header found. found ≡ unix_header_of header };
 
     fn from(header: UnixResponseHeader) -> UnixHeader {
@@ -108,7 +107,6 @@ impl From<UnixResponseHeader> for UnixHeader {
 }
 
 impl From<InetResponseHeader> for InetHeader {
-    // `found`: the struct that `from` returns for `header`.
     ghost from_gives = { λ header found. found ≡ inet_header_of header };
 
     fn from(header: InetResponseHeader) -> InetHeader {

@@ -61,8 +61,6 @@ pub extern "C" fn sockdiag_inet_get_details<'a>(
     payload: &'a [u8],
     details: &mut InetDetails<'a>,
 ) -> u32
-    // Result 0: the reply has no error, and the struct has its header and values, by the table
-    // `inet_family`. Else the result is the code (`IsCodeOf`) of the first error.
     ensures details { result ≡ 0 → AreDetailsOf inet_family payload.entry.now details.new }
     ensures error { result ≢ 0 → IsCodeOf (IsFirstError inet_family payload.entry.now) result }
     ensures unchanged { result ≢ 0 → details.new ≡ details.old }
@@ -74,9 +72,7 @@ impl<'a> InetDetails<'a> {
     // Sets the field of the attribute, unless an earlier attribute of its kind has set it.
     fn set(&mut self, nla: NlaView<'a>)
         ensures header { self.new.header ≡ self.old.header }
-        // For each attribute `a` that decodes to this value, since the rows are about attributes:
-        // the fields of `a` in the table `inet_rows` are set, unless they were set before
-        // (`AddsValues`).
+        // For each attribute `a` that decodes to this value, since the rows are about attributes.
         ensures values { (a : Attribute)
             → decode_attribute inet_attribute_set a ≡ Ok (inet_nla_view_model nla.entry)
             → AddsValues inet_rows a record { old = self.old; new = self.new } }

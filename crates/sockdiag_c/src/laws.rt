@@ -1,4 +1,5 @@
 //! Properties of iterations and of lenient calls. Proof only: each contract states a property.
+//! `step` has the arguments and the results of a call.
 
 ghost use Rattle.std.specs.Prelude.{◌≡◌, ℕ, List, [], ◌∷◌, Option, Some, None};
 ghost use Rattle.netlink_core.specs.Attribute.{Attribute, SplitsIntoAttributes};
@@ -25,10 +26,6 @@ ghost use Rattle.sockdiag_c.specs.Walks.{bytes_before_step};
 /// leaves the others (`next`); and that it returns 0 if none is left (`end`). The bytes left have
 /// to be a sequence of attributes, as those after the header of an accepted reply are.
 pub fn a_step_passes_the_first_attribute()
-    // `SplitsIntoAttributes b attributes []`: the bytes `b` are these attributes, and nothing
-    // follows. `bytes_before_step` and `bytes_after_step`: the bytes from the cursor on, before and
-    // after the call. `StepsOverAttribute step`: `step` has the arguments and the results of such a
-    // call. `attribute_in`: the attribute that the stored struct describes.
     ensures next { (step : IterationStep AttributeRange)
         (first : Attribute) (later : List Attribute)
         → SplitsIntoAttributes (bytes_before_step step) (first ∷ later) []
@@ -44,12 +41,6 @@ pub fn a_step_passes_the_first_attribute()
 /// leaves the others (`next`); that it returns 0 if no bytes are left (`end`); and that it returns
 /// the code of the framing error if bytes are left that do not begin with a message (`error`).
 pub fn a_step_passes_the_first_message()
-    // `IsBytes b`: each number of `b` is below 256. `bytes_before_step` and `bytes_after_step`: the
-    // bytes from the cursor on, before and after the call. `SplitsIntoMessages b messages end`: the
-    // bytes `b` are these messages, and then nothing (None), or bytes with the framing error
-    // `Some e`. `StepsOverMessage step`: `step` has the arguments and the results of such a call.
-    // `StoresCheckedMessage step`: the first message of the bytes before the call, which is
-    // `message`, is stored, and 1 or the code of its error returned.
     ensures next { (step : IterationStep MessageRange)
         (message : List ℕ) (later : List (List ℕ)) (end : Option DecodeError)
         → IsBytes (bytes_before_step step)

@@ -77,10 +77,8 @@ impl Errors {
     /// Adds an error: it is the first one if there was none. Its code as a framing error or as the
     /// error of a kind is not stored; the caller does that.
     pub(crate) fn add(&mut self, error: DecodeError)
-        // `option_or`: the first error, or else the second.
         ensures first { self.new.first ≡ option_or self.old.first (Some error) }
         // If the code `first` of the rejections was that of the first error before, it still is.
-        // `optional_code`: the code, or 0 for None.
         ensures code { self.old.rejections.first ≡ optional_code self.old.first
             → self.new.rejections.first ≡ optional_code self.new.first }
         ensures others { (self.new.rejections.framing ≡ self.old.rejections.framing)
@@ -94,10 +92,7 @@ impl Errors {
 
     /// Adds the error of an attribute of this kind.
     pub(crate) fn add_value(&mut self, kind: u16, error: DecodeError)
-        // `option_or`: the first error, or else the second.
         ensures first { self.new.first ≡ option_or self.old.first (Some error) }
-        // If the code `first` of the rejections was that of the first error before, it still is.
-        // `optional_code`: the code, or 0 for None.
         ensures code { self.old.rejections.first ≡ optional_code self.old.first
             → self.new.rejections.first ≡ optional_code self.new.first }
         ensures framing { self.new.rejections.framing ≡ self.old.rejections.framing }
@@ -132,9 +127,6 @@ pub extern "C" fn sockdiag_unix_get_lenient_details<'a>(
     details: &mut UnixDetails<'a>,
     rejections: &mut Rejections,
 ) -> u32
-    // Result 0: the details have the header and the first valid values, and the rejections the
-    // codes of the errors, by the table `unix_family`. Else the result is the code (`IsCodeOf`) of
-    // the error of the header.
     ensures details { result ≡ 0
         → LenientDetailsAre unix_family payload.entry.now (details.new, rejections.new) }
     ensures error { result ≢ 0 → IsCodeOf (IsHeaderError unix_family payload.entry.now) result }
@@ -161,9 +153,6 @@ pub extern "C" fn sockdiag_inet_get_lenient_details<'a>(
     details: &mut InetDetails<'a>,
     rejections: &mut Rejections,
 ) -> u32
-    // Result 0: the details have the header and the first valid values, and the rejections the
-    // codes of the errors, by the table `inet_family`. Else the result is the code (`IsCodeOf`) of
-    // the error of the header.
     ensures details { result ≡ 0
         → LenientDetailsAre inet_family payload.entry.now (details.new, rejections.new) }
     ensures error { result ≢ 0 → IsCodeOf (IsHeaderError inet_family payload.entry.now) result }
@@ -186,9 +175,6 @@ pub extern "C" fn sockdiag_netlink_get_lenient_details<'a>(
     details: &mut NetlinkDetails<'a>,
     rejections: &mut Rejections,
 ) -> u32
-    // Result 0: the details have the header and the first valid values, and the rejections the
-    // codes of the errors, by the table `netlink_family`. Else the result is the code (`IsCodeOf`)
-    // of the error of the header.
     ensures details { result ≡ 0
         → LenientDetailsAre netlink_family payload.entry.now (details.new, rejections.new) }
     ensures error { result ≢ 0 → IsCodeOf (IsHeaderError netlink_family payload.entry.now) result }
@@ -212,9 +198,6 @@ pub extern "C" fn sockdiag_packet_get_lenient_details<'a>(
     details: &mut PacketDetails<'a>,
     rejections: &mut Rejections,
 ) -> u32
-    // Result 0: the details have the header and the first valid values, and the rejections the
-    // codes of the errors, by the table `packet_family`. Else the result is the code (`IsCodeOf`)
-    // of the error of the header.
     ensures details { result ≡ 0
         → LenientDetailsAre packet_family payload.entry.now (details.new, rejections.new) }
     ensures error { result ≢ 0 → IsCodeOf (IsHeaderError packet_family payload.entry.now) result }
@@ -236,9 +219,6 @@ pub extern "C" fn sockdiag_vsock_get_lenient_details(
     details: &mut VsockResponseHeader,
     rejections: &mut Rejections,
 ) -> u32
-    // Result 0: the struct is the header, and the rejections have the code of the framing error, if
-    // any; the table `vsock_family` has no rows for attributes. Else the result is the code
-    // (`IsCodeOf`) of the error of the header.
     ensures details { result ≡ 0
         → LenientDetailsAre vsock_family payload.now (details.new, rejections.new) }
     ensures error { result ≢ 0 → IsCodeOf (IsHeaderError vsock_family payload.now) result }
@@ -261,9 +241,6 @@ pub extern "C" fn sockdiag_xdp_get_lenient_details(
     details: &mut XdpDetails,
     rejections: &mut Rejections,
 ) -> u32
-    // Result 0: the details have the header and the first valid values, and the rejections the
-    // codes of the errors, by the table `xdp_family`. Else the result is the code (`IsCodeOf`) of
-    // the error of the header.
     ensures details { result ≡ 0
         → LenientDetailsAre xdp_family payload.now (details.new, rejections.new) }
     ensures error { result ≢ 0 → IsCodeOf (IsHeaderError xdp_family payload.now) result }

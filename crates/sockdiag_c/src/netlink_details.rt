@@ -47,8 +47,6 @@ pub extern "C" fn sockdiag_netlink_get_details<'a>(
     payload: &'a [u8],
     details: &mut NetlinkDetails<'a>,
 ) -> u32
-    // Result 0: the reply has no error, and the struct has its header and values, by the table
-    // `netlink_family`. Else the result is the code (`IsCodeOf`) of the first error.
     ensures details { result ≡ 0 → AreDetailsOf netlink_family payload.entry.now details.new }
     ensures error { result ≢ 0 → IsCodeOf (IsFirstError netlink_family payload.entry.now) result }
     ensures unchanged { result ≢ 0 → details.new ≡ details.old }

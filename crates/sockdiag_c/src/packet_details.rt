@@ -71,8 +71,6 @@ pub extern "C" fn sockdiag_packet_get_details<'a>(
     payload: &'a [u8],
     details: &mut PacketDetails<'a>,
 ) -> u32
-    // Result 0: the reply has no error, and the struct has its header and values, by the table
-    // `packet_family`. Else the result is the code (`IsCodeOf`) of the first error.
     ensures details { result ≡ 0 → AreDetailsOf packet_family payload.entry.now details.new }
     ensures error { result ≢ 0 → IsCodeOf (IsFirstError packet_family payload.entry.now) result }
     ensures unchanged { result ≢ 0 → details.new ≡ details.old }

@@ -22,10 +22,8 @@ use netlink_packet_sock_diag::unix::UnixResponseView;
 /// `sockdiag_next_attribute`, and step through its value by `sockdiag_next_pending`.
 #[unsafe(no_mangle)]
 pub extern "C" fn sockdiag_unix_get_pending(payload: &[u8], index: usize, inode: &mut u32) -> u32
-    // Either the reply has a value `v`, by the codec of these replies, which has no parameter
-    // (`tt`). If its inodes (`pending_inodes`) have one at the index, this is stored, and the
-    // result is 1; else nothing is stored, and the result is 0 (`IsGetterResult`). Or the reply is
-    // rejected, the result is 0, and nothing is stored.
+    // Either the reply has a value `v`, and the inode at the index is stored, if there is one. Or
+    // the reply is rejected, and nothing is stored.
     ensures { ((v : ReplyValue unix_response_spec)
         × (response_codec unix_response_spec).parses payload.now tt v
         × IsGetterResult (slice_get (pending_inodes v.nlas) index)

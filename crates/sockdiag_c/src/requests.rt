@@ -107,8 +107,6 @@ const _: () = prove!(std::mem::size_of::<InetRequest>() == 72);
 /// written.
 #[unsafe(no_mangle)]
 pub extern "C" fn sockdiag_write_unix_request(request: &UnixRequest, buffer: &mut [u8]) -> usize
-    // `WritesMessage len message`: the message, of `len` bytes, is written and `len` returned; or 0
-    // is returned, if the buffer is shorter. `unix_message`: a header of this type and the record.
     ensures { WritesMessage 40 (unix_message SOCK_DIAG_BY_FAMILY request.now)
         record { old = buffer.old; new = buffer.new; returned = result } }
 {
@@ -121,8 +119,6 @@ pub extern "C" fn sockdiag_write_unix_request(request: &UnixRequest, buffer: &mu
 /// then nothing is written. Linux answers it with `EOPNOTSUPP`.
 #[unsafe(no_mangle)]
 pub extern "C" fn sockdiag_write_unix_destroy(request: &UnixRequest, buffer: &mut [u8]) -> usize
-    // `WritesMessage len message`: the message, of `len` bytes, is written and `len` returned; or 0
-    // is returned, if the buffer is shorter. `unix_message`: a header of this type and the record.
     ensures { WritesMessage 40 (unix_message SOCK_DESTROY request.now)
         record { old = buffer.old; new = buffer.new; returned = result } }
 {
@@ -135,8 +131,6 @@ pub extern "C" fn sockdiag_write_unix_destroy(request: &UnixRequest, buffer: &mu
 /// neither `AF_INET` nor `AF_INET6`; then nothing is written.
 #[unsafe(no_mangle)]
 pub extern "C" fn sockdiag_write_inet_request(request: &InetRequest, buffer: &mut [u8]) -> usize
-    // `WritesInetMessage`: the message is written and its length returned; or 0 is returned, if the
-    // buffer is shorter or the family is another one.
     ensures { WritesInetMessage SOCK_DIAG_BY_FAMILY request.now
         record { old = buffer.old; new = buffer.new; returned = result } }
 {
@@ -153,8 +147,6 @@ pub extern "C" fn sockdiag_write_inet_request(request: &InetRequest, buffer: &mu
 /// UDP and raw sockets if the caller has `CAP_NET_ADMIN`.
 #[unsafe(no_mangle)]
 pub extern "C" fn sockdiag_write_inet_destroy(request: &InetRequest, buffer: &mut [u8]) -> usize
-    // `WritesInetMessage`: the message is written and its length returned; or 0 is returned, if the
-    // buffer is shorter or the family is another one.
     ensures { WritesInetMessage SOCK_DESTROY request.now
         record { old = buffer.old; new = buffer.new; returned = result } }
 {
@@ -164,8 +156,6 @@ pub extern "C" fn sockdiag_write_inet_destroy(request: &InetRequest, buffer: &mu
 // Writes a request for UNIX sockets with this message type. Returns 40, or 0 if the buffer is
 // shorter; then nothing is written.
 fn write_unix(message_type: u16, request: &UnixRequest, buffer: &mut [u8]) -> usize
-    // `WritesMessage len message`: the message, of `len` bytes, is written and `len` returned; or 0
-    // is returned, if the buffer is shorter. `unix_message`: a header of this type and the record.
     ensures { WritesMessage 40 (unix_message message_type request.now)
         record { old = buffer.old; new = buffer.new; returned = result } }
 {
@@ -182,8 +172,6 @@ fn write_unix(message_type: u16, request: &UnixRequest, buffer: &mut [u8]) -> us
 // that were written; or 0 if the buffer is shorter or the family is another one, and then nothing
 // is written.
 pub(crate) fn write_inet(message_type: u16, request: &InetRequest, buffer: &mut [u8]) -> usize
-    // `WritesInetMessage`: the message is written and its length returned; or 0 is returned, if the
-    // buffer is shorter or the family is another one.
     ensures { WritesInetMessage message_type request.now
         record { old = buffer.old; new = buffer.new; returned = result } }
 {
@@ -240,13 +228,9 @@ pub(crate) fn write_message<R: Emitable>(
     attributes: &[u8],
     buffer: &mut [u8],
 ) -> usize
-    // The record can be serialized.
     requires writable { R.writable value.now }
-    // The length of the message fits `nlmsg_len`, a `__u32`: 16 bytes of the header, the bytes of
-    // the record (`R.bytes`), and the attributes.
+    // The length of the message fits `nlmsg_len`, a `__u32`.
     requires small { 16 + length (R.bytes value.now) + length attributes.now ≤ 4294967295 }
-    // `WritesMessage len message`: the message is written and `len` returned; or 0 is returned, if
-    // the buffer is shorter. `request_header_of`: the header with this length and type.
     ensures { let len = 16 + length (R.bytes value.now) + length attributes.now in
         WritesMessage len (header_bytes (request_header_of len message_type header.now)
         ++ R.bytes value.now ++ attributes.now)
@@ -269,10 +253,7 @@ pub(crate) fn write_message<R: Emitable>(
 // Writes a netlink header to the sixteen bytes of a buffer: of a message of `len` bytes and this
 // type, with the fields of `header`.
 fn write_header(len: u32, message_type: u16, header: &RequestHeader, buffer: &mut [u8])
-    // The buffer has exactly the length of a netlink header.
     requires { length buffer.old ≡ 16 }
-    // `header_bytes`: the bytes of a netlink header. `request_header_of`: the header with this
-    // length and type.
     ensures { buffer.new ≡ header_bytes (request_header_of len message_type header.now) }
 {
     let (len_part, after_len) = buffer.split_at_mut(4);

@@ -1,5 +1,5 @@
-//! The canonical form of replies. Equivalent replies, which differ only in ignored bits,
-//! have the same canonical form.
+//! The canonical form of replies. Equivalent replies, which differ only in ignored bits, have the
+//! same canonical form. In the contracts `take result buffer.new` are the bytes that were written.
 
 ghost use Rattle.std.specs.Prelude.{◌≡◌, ◌<◌, take};
 ghost use Rattle.netlink_core.specs.Errors.{error_code};
@@ -44,17 +44,12 @@ pub extern "C" fn sockdiag_rewrite_unix_reply(
     buffer: &mut [u8],
     outcome: &mut Outcome,
 ) -> usize
-    // `ParsesAndWrites`: bytes are written; or none are, for one of the reasons above.
-    // `reply_conversion`: they are those of the value that the payload parses as, by the codec of
-    // `unix_response_spec`.
     ensures rewrites { ParsesAndWrites (reply_conversion unix_response_spec payload.now) record {
       old = buffer.old;
       new = buffer.new;
       outcome = outcome.new;
       returned = result;
     } }
-    // If bytes were written, they (`take result`) are the canonical form: an accepted and writable
-    // reply serializes to them if and only if it is equivalent to this reply.
     ensures canonical { 0 < result
         → IsCanonicalForm unix_response_spec payload.now (take result buffer.new) }
 {
@@ -80,17 +75,12 @@ pub extern "C" fn sockdiag_rewrite_inet_reply(
     buffer: &mut [u8],
     outcome: &mut Outcome,
 ) -> usize
-    // `ParsesAndWrites`: bytes are written; or none are, for one of the reasons above.
-    // `reply_conversion`: they are those of the value that the payload parses as, by the codec of
-    // `inet_response_spec`.
     ensures rewrites { ParsesAndWrites (reply_conversion inet_response_spec payload.now) record {
       old = buffer.old;
       new = buffer.new;
       outcome = outcome.new;
       returned = result;
     } }
-    // If bytes were written, they (`take result`) are the canonical form: an accepted and writable
-    // reply serializes to them if and only if it is equivalent to this reply.
     ensures canonical { 0 < result
         → IsCanonicalForm inet_response_spec payload.now (take result buffer.new) }
 {
@@ -101,17 +91,12 @@ pub extern "C" fn sockdiag_rewrite_inet_reply(
 // Returns the number of bytes that were written; or 0 if the reply is rejected or cannot be
 // serialized, or if the buffer is too short. The outcome says which.
 fn rewrite<H: ReplyHeader>(payload: &[u8], buffer: &mut [u8], outcome: &mut Outcome) -> usize
-    // `ParsesAndWrites`: bytes are written; or none are, for one of these reasons.
-    // `reply_conversion`: they are those of the value that the payload parses as, by the codec of
-    // `H.reply`.
     ensures rewrites { ParsesAndWrites (reply_conversion H.reply payload.now) record {
       old = buffer.old;
       new = buffer.new;
       outcome = outcome.new;
       returned = result;
     } }
-    // If bytes were written, an accepted and writable reply serializes to them (`take result`) if
-    // and only if it is equivalent to this reply.
     ensures canonical { 0 < result
         → IsCanonicalForm H.reply payload.now (take result buffer.new) }
 {
@@ -125,8 +110,6 @@ fn rewrite<H: ReplyHeader>(payload: &[u8], buffer: &mut [u8], outcome: &mut Outc
 // Returns the number of bytes that were written, or 0. Sets `outcome.needed` to the number of bytes
 // that the value needs, or to 0 if it is not writable; and `outcome.error` to 0.
 pub(crate) fn write_value<V: Emitable>(value: &V, buffer: &mut [u8], outcome: &mut Outcome) -> usize
-    // `WritesValue`: these three cases. `V.writable`: the value is writable. `V.bytes`: the bytes
-    // that it serializes to.
     ensures { WritesValue (V.writable value.now) (V.bytes value.now) record {
       old = buffer.old;
       new = buffer.new;
@@ -148,7 +131,6 @@ pub(crate) fn write_value<V: Emitable>(value: &V, buffer: &mut [u8], outcome: &m
 
 // Stores the code of the error in the outcome. Returns 0, since nothing is written.
 pub(crate) fn reject(error: &DecodeError, outcome: &mut Outcome) -> usize
-    // `outcome_struct error needed`: the struct with these fields.
     ensures outcome { outcome.new ≡ outcome_struct (error_code error.now) 0 }
     ensures none { result ≡ 0 }
 {

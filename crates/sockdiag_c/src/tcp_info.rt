@@ -1,5 +1,6 @@
 //! The values of `INET_DIAG_INFO` and `INET_DIAG_SKMEMINFO`: the state of a connection of TCP or
-//! MPTCP, and the memory of an internet socket.
+//! MPTCP, and the memory of an internet socket. In the contracts `attributes` are the attributes up
+//! to the end or to a framing error.
 
 ghost use Rattle.std.specs.Prelude.{◌≡◌, List, length};
 ghost use Rattle.netlink_core.specs.Attribute.{Attribute};
@@ -37,12 +38,9 @@ pub(crate) const MPTCP_INFO_LEN: usize = 96;
 /// because a value is too short. Attributes after a framing error are not found.
 #[unsafe(no_mangle)]
 pub extern "C" fn sockdiag_inet_get_tcp_info(payload: &[u8], info: &mut [u8; TCP_INFO_LEN]) -> usize
-    // `attributes`: those after the header, up to a framing error. `first_bytes_of_kind`: the value
-    // of the first one of this type, or no bytes.
     ensures length { (attributes : List Attribute)
         → AreInetReplyAttributes payload.now attributes
         → result ≡ length (first_bytes_of_kind INET_DIAG_INFO attributes) }
-    // `padded_or_truncated n`: the first `n` bytes of the value, and zeros if it has fewer.
     ensures bytes { (attributes : List Attribute)
         → AreInetReplyAttributes payload.now attributes
         → info.new ≡ padded_or_truncated TCP_INFO_LEN
@@ -65,12 +63,9 @@ pub extern "C" fn sockdiag_inet_get_long_tcp_info(
     payload: &[u8],
     info: &mut [u8; LONG_TCP_INFO_LEN],
 ) -> usize
-    // `attributes`: those after the header, up to a framing error. `first_bytes_of_kind`: the value
-    // of the first one of this type, or no bytes.
     ensures length { (attributes : List Attribute)
         → AreInetReplyAttributes payload.now attributes
         → result ≡ length (first_bytes_of_kind INET_DIAG_INFO attributes) }
-    // `padded_or_truncated n`: the first `n` bytes of the value, and zeros if it has fewer.
     ensures bytes { (attributes : List Attribute)
         → AreInetReplyAttributes payload.now attributes
         → info.new ≡ padded_or_truncated LONG_TCP_INFO_LEN
@@ -95,12 +90,9 @@ pub extern "C" fn sockdiag_inet_get_mptcp_info(
     payload: &[u8],
     info: &mut [u8; MPTCP_INFO_LEN],
 ) -> usize
-    // `attributes`: those after the header, up to a framing error. `first_bytes_of_kind`: the value
-    // of the first one of this type, or no bytes.
     ensures length { (attributes : List Attribute)
         → AreInetReplyAttributes payload.now attributes
         → result ≡ length (first_bytes_of_kind INET_DIAG_INFO attributes) }
-    // `padded_or_truncated n`: the first `n` bytes of the value, and zeros if it has fewer.
     ensures bytes { (attributes : List Attribute)
         → AreInetReplyAttributes payload.now attributes
         → info.new ≡ padded_or_truncated MPTCP_INFO_LEN
@@ -118,12 +110,9 @@ pub extern "C" fn sockdiag_inet_get_mptcp_info(
 /// because a value is too short. Attributes after a framing error are not found.
 #[unsafe(no_mangle)]
 pub extern "C" fn sockdiag_inet_get_memory(payload: &[u8], memory: &mut [u8; MEM_INFO_LEN]) -> usize
-    // `attributes`: those after the header, up to a framing error. `first_bytes_of_kind`: the value
-    // of the first one of this type, or no bytes.
     ensures length { (attributes : List Attribute)
         → AreInetReplyAttributes payload.now attributes
         → result ≡ length (first_bytes_of_kind INET_DIAG_SKMEMINFO attributes) }
-    // `padded_or_truncated n`: the first `n` bytes of the value, and zeros if it has fewer.
     ensures bytes { (attributes : List Attribute)
         → AreInetReplyAttributes payload.now attributes
         → memory.new ≡ padded_or_truncated MEM_INFO_LEN
@@ -136,12 +125,9 @@ pub extern "C" fn sockdiag_inet_get_memory(payload: &[u8], memory: &mut [u8; MEM
 // truncated to `N` bytes or followed by zeros. Returns the length of the whole value, or 0 if there
 // is none.
 fn copy_first_value<const N: usize>(payload: &[u8], kind: u16, found: &mut [u8; N]) -> usize
-    // `attributes`: those after the header, up to a framing error. `first_bytes_of_kind`: the value
-    // of the first one of this type, or no bytes.
     ensures length { (attributes : List Attribute)
         → AreInetReplyAttributes payload.now attributes
         → result ≡ length (first_bytes_of_kind kind attributes) }
-    // `padded_or_truncated n`: the first `n` bytes of the value, and zeros if it has fewer.
     ensures bytes { (attributes : List Attribute)
         → AreInetReplyAttributes payload.now attributes
         → found.new ≡ padded_or_truncated N (first_bytes_of_kind kind attributes) }
@@ -157,7 +143,6 @@ fn copy_first_value<const N: usize>(payload: &[u8], kind: u16, found: &mut [u8; 
 // Returns the value of the first attribute of the kind, or no bytes if there is none before the end
 // or a framing error.
 fn first_value(bytes: &[u8], kind: u16) -> &[u8]
-    // `attributes`: those at the start of the bytes, up to the end or a framing error.
     ensures { (attributes : List Attribute) → AreAttributesIn bytes.entry.now attributes
         → result.now ≡ first_bytes_of_kind kind attributes }
 {

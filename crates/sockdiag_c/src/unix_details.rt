@@ -71,8 +71,6 @@ pub extern "C" fn sockdiag_unix_get_details<'a>(
     payload: &'a [u8],
     details: &mut UnixDetails<'a>,
 ) -> u32
-    // Result 0: the reply has no error, and the struct has its header and values, by the table
-    // `unix_family`. Else the result is the code (`IsCodeOf`) of the first error.
     ensures details { result ≡ 0 → AreDetailsOf unix_family payload.entry.now details.new }
     ensures error { result ≢ 0 → IsCodeOf (IsFirstError unix_family payload.entry.now) result }
     ensures unchanged { result ≢ 0 → details.new ≡ details.old }
@@ -84,9 +82,7 @@ impl<'a> UnixDetails<'a> {
     // Sets the fields of the attribute, unless an earlier attribute of its kind has set them.
     fn set(&mut self, nla: NlaView<'a>)
         ensures header { self.new.header ≡ self.old.header }
-        // For each attribute `a` that decodes to this value, since the rows are about attributes:
-        // the fields of `a` in the table `unix_rows` are set, unless they were set before
-        // (`AddsValues`).
+        // For each attribute `a` that decodes to this value, since the rows are about attributes.
         ensures values { (a : Attribute)
             → decode_attribute unix_attribute_set a ≡ Ok (unix_nla_view_model nla.entry)
             → AddsValues unix_rows a record { old = self.old; new = self.new } }

@@ -24,8 +24,6 @@ pub extern "C" fn sockdiag_vsock_get_details(
     payload: &[u8],
     details: &mut VsockResponseHeader,
 ) -> u32
-    // Result 0: the reply has no error, and the struct is its header; the table `vsock_family` has
-    // no rows for attributes. Else the result is the code (`IsCodeOf`) of the first error.
     ensures details { result ≡ 0 → AreDetailsOf vsock_family payload.now details.new }
     ensures error { result ≢ 0 → IsCodeOf (IsFirstError vsock_family payload.now) result }
     ensures unchanged { result ≢ 0 → details.new ≡ details.old }

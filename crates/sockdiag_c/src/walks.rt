@@ -86,7 +86,6 @@ pub extern "C" fn sockdiag_next_attribute(
     cursor: &mut Cursor,
     attribute: &mut AttributeRange,
 ) -> u32
-    // `StepsOverAttribute`: one of the three cases of the list above.
     ensures { StepsOverAttribute record {
       bytes = bytes.now;
       old_cursor = cursor.old;
@@ -136,7 +135,6 @@ pub extern "C" fn sockdiag_next_message(
     cursor: &mut Cursor,
     message: &mut MessageRange,
 ) -> u32
-    // `StepsOverMessage`: one of the four cases of the list above.
     ensures { StepsOverMessage record {
       bytes = datagram.now;
       old_cursor = cursor.old;
@@ -178,7 +176,6 @@ pub extern "C" fn sockdiag_next_any_message(
     cursor: &mut Cursor,
     message: &mut MessageRange,
 ) -> u32
-    // `StepsOverUncheckedMessage`: one of the three cases of the list above.
     ensures { StepsOverUncheckedMessage record {
       bytes = datagram.now;
       old_cursor = cursor.old;
@@ -226,8 +223,6 @@ pub extern "C" fn sockdiag_next_any_message(
 /// finds.
 #[unsafe(no_mangle)]
 pub extern "C" fn sockdiag_get_error_number(payload: &[u8], number: &mut i32) -> u32
-    // `IsGetterResult`: the number is stored, and the result is 1; or it is 0, if there is none.
-    // `leading_error_number`: the number in the first four bytes, or None.
     ensures { IsGetterResult (leading_error_number payload.now)
         record { old = number.old; new = number.new; returned = result } }
 {

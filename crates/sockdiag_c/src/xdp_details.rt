@@ -68,8 +68,6 @@ const _: () = prove!(std::mem::size_of::<XdpDetails>() == 240);
 /// One rejected attribute hides the others: `sockdiag_xdp_get_lenient_details` returns them.
 #[unsafe(no_mangle)]
 pub extern "C" fn sockdiag_xdp_get_details(payload: &[u8], details: &mut XdpDetails) -> u32
-    // Result 0: the reply has no error, and the struct has its header and values, by the table
-    // `xdp_family`. Else the result is the code (`IsCodeOf`) of the first error.
     ensures details { result ≡ 0 → AreDetailsOf xdp_family payload.now details.new }
     ensures error { result ≢ 0 → IsCodeOf (IsFirstError xdp_family payload.now) result }
     ensures unchanged { result ≢ 0 → details.new ≡ details.old }
