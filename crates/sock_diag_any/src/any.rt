@@ -38,12 +38,8 @@ impl<'a> AnySockDiagView<'a> {
     /// fewer bytes than the header has, else the first error of bytes that do not split into
     /// attributes. Otherwise [`SockDiagView::parse`] parses the bytes, and its error is returned.
     pub fn parse(payload: &'a [u8], message_type: u16) -> Result<AnySockDiagView<'a>, DecodeError>
-        // `ParsesAsAnyMessage b t message`: the bytes `b` of a message of type `t` parse as this
-        // message. `any_view_model view`: the family and the value of the reply.
         ensures value { IfOk result (λ view.
             ParsesAsAnyMessage payload.entry.now message_type (any_view_model view)) }
-        // `IsRejectedAsAnyMessage b t e`: the codec of the family of the bytes rejects them with
-        // the error `e`.
         ensures error { IfErr result (IsRejectedAsAnyMessage payload.entry.now message_type) }
     {
         if payload.len() >= 2 && message_type == SOCK_DIAG_BY_FAMILY {
@@ -84,10 +80,8 @@ impl Emitable for AnySockDiagView<'_> {
     ghost use Rattle.sock_diag_any.specs.AnyMessage.{IsAnyMessageWritable, any_bytes};
     ghost use Rattle.sock_diag_any.specs.AnyMessage.{any_view_model};
 
-    // `any_bytes message`: the bytes that the message serializes to by the codec of its family.
     ghost bytes = { λ v. any_bytes (any_view_model v) };
 
-    // `IsAnyMessageWritable message`: the lengths of the message fit their length fields.
     ghost writable = { λ v. IsAnyMessageWritable (any_view_model v) };
 
     fn is_writable(&self) -> bool {

@@ -18,17 +18,12 @@ pub trait RawAttributes {
     /// Returns the value of the first attribute of the kind, whatever its two flag bits, or `None`
     /// if the reply has no such attribute.
     fn value_of(&self, kind: u16) -> Option<&[u8]>
-        // `option_copied result`: the bytes that the result borrows, as a list.
-        // `first_value_of_kind kind attributes`: the value of the first of these attributes that
-        // has this kind, or `None`.
         ensures { option_copied result ≡ first_value_of_kind kind (attributes self.now) };
 
     /// Parses the value of the first attribute of the kind, whatever its two flag bits, as a
     /// little-endian `u32`. Returns `None` if the reply has no such attribute. A length other than
     /// 4 is `WrongLength` with the kind.
     fn number_of(&self, kind: u16) -> Result<Option<u32>, DecodeError>
-        // `u32_of_kind kind attributes`: the little-endian `u32` in the first attribute of this
-        // kind, `Ok None` if there is none, or `WrongLength` with this kind.
         ensures { result ≡ u32_of_kind kind (attributes self.now) }
     {
         match self.value_of(kind) {
@@ -41,8 +36,6 @@ pub trait RawAttributes {
     /// two flag bits. Returns `None` if the reply has no such attribute, and the error of the
     /// record's parser if it rejects the value, such as `BufferTooSmall`.
     fn record_of<T: Record<Param = ()>>(&self, kind: u16) -> Result<Option<T>, DecodeError>
-        // `record_of_kind layout kind attributes`: the record of this layout in the first attribute
-        // of this kind, `Ok None` if there is none, or the error.
         ensures { result ≡ record_of_kind T.layout kind (attributes self.now) }
     {
         match self.value_of(kind) {
@@ -66,9 +59,6 @@ pub(crate) fn value_in<'a, H: FamilyHeader>(
     reply: &RawReplyView<'a, H>,
     kind: u16,
 ) -> Option<&'a [u8]>
-    // `option_copied result`: the bytes that the result borrows, as a list. `first_value_of_kind
-    // kind attributes`: the value of the first of these attributes that has this kind, or `None`.
-    // `(view_model reply.now).nlas`: the attributes of the reply.
     ensures { option_copied result ≡ first_value_of_kind kind (view_model reply.now).nlas }
 {
     let mut nlas = reply.attributes();

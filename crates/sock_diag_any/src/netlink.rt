@@ -34,8 +34,6 @@ impl FamilyHeader for NetlinkResponseHeader {
 /// the reply has none: `u32` fields in the order of `SK_MEMINFO_..` (linux/sock_diag.h). A value of
 /// fewer than 28 bytes, seven fields, is `BufferTooSmall`.
 pub fn memory(reply: &NetlinkResponseView<'_>) -> Result<Option<MemInfo>, DecodeError>
-    // `record_of_kind layout kind attributes`: the record of this layout in the first attribute of
-    // this kind, `Ok None` if there is none, or the error. `mem_info`: the layout of `MemInfo`.
     ensures { result ≡ record_of_kind mem_info NETLINK_DIAG_MEMINFO (view_model reply.now).nlas }
 {
     reply.record_of(NETLINK_DIAG_MEMINFO)
@@ -45,8 +43,6 @@ pub fn memory(reply: &NetlinkResponseView<'_>) -> Result<Option<MemInfo>, Decode
 /// none. They are the multicast groups that the socket is a member of, one bit for each group. The
 /// lowest bit of the first byte is group 1.
 pub fn groups<'a>(reply: &NetlinkResponseView<'a>) -> Option<&'a [u8]>
-    // `first_value_of_kind kind attributes`: the value of the first attribute of this kind, or
-    // `None`. `option_copied result`: the bytes that the result borrows, as a list.
     ensures { option_copied result
         ≡ first_value_of_kind NETLINK_DIAG_GROUPS (view_model reply.now).nlas }
 {
@@ -57,8 +53,6 @@ pub fn groups<'a>(reply: &NetlinkResponseView<'a>) -> Option<&'a [u8]>
 /// `NETLINK_DIAG_FLAGS`, or `None` if the reply has none. A length other than 4 is `WrongLength`
 /// with this kind.
 pub fn flags(reply: &NetlinkResponseView<'_>) -> Result<Option<u32>, DecodeError>
-    // `u32_of_kind kind attributes`: the little-endian `u32` in the first attribute of this kind,
-    // `Ok None` if there is none, or the error.
     ensures { result ≡ u32_of_kind NETLINK_DIAG_FLAGS (view_model reply.now).nlas }
 {
     reply.number_of(NETLINK_DIAG_FLAGS)

@@ -36,9 +36,8 @@ impl FamilyHeader for PacketResponseHeader {
 // Parses the first attribute of the kind as `struct packet_diag_ring`. Returns `None` if the reply
 // has none. A value of fewer than 28 bytes is `BufferTooSmall`.
 fn ring(reply: &PacketResponseView<'_>, kind: u16) -> Result<Option<PacketRing>, DecodeError>
-    // `parsed_of_kind parse kind attributes`: what `parse` returns for the value of the first
-    // attribute of this kind, or `Ok None` if there is none. `parse_packet_ring kind value`: what
-    // `PacketRing::parse` returns for the value and this kind, which only its error contains.
+    // The kind occurs twice: `parsed_of_kind` finds the first attribute of the kind, and
+    // `parse_packet_ring` parses its value; only its error contains the kind.
     ensures { result ≡ parsed_of_kind (parse_packet_ring kind) kind (view_model reply.now).nlas }
 {
     match reply.value_of(kind) {
@@ -50,9 +49,6 @@ fn ring(reply: &PacketResponseView<'_>, kind: u16) -> Result<Option<PacketRing>,
 /// Returns the settings of the socket, from the first `PACKET_DIAG_INFO`, or `None` if the reply
 /// has none. A value of fewer than 24 bytes is `BufferTooSmall`.
 pub fn info(reply: &PacketResponseView<'_>) -> Result<Option<PacketInfo>, DecodeError>
-    // `parsed_of_kind parse kind attributes`: what `parse` returns for the value of the first
-    // attribute of this kind, or `Ok None` if there is none. `parse_packet_info value`: what
-    // `PacketInfo::parse` returns for the value.
     ensures { result ≡ parsed_of_kind parse_packet_info PACKET_DIAG_INFO
         (view_model reply.now).nlas }
 {
@@ -67,8 +63,6 @@ pub fn info(reply: &PacketResponseView<'_>) -> Result<Option<PacketInfo>, Decode
 /// that it also receives, and promiscuous or all-multicast mode, which have no address
 /// (`pdmc_type`, `pdmc_alen`). The kernel sends 44 bytes for each, `struct packet_diag_mclist`.
 pub fn addresses<'a>(reply: &PacketResponseView<'a>) -> Option<&'a [u8]>
-    // `first_value_of_kind kind attributes`: the value of the first attribute of this kind, or
-    // `None`. `option_copied result`: the bytes that the result borrows, as a list.
     ensures { option_copied result
         ≡ first_value_of_kind PACKET_DIAG_MCLIST (view_model reply.now).nlas }
 {
@@ -78,8 +72,6 @@ pub fn addresses<'a>(reply: &PacketResponseView<'a>) -> Option<&'a [u8]>
 /// Returns the settings of the receive ring, from the first `PACKET_DIAG_RX_RING`, or `None` if the
 /// reply has none. A value of fewer than 28 bytes is `BufferTooSmall`.
 pub fn receive_ring(reply: &PacketResponseView<'_>) -> Result<Option<PacketRing>, DecodeError>
-    // The kind occurs twice: `parsed_of_kind` finds the first attribute of the kind, and
-    // `parse_packet_ring` parses its value; only its error contains the kind.
     ensures { result ≡ parsed_of_kind (parse_packet_ring PACKET_DIAG_RX_RING) PACKET_DIAG_RX_RING
         (view_model reply.now).nlas }
 {
@@ -89,8 +81,6 @@ pub fn receive_ring(reply: &PacketResponseView<'_>) -> Result<Option<PacketRing>
 /// Returns the settings of the transmit ring, from the first `PACKET_DIAG_TX_RING`, or `None` if
 /// the reply has none. A value of fewer than 28 bytes is `BufferTooSmall`.
 pub fn send_ring(reply: &PacketResponseView<'_>) -> Result<Option<PacketRing>, DecodeError>
-    // The kind occurs twice: `parsed_of_kind` finds the first attribute of the kind, and
-    // `parse_packet_ring` parses its value; only its error contains the kind.
     ensures { result ≡ parsed_of_kind (parse_packet_ring PACKET_DIAG_TX_RING) PACKET_DIAG_TX_RING
         (view_model reply.now).nlas }
 {
@@ -101,8 +91,6 @@ pub fn send_ring(reply: &PacketResponseView<'_>) -> Result<Option<PacketRing>, D
 /// none: the id of the fanout group in the low 16 bits and its mode in the high 16 bits, which are
 /// not split. A length other than 4 is `WrongLength` with this kind.
 pub fn fanout(reply: &PacketResponseView<'_>) -> Result<Option<u32>, DecodeError>
-    // `u32_of_kind kind attributes`: the little-endian `u32` in the first attribute of this kind,
-    // `Ok None` if there is none, or the error.
     ensures { result ≡ u32_of_kind PACKET_DIAG_FANOUT (view_model reply.now).nlas }
 {
     reply.number_of(PACKET_DIAG_FANOUT)
@@ -112,8 +100,6 @@ pub fn fanout(reply: &PacketResponseView<'_>) -> Result<Option<u32>, DecodeError
 /// `PACKET_DIAG_UID`, or `None` if the reply has none. A length other than 4 is `WrongLength` with
 /// this kind.
 pub fn owner(reply: &PacketResponseView<'_>) -> Result<Option<u32>, DecodeError>
-    // `u32_of_kind kind attributes`: the little-endian `u32` in the first attribute of this kind,
-    // `Ok None` if there is none, or the error.
     ensures { result ≡ u32_of_kind PACKET_DIAG_UID (view_model reply.now).nlas }
 {
     reply.number_of(PACKET_DIAG_UID)
@@ -123,8 +109,6 @@ pub fn owner(reply: &PacketResponseView<'_>) -> Result<Option<u32>, DecodeError>
 /// the reply has none: `u32` fields in the order of `SK_MEMINFO_..` (linux/sock_diag.h). A value of
 /// fewer than 28 bytes, seven fields, is `BufferTooSmall`.
 pub fn memory(reply: &PacketResponseView<'_>) -> Result<Option<MemInfo>, DecodeError>
-    // `record_of_kind layout kind attributes`: the record of this layout in the first attribute of
-    // this kind, `Ok None` if there is none, or the error. `mem_info`: the layout of `MemInfo`.
     ensures { result ≡ record_of_kind mem_info PACKET_DIAG_MEMINFO (view_model reply.now).nlas }
 {
     reply.record_of(PACKET_DIAG_MEMINFO)
@@ -134,8 +118,6 @@ pub fn memory(reply: &PacketResponseView<'_>) -> Result<Option<MemInfo>, DecodeE
 /// They are the instructions of the attached BPF filter. The kernel sends 8 bytes for each,
 /// `struct sock_filter` (linux/filter.h).
 pub fn filter<'a>(reply: &PacketResponseView<'a>) -> Option<&'a [u8]>
-    // `first_value_of_kind kind attributes`: the value of the first attribute of this kind, or
-    // `None`. `option_copied result`: the bytes that the result borrows, as a list.
     ensures { option_copied result
         ≡ first_value_of_kind PACKET_DIAG_FILTER (view_model reply.now).nlas }
 {

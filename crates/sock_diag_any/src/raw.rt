@@ -18,8 +18,6 @@ pub trait FamilyHeader: Record<Param = ()> + Drop {
     const NAME: &'static str;
 
     // Proof only: the codec of a reply with this header keeps the codec laws.
-    // `raw_reply_spec layout`: the format of replies with a header of this layout and raw
-    // attributes.
     ghost keeps: { KeepsCodecLaws (response_codec (raw_reply_spec Self.layout)) };
 }
 

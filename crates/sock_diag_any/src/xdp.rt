@@ -34,9 +34,6 @@ impl FamilyHeader for XdpResponseHeader {
 /// Returns the interface and the queue that the socket is bound to, from the first `XDP_DIAG_INFO`,
 /// or `None` if the reply has none. A value of fewer than 8 bytes is `BufferTooSmall`.
 pub fn info(reply: &XdpResponseView<'_>) -> Result<Option<XdpInfo>, DecodeError>
-    // `parsed_of_kind parse kind attributes`: what `parse` returns for the value of the first
-    // attribute of this kind, or `Ok None` if there is none. `parse_xdp_info value`: what
-    // `XdpInfo::parse` returns for the value.
     ensures { result ≡ parsed_of_kind parse_xdp_info XDP_DIAG_INFO (view_model reply.now).nlas }
 {
     match reply.value_of(XDP_DIAG_INFO) {
@@ -48,8 +45,6 @@ pub fn info(reply: &XdpResponseView<'_>) -> Result<Option<XdpInfo>, DecodeError>
 /// Returns the user id of the socket's owner: the little-endian `u32` in the first `XDP_DIAG_UID`,
 /// or `None` if the reply has none. A length other than 4 is `WrongLength` with this kind.
 pub fn owner(reply: &XdpResponseView<'_>) -> Result<Option<u32>, DecodeError>
-    // `u32_of_kind kind attributes`: the little-endian `u32` in the first attribute of this kind,
-    // `Ok None` if there is none, or the error.
     ensures { result ≡ u32_of_kind XDP_DIAG_UID (view_model reply.now).nlas }
 {
     reply.number_of(XDP_DIAG_UID)
@@ -59,8 +54,6 @@ pub fn owner(reply: &XdpResponseView<'_>) -> Result<Option<u32>, DecodeError>
 /// `u32` in the first `XDP_DIAG_RX_RING`, or `None` if the reply has none. A length other than 4 is
 /// `WrongLength` with this kind.
 pub fn receive_ring(reply: &XdpResponseView<'_>) -> Result<Option<u32>, DecodeError>
-    // `u32_of_kind kind attributes`: the little-endian `u32` in the first attribute of this kind,
-    // `Ok None` if there is none, or the error.
     ensures { result ≡ u32_of_kind XDP_DIAG_RX_RING (view_model reply.now).nlas }
 {
     reply.number_of(XDP_DIAG_RX_RING)
@@ -70,8 +63,6 @@ pub fn receive_ring(reply: &XdpResponseView<'_>) -> Result<Option<u32>, DecodeEr
 /// `u32` in the first `XDP_DIAG_TX_RING`, or `None` if the reply has none. A length other than 4 is
 /// `WrongLength` with this kind.
 pub fn send_ring(reply: &XdpResponseView<'_>) -> Result<Option<u32>, DecodeError>
-    // `u32_of_kind kind attributes`: the little-endian `u32` in the first attribute of this kind,
-    // `Ok None` if there is none, or the error.
     ensures { result ≡ u32_of_kind XDP_DIAG_TX_RING (view_model reply.now).nlas }
 {
     reply.number_of(XDP_DIAG_TX_RING)
@@ -80,9 +71,6 @@ pub fn send_ring(reply: &XdpResponseView<'_>) -> Result<Option<u32>, DecodeError
 /// Returns the shared memory area of the socket (UMEM), from the first `XDP_DIAG_UMEM`, or `None`
 /// if the reply has none. A value of fewer than 40 bytes is `BufferTooSmall`.
 pub fn shared_memory(reply: &XdpResponseView<'_>) -> Result<Option<XdpUmem>, DecodeError>
-    // `parsed_of_kind parse kind attributes`: what `parse` returns for the value of the first
-    // attribute of this kind, or `Ok None` if there is none. `parse_xdp_umem value`: what
-    // `XdpUmem::parse` returns for the value.
     ensures { result ≡ parsed_of_kind parse_xdp_umem XDP_DIAG_UMEM (view_model reply.now).nlas }
 {
     match reply.value_of(XDP_DIAG_UMEM) {
@@ -95,8 +83,6 @@ pub fn shared_memory(reply: &XdpResponseView<'_>) -> Result<Option<XdpUmem>, Dec
 /// reply has none: `u32` fields in the order of `SK_MEMINFO_..` (linux/sock_diag.h). A value of
 /// fewer than 28 bytes, seven fields, is `BufferTooSmall`.
 pub fn memory(reply: &XdpResponseView<'_>) -> Result<Option<MemInfo>, DecodeError>
-    // `record_of_kind layout kind attributes`: the record of this layout in the first attribute of
-    // this kind, `Ok None` if there is none, or the error. `mem_info`: the layout of `MemInfo`.
     ensures { result ≡ record_of_kind mem_info XDP_DIAG_MEMINFO (view_model reply.now).nlas }
 {
     reply.record_of(XDP_DIAG_MEMINFO)
@@ -105,9 +91,6 @@ pub fn memory(reply: &XdpResponseView<'_>) -> Result<Option<MemInfo>, DecodeErro
 /// Returns the counters of the socket, from the first `XDP_DIAG_STATS`, or `None` if the reply has
 /// none. A value of fewer than 48 bytes is `BufferTooSmall`.
 pub fn statistics(reply: &XdpResponseView<'_>) -> Result<Option<XdpStatistics>, DecodeError>
-    // `parsed_of_kind parse kind attributes`: what `parse` returns for the value of the first
-    // attribute of this kind, or `Ok None` if there is none. `parse_xdp_statistics value`: what
-    // `XdpStatistics::parse` returns for the value.
     ensures { result ≡ parsed_of_kind parse_xdp_statistics XDP_DIAG_STATS
         (view_model reply.now).nlas }
 {
