@@ -27,7 +27,7 @@ pub record IsCompleteRecordRequest {family : RecordFamily} (r : RecordRequest fa
       ≡ NETLINK_HEADER_LEN + (record_request_size family + length r.attributes)
   -- each number of the record fits its field
   pub in_range : (record_request_codec family).is_in_range r.request
-  -- the record is in normal form; `tt`: it has no parameter
+  -- the record is in normal form
   pub normal : (record_request_codec family).is_normal tt r.request
 
 -- `IsParsedInetRequest r parsed`: the parsed request is one for IPv4 or IPv6 sockets, and has the

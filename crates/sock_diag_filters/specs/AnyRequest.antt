@@ -22,9 +22,8 @@ use Rattle.sock_diag_filters.specs.InetRequests.{ParsesAsRequest, IsRejectedRequ
 pub data RecordFamily : Type 0 where
   unix netlink packet vsock xdp : RecordFamily
 
--- `record_request_codec family`: the codec of the family's record. None of these records has a
--- parameter: its type is `Unit`, and its only value `tt`. The argument of `show_request` is the
--- family.
+-- `record_request_codec family`: the codec of the family's record. The argument of `show_request`
+-- is the family.
 abbrev pub record_request_codec : RecordFamily → ValueCodec (Unit {0})
 record_request_codec unix = value_codec unix_request
 record_request_codec netlink = value_codec (show_request c.AF_NETLINK)

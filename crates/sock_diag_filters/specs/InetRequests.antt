@@ -85,8 +85,7 @@ pub record ParsesAsRequest (message : List ℕ) (view : RequestView) : Type 0 wh
   -- the message starts with the netlink header of the view
   pub framed : HasHeader message view.header
   pub kind : IsRequestType view.header.message_type
-  -- the payload starts with the record of the view, `struct inet_diag_req_v2`; `tt`: the record has
-  -- no parameter
+  -- the payload starts with the record of the view, `struct inet_diag_req_v2`
   pub parsed : parse_record inet_request tt (message_payload message view.header) ≡ Ok view.request
   -- the bytes after the record split into attributes with this content, in order
   -- (`DecodeTo decode bytes values`)

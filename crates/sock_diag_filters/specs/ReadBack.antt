@@ -40,7 +40,7 @@ IsRequestInRange r = FitFields header_fields (header_values (serialized_request_
 -- round-trips. The message type, which has to be that of a request, is not among them.
 pub record IsRoundTrippingRequest (r : RequestWithAttributes) : Type 0 where
   pub in_range : IsRequestInRange r
-  -- the record is in normal form; `tt`: it has no parameter
+  -- the record is in normal form
   pub normal : IsNormal inet_request tt r.request
 
 -- `IsParsedRequest r view`: the view has the content of the request `r` that was serialized: the

@@ -33,8 +33,6 @@ impl<'a, R: Record<Param = ()>> RecordRequestView<'a, R> {
     // the payload, and the bytes after the record. Fails with the first error of the record.
     fn read(header: NetlinkHeader, payload: &'a [u8]) -> Result<Self, DecodeError>
         ensures header { IfOk result (λ view. view.header ≡ header) }
-        // `parse_record layout tt bytes`: the record of this layout at the start of the bytes, or
-        // its error; `tt`: the record has no parameter. `layout.least`: the number of its bytes.
         ensures request { IfOk result (λ view.
             parse_record R.layout tt payload.entry.now ≡ Ok view.request) }
         ensures attributes { IfOk result (λ view.
@@ -83,9 +81,6 @@ impl<'a> AnyRequestView<'a> {
     /// 5. an error of the parser of that family's request: of [`RequestView::parse`], or of the
     ///    record.
     pub fn parse(message: &'a [u8]) -> Result<AnyRequestView<'a>, DecodeError>
-        // `ParsesAsAnyRequest message request`: the message at the start of the bytes parses as
-        // this request. `any_request_content view`: the request in the view.
-        // `IsRejectedAnyRequest message e`: the message is rejected with `e`, its first error.
         ensures value { IfOk result (λ view. ParsesAsAnyRequest message.entry.now
             (any_request_content view)) }
         ensures error { IfErr result (IsRejectedAnyRequest message.entry.now) }
@@ -103,13 +98,9 @@ fn read_under<'a>(
     header: NetlinkHeader,
     message: &'a [u8],
 ) -> Result<AnyRequestView<'a>, DecodeError>
-    // `HasHeader message header`: the message starts with this header, and is complete.
     requires { HasHeader message.now header }
-    // `ParsesAsAnyRequest message request`: the message at the start of the bytes parses as this
-    // request. `any_request_content view`: the request in the view.
     ensures value { IfOk result (λ view. ParsesAsAnyRequest message.entry.now
         (any_request_content view)) }
-    // `IsRejectedByFamily message header e`: the message is rejected with `e`.
     ensures error { IfErr result (IsRejectedByFamily message.entry.now header) }
 {
     let payload = &message[NETLINK_HEADER_LEN..header.length as usize];
@@ -128,9 +119,6 @@ fn read_under<'a>(
 // `MessageTooShort` if the payload has fewer than 2 bytes, or else with `UnknownMessageType` if
 // messages of this type are not requests.
 fn first_byte(message_type: u16, payload: &[u8]) -> Result<u8, DecodeError>
-    // `family_of_request_payload payload message_type`: the family of a request, or its error. If a
-    // byte is returned, this is the family that the byte determines (`family_by_byte`), or the
-    // error `UnknownFamily`.
     ensures family { IfOk result (λ first. family_of_request_payload payload.now message_type
         ≡ family_by_byte first) }
     ensures error { IfErr result (λ e. family_of_request_payload payload.now message_type ≡ Err e) }

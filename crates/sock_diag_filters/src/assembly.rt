@@ -1,4 +1,6 @@
-//! Assembly of filters to programs: the bytecode of `INET_DIAG_REQ_BYTECODE`.
+//! Assembly of filters to programs: the bytecode of `INET_DIAG_REQ_BYTECODE`. Clauses `in_range`
+//! state that each number of a condition fits its Rust type. This is so for all Rust values; they
+//! are stated since `laws::programs_select_by_filter` assumes it.
 
 ghost use Rattle.std.specs.Prelude.{◌≡◌, ◌+◌, ◌<◌, ◌≤◌, ℕ, List, Bool, length, IfOk, IfErr, OnOk};
 ghost use Rattle.sock_diag_filters.specs.Audit.{IsAudited};
@@ -35,7 +37,6 @@ pub enum AssembleError {
 }
 
 impl From<AllocError> for AssembleError {
-    // The result is `Memory`.
     ghost from_gives = { λ _ e. e ≡ Memory };
 
     fn from(_e: AllocError) -> AssembleError {
@@ -55,25 +56,15 @@ impl From<AllocError> for AssembleError {
 pub fn assemble(alloc: Global, filter: &Filter) -> Result<Vec<u8>, AssembleError>
     ensures size { IfOk result (λ program. length program.items ≡ program_size filter.now) }
     ensures short { IfOk result (λ program. length program.items ≤ MAX_PROGRAM) }
-    // `IsAudited program`: the kernel accepts the program.
     ensures audited { IfOk result (λ program. IsAudited program.items) }
-    // For all results of the conditions: `condition_met code arguments` is the assumed result of
-    // the condition of an operation. `Runs condition_met program verdict`: a run of the program
-    // with these results has this verdict: whether the socket is selected. `meaning met filter`:
-    // whether the filter selects a socket, if `met` says which conditions the socket meets.
-    // `code_of c` and `arguments c`: the operation of the condition `c`.
+    // For all results of the conditions (`condition_met`).
     ensures runs { IfOk result (λ program. (condition_met : ℕ → List ℕ → Bool)
         → Runs condition_met program.items
         (meaning (λ c. condition_met (code_of c) (arguments c)) filter.now)) }
-    // For all sockets: `kernel_evaluates socket` are the kernel's results. `meets socket`: which
-    // conditions the socket meets.
+    // For all sockets, with the results that the kernel computes.
     ensures selects_by_filter { IfOk result (λ program. (socket : Socket)
         → Runs (kernel_evaluates socket) program.items (meaning (meets socket) filter.now)) }
-    // `AreConditionsInRange filter`: each number of each condition fits its Rust type. This is so
-    // for all Rust values; it is stated since `laws::programs_select_by_filter` assumes it.
     ensures in_range { OnOk result (AreConditionsInRange filter.now) }
-    // `IsAssembleError filter e`: if `e` is `TooLong`, the program would have more than 65,531
-    // bytes; if it is `Memory`, at most 65,531.
     ensures refused { IfErr result (λ e. IsAssembleError filter.now e) }
 {
     let Some(len) = filter.len_within(MAX_PROGRAM) else {
@@ -91,10 +82,7 @@ pub fn assemble(alloc: Global, filter: &Filter) -> Result<Vec<u8>, AssembleError
 fn write_program(filter: &Filter, far: usize, buffer: &mut [u8])
     requires whole { length buffer.old ≡ program_size filter.now }
     requires near { program_size filter.now + far ≤ MAX_DISTANCE }
-    // `program_of filter far`: the bytes of this program.
     ensures written { buffer.new ≡ program_of filter.now far }
-    // Each number of the filter fits its Rust type. This is so for all Rust values; it is stated
-    // since `assemble` promises it.
     ensures in_range { AreConditionsInRange filter.now }
 {
     match filter {
@@ -130,11 +118,7 @@ fn write_program(filter: &Filter, far: usize, buffer: &mut [u8])
 fn write_condition(condition: Condition, far: usize, buffer: &mut [u8])
     requires whole { length buffer.old ≡ OPERATION_HEADER_LEN + length (arguments condition) }
     requires near { OPERATION_HEADER_LEN + length (arguments condition) + far ≤ MAX_DISTANCE }
-    // `code_of` and `arguments`: the code and the arguments of the condition's operation.
-    // `operation code arguments far`: the bytes of an operation.
     ensures written { buffer.new ≡ operation (code_of condition) (arguments condition) far }
-    // Each number of the condition fits its Rust type. This is so for all Rust values; it is stated
-    // since `assemble` promises it.
     ensures in_range { IsConditionInRange condition }
 {
     let (header, arguments) = buffer.split_at_mut(OPERATION_HEADER_LEN);
@@ -150,7 +134,6 @@ fn write_operation(code: u8, arguments_len: usize, far: usize, header: &mut [u8]
     requires whole { length header.old ≡ OPERATION_HEADER_LEN }
     requires short { OPERATION_HEADER_LEN + arguments_len ≤ 255 }
     requires near { OPERATION_HEADER_LEN + arguments_len + far ≤ MAX_DISTANCE }
-    // `operation_header_bytes code arguments_len far`: the four bytes of `code`, `yes` and `no`.
     ensures { header.new ≡ operation_header_bytes code arguments_len far }
 {
     let yes = OPERATION_HEADER_LEN + arguments_len;

@@ -1,4 +1,5 @@
-//! Conditions of a filter on a socket.
+//! Conditions of a filter on a socket. Clauses `in_range` state that each number fits its Rust
+//! type. This is so for all Rust values; they are stated since `assemble` promises it.
 
 ghost use Rattle.std.specs.Prelude.{◌≡◌, ◌*◌, ◌+◌, ◌≤◌, length, unwrap_or};
 ghost use Rattle.std.specs.declared.net.ip_addr.IpAddr.TheVariants.{V6};
@@ -42,8 +43,6 @@ impl Prefix {
     /// and only if the address has fewer bits: 32 for IPv4, 128 for IPv6. The bits after the prefix
     /// are kept, but they do not affect which addresses match.
     pub fn new(address: IpAddr, bits: u8) -> Option<Prefix>
-        // `IsNewPrefix result address bits`: the result is `Some` of the prefix with this address
-        // and this number of bits; or it is `None`, and the address has fewer bits.
         ensures { IsNewPrefix result address bits }
     {
         let most = match address {
@@ -137,8 +136,6 @@ impl Condition {
     pub(crate) fn write_arguments(self, buffer: &mut [u8])
         requires { length buffer.old ≡ length (arguments self) }
         ensures written { buffer.new ≡ arguments self }
-        // Each number fits its Rust type. This is so for all Rust values; it is stated since
-        // `assemble` promises it.
         ensures in_range { IsConditionInRange self }
     {
         match self {
@@ -160,7 +157,6 @@ impl Host {
 
     // Returns the length of `struct inet_diag_hostcond` with its address, in bytes.
     fn len(self) -> usize
-        // `host_bytes host`: the bytes of the struct.
         ensures { result ≡ length (host_bytes self) }
     {
         // 8 bytes, and the 4 or 16 octets of the address.
@@ -184,7 +180,6 @@ impl Host {
     // Returns the port as it is serialized: `u32::MAX` if it is `None`, and so not compared.
     fn port_number(self) -> u32
         ensures number { result ≡ unwrap_or self.port 0xffffffff }
-        // The port fits 16 bits, as each `u16`; it is stated since `assemble` promises it.
         ensures in_range { IsPort self.port }
     {
         match self.port {
@@ -197,7 +192,6 @@ impl Host {
     fn write(self, buffer: &mut [u8])
         requires { length buffer.old ≡ length (host_bytes self) }
         ensures written { buffer.new ≡ host_bytes self }
-        // The port fits 16 bits, as each `u16`; it is stated since `assemble` promises it.
         ensures in_range { IsPort self.port }
     {
         let (front, rest) = buffer.split_at_mut(4);
@@ -237,7 +231,6 @@ fn family(address: IpAddr) -> u8
 
 // Writes the octets of an address (`octets_of`) to a buffer of their length.
 fn write_address(address: IpAddr, buffer: &mut [u8])
-    // `bits_of address`: the length of the address in bits.
     requires { 8 * length buffer.old ≡ bits_of address }
     ensures { buffer.new ≡ octets_of address }
 {

@@ -23,8 +23,6 @@ impl Filter<'_> {
 
     /// Returns the length of the filter's program in bytes, or `None` if it is more than `most`.
     pub fn len_within(&self, most: usize) -> Option<usize>
-        // `SomeIff result p n`: the result is `Some n` if `p` holds, else `None`.
-        // `program_size filter`: the length of the program.
         ensures { SomeIff result (program_size self.now ≤ most) (program_size self.now) }
     {
         match self {

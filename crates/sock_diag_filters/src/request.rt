@@ -1,4 +1,6 @@
 //! Requests for IPv4 and IPv6 sockets with attributes, serialized as complete netlink messages.
+//! Clauses `in_range` and `header_in_range` state that each number fits its field. This is so for
+//! all Rust values; they are stated since `emit` promises it.
 
 ghost use Rattle.std.specs.Prelude.{◌≡◌, ◌+◌, ◌++◌, length, map};
 ghost use Rattle.netlink_core.specs.Attribute.{AreWritableWithin};
@@ -37,11 +39,9 @@ pub enum RequestAttribute<'a> {
 impl Nla for RequestAttribute<'_> {
     ghost use Rattle.sock_diag_filters.specs.ReadBack.{IsRequestAttributeInRange};
 
-    // The type and the value of the attribute.
     ghost attribute = { request_attribute };
 
-    // A program has at most 65,531 bytes, as `emit_value` requires, and a protocol is below 2^32.
-    // It is stated since `laws::request_round_trips` assumes it.
+    // Stated since `laws::request_round_trips` assumes it.
     ghost in_range = { IsRequestAttributeInRange };
 
     fn value_len(&self) -> usize {
@@ -84,18 +84,12 @@ pub struct RequestWithAttributes<'a> {
 impl Emitable for RequestWithAttributes<'_> {
     ghost use Rattle.sock_diag_filters.specs.ReadBack.{IsRequestInRange};
 
-    // `request_message r`: the header with the length of the message, the request, and the
-    // attributes with their padding.
     ghost bytes = { request_message };
 
-    // `AreWritableWithin attributes limit`: each value has at most 65,531 bytes, and all attributes
-    // with headers and paddings have at most `limit` bytes. 4,294,967,223 is 2^32 - 1 - 72: the
-    // largest length of a message, less the bytes before its attributes. The header and the request
-    // are always writable.
+    // 4,294,967,223 is 2^32 - 1 - 72: the largest length of a message, less the bytes before its
+    // attributes. The header and the request are always writable.
     ghost writable = { λ r. AreWritableWithin (map request_attribute r.attributes.now) 4294967223 };
 
-    // Each number of the header that is serialized, of the request and of the attributes fits its
-    // field.
     ghost in_range = { IsRequestInRange };
 
     /// Returns whether each program has at most 65,531 bytes, and the length of the message fits
@@ -119,17 +113,10 @@ impl Emitable for RequestWithAttributes<'_> {
 // Writes the header, with the length `len`, and then the value to `front`, which has the length of
 // both.
 fn write_front<R: Emitable>(header: &NetlinkHeader, len: u32, value: &R, front: &mut [u8])
-    // `R.writable value`: its lengths fit their fields. `R.bytes value`: the bytes that it
-    // serializes to.
     requires writable { R.writable value.now }
     requires whole { length front.old ≡ NETLINK_HEADER_LEN + length (R.bytes value.now) }
-    // `header_bytes`: the 16 bytes of a header. `header_with_length header len`: the header with
-    // this length.
     ensures written { front.new
         ≡ header_bytes (header_with_length header.now len) ++ R.bytes value.now }
-    // Each number of the header (`header_values`) fits its field (`header_fields`), and each of the
-    // value does (`R.in_range`). This is so for all Rust values; it is stated since `emit` promises
-    // it.
     ensures header_in_range { FitFields header_fields
         (header_values (header_with_length header.now len)) }
     ensures in_range { R.in_range value.now }
@@ -141,8 +128,6 @@ fn write_front<R: Emitable>(header: &NetlinkHeader, len: u32, value: &R, front: 
 
 // Serializes the value to a buffer of the same length.
 fn write_all<R: Emitable>(value: &R, buffer: &mut [u8])
-    // `R.writable value`: its lengths fit their fields. `R.bytes value`: the bytes that it
-    // serializes to. `R.in_range value`: each of its numbers fits its field, which `emit` promises.
     requires writable { R.writable value.now }
     requires whole { length buffer.old ≡ length (R.bytes value.now) }
     ensures written { buffer.new ≡ R.bytes value.now }
@@ -154,11 +139,7 @@ fn write_all<R: Emitable>(value: &R, buffer: &mut [u8])
 // Serializes the header, with the length `len`, to a buffer of 16 bytes.
 fn write_header(header: &NetlinkHeader, len: u32, buffer: &mut [u8])
     requires { length buffer.old ≡ NETLINK_HEADER_LEN }
-    // `header_bytes`: the bytes of a header. `header_with_length header len`: the header with this
-    // length.
     ensures written { buffer.new ≡ header_bytes (header_with_length header.now len) }
-    // Each number of the header (`header_values`) fits its field (`header_fields`). This is so for
-    // all Rust values; it is stated since `emit` promises it.
     ensures in_range { FitFields header_fields (header_values (header_with_length header.now len)) }
 {
     let (first, rest) = buffer.split_at_mut(4);

@@ -40,15 +40,10 @@ pub fn listening_on(
     sequence_number: u32,
 ) -> Result<Vec<u8>, AssembleError>
     // There is a program with three properties:
-    // - The kernel accepts it (`IsAudited program`).
+    // - The kernel accepts it.
     // - Each run of it selects a socket if and only if both comparisons are met. This holds for all
-    //   results of the comparisons: `condition_met code arguments` is the assumed result of an
-    //   operation, and `Runs condition_met program verdict` is a run with these results.
-    //   `port_bytes port` are the arguments of a comparison with this port.
-    // - The message carries it: `request_bytes header request attributes` are the bytes of the
-    //   message. The header (`example_request_header`) has the flags NLM_F_REQUEST and NLM_F_DUMP,
-    //   and the sequence number. The request (`tcp_request_with`) has the state LISTEN (bit 10) and
-    //   a socket id of zeros. The only attribute has the program.
+    //   results of the comparisons (`condition_met`).
+    // - The message carries it, as its only attribute.
     ensures asked { IfOk result (λ message. (program : List ℕ) × IsAudited program
         × ((condition_met : ℕ → List ℕ → Bool) → Runs condition_met program
         (condition_met INET_DIAG_BC_S_GE (port_bytes first)

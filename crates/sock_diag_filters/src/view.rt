@@ -50,8 +50,6 @@ impl<'a> RequestView<'a> {
     /// 4. the error of the first invalid attribute: a framing error, or `WrongLength` for an
     ///    `INET_DIAG_REQ_PROTOCOL` with a length other than 4.
     pub fn parse(message: &'a [u8]) -> Result<RequestView<'a>, DecodeError>
-        // `ParsesAsRequest message view`: the message at the start of the bytes parses as the view.
-        // `IsRejectedRequest message e`: `e` is the first error in it.
         ensures value { IfOk result (ParsesAsRequest message.entry.now) }
         ensures error { IfErr result (IsRejectedRequest message.entry.now) }
     {
@@ -92,8 +90,6 @@ impl<'a> Found<'a> {
     // Returns what is found after one more attribute: its program or protocol replaces the one so
     // far. `None` is an attribute of another type, which changes nothing.
     fn with(self, decoded: Option<RequestAttribute<'a>>) -> Found<'a>
-        // `found_attributes_after found attribute`: what is found after this attribute.
-        // `self.entry` and `decoded.entry`: the arguments as they were passed.
         ensures { result ≡ found_attributes_after self.entry decoded.entry }
     {
         match decoded {
@@ -112,10 +108,6 @@ impl<'a> Found<'a> {
 
 // Returns the last program and the last protocol in the attributes, or the first error.
 fn find_attributes<'a>(bytes: &'a [u8]) -> Result<Found<'a>, DecodeError>
-    // `decode_request_attribute`: the content of an attribute, or its error.
-    // `DecodeTo decode bytes contents`: the bytes split into attributes that decode to these
-    // contents. `HasLastContents found contents`: `found` has the last program and the last
-    // protocol of them. `HasAttributeError decode bytes e`: `e` is the first error in the bytes.
     ensures value { IfOk result (λ found. (decoded : List RequestContent)
         × DecodeTo decode_request_attribute bytes.entry.now decoded
         × HasLastContents found decoded) }
@@ -136,9 +128,6 @@ fn find_attributes<'a>(bytes: &'a [u8]) -> Result<Found<'a>, DecodeError>
 // Parses an attribute. Returns `None` for an attribute that is neither a program nor a protocol.
 // Fails with `WrongLength` if a protocol has a length other than 4.
 fn decode<'a>(attribute: &NlaBuffer<'a>) -> Result<Option<RequestAttribute<'a>>, DecodeError>
-    // `decode_request_attribute attribute`: `Ok` of its content, or `Err`. `buffered_attribute`:
-    // the type and the value of the attribute. `map_ok f result`: the result with `f v` for an
-    // `Ok v`. `optional_request_content`: the content of an attribute, `other_content` for `None`.
     ensures { decode_request_attribute (buffered_attribute attribute.entry.now)
         ≡ map_ok optional_request_content result }
 {
