@@ -34,7 +34,6 @@ pub enum BlockError {
 impl BlockError {
     /// Returns the text of the error up to the offset of the block, which follows it.
     pub(crate) fn text(self) -> &'static str
-        // `block_error_text error`: the text for each reason, as below.
         ensures { result.now ≡ block_error_text self }
     {
         match self {

@@ -99,8 +99,6 @@ pub enum CaptureError {
 impl CaptureError {
     /// Returns the error's text.
     pub fn text(&self) -> ErrorText
-        // `error_text_bytes text`: the bytes that the parts of the text are joined to.
-        // `capture_error_text error`: the text for each error, as below.
         ensures { error_text_bytes result ≡ capture_error_text self.now }
     {
         match self {
@@ -150,7 +148,6 @@ impl CaptureError {
 }
 
 impl fmt::Display for CaptureError {
-    // The same text as `text` returns.
     ghost output = { λ error. Some (capture_error_text error) };
 
     fn fmt<W: fmt::Write>(&self, f: &mut fmt::Formatter<W>) -> fmt::Result {
@@ -162,7 +159,6 @@ impl fmt::Display for CaptureError {
 impl Error for CaptureError {}
 
 impl From<ReadError> for CaptureError {
-    // The result is `Read` with the error.
     ghost from_gives = { λ error e. e ≡ Read error };
 
     fn from(error: ReadError) -> CaptureError {
@@ -171,7 +167,6 @@ impl From<ReadError> for CaptureError {
 }
 
 impl From<AllocError> for CaptureError {
-    // The result is `Memory`.
     ghost from_gives = { λ _ e. e ≡ Memory };
 
     fn from(_e: AllocError) -> CaptureError {
@@ -215,8 +210,6 @@ impl ByteOrder {
     /// `None` if they are one in neither order.
     pub(crate) fn find(bytes: &[u8]) -> Option<ByteOrder>
         requires { 4 ≤ length bytes.now }
-        // `HasNoPcapMagic bytes`: no magic number in either order. `HasPcapMagic bytes order`: one
-        // in this order.
         ensures { MatchOption result (HasNoPcapMagic bytes.now) (HasPcapMagic bytes.now) }
     {
         if is_magic(ByteOrder::LittleEndian.u32_at(bytes, 0)) {
@@ -240,7 +233,6 @@ fn is_magic(number: u32) -> bool
 /// Returns the error of a file that is not a capture: `Compressed` if it begins as a compressed
 /// file does, else `NoCapture`. `magic` has its first four bytes, as a big-endian number.
 pub(crate) fn no_capture(magic: u32) -> CaptureError
-    // `IsNoCaptureError magic error`: this is the error of a file that begins so.
     ensures { IsNoCaptureError magic result }
 {
     match Compression::find(magic) {
@@ -302,8 +294,6 @@ impl FileHeader {
     /// `OtherLinkType`.
     pub fn parse(bytes: &[u8]) -> Result<FileHeader, CaptureError>
         requires { FILE_HEADER_LEN ≤ length bytes.now }
-        // `IsFileHeader bytes header`: the bytes begin with this file header.
-        // `IsFileHeaderError bytes error`: they do not, and this is their first error.
         ensures { MatchResult result (IsFileHeader bytes.now) (IsFileHeaderError bytes.now) }
     {
         let Some(order) = ByteOrder::find(bytes) else {
@@ -337,15 +327,11 @@ impl FileHeader {
         input: &mut R,
         packet: &mut Vec<u8>,
     ) -> Result<Option<PacketHeader>, CaptureError>
-        // `Keeps old new`: nothing was read. `fields`: the returned fields of the packet header.
-        // `header`: its 16 bytes. `IsPacketRecord file header packet`: they are the header of this
-        // packet. `captured_packet bytes fields`: the packet with these bytes and fields.
         ensures read { IfOk result (λ found. MatchOption found
             (IsAtEnd (R.left input.new) × Keeps (R.left input.old) (R.left input.new))
             (λ fields. (header : List ℕ)
             × IsPacketRecord self.now header (captured_packet packet.new.items fields)
             × Consumes (R.left input.old) (R.left input.new) (header ++ packet.new.items))) }
-        // `IsPacketStop file input e`: `e` is the reason why no packet was read.
         ensures stopped { IfErr result (λ e. (part : List ℕ)
             × Consumes (R.left input.old) (R.left input.new) part
             × IsPacketStop self.now (stopped_input (R.left input.new) (R.failed input.new) part)
@@ -373,7 +359,6 @@ impl FileHeader {
     /// and a packet header its captured length.
     fn begins_capture(&self, bytes: &[u8]) -> bool
         requires { PACKET_HEADER_LEN ≤ length bytes.now }
-        // `BeginsCapture file bytes`: the bytes begin another pcap file.
         ensures { IsTrue result ↔ BeginsCapture self.now bytes.now }
     {
         self.order.u32_at(bytes, 8) == 0 && ByteOrder::find(bytes).is_some()
@@ -382,7 +367,6 @@ impl FileHeader {
     /// Returns the fields of the packet header in the first 16 bytes, except the captured length.
     fn packet_header(&self, bytes: &[u8]) -> PacketHeader
         requires { PACKET_HEADER_LEN ≤ length bytes.now }
-        // `packet_header_fields file bytes`: these fields, in the byte order and unit of the file.
         ensures { result ≡ packet_header_fields self.now bytes.now }
     {
         PacketHeader {
@@ -403,8 +387,6 @@ pub(crate) fn read_bytes<R: Source>(
 ) -> Result<(), CaptureError>
     ensures read { OnOk result ((length bytes.new.items ≡ count)
         × Consumes (R.left input.old) (R.left input.new) bytes.new.items) }
-    // `part` is empty if an allocation failed. Else it has fewer than `count` bytes, and the input
-    // is at its end or a read failed (`IsInputStop input e`).
     ensures stopped { IfErr result (λ e. (part : List ℕ)
         × Consumes (R.left input.old) (R.left input.new) part
         × (((e ≡ Memory) × (part ≡ []))
@@ -420,7 +402,6 @@ pub(crate) fn read_bytes<R: Source>(
 /// a read failed, which is not retried.
 pub(crate) fn fill<R: Source>(input: &mut R, bytes: &mut [u8]) -> Result<(), CaptureError>
     ensures filled { OnOk result (Consumes (R.left input.old) (R.left input.new) bytes.new) }
-    // `IsInputStop input e`: the input is at its end, or a read failed.
     ensures stopped { IfErr result (λ e. (part : List ℕ) × (length part < length bytes.old)
         × Consumes (R.left input.old) (R.left input.new) part
         × IsInputStop (stopped_input (R.left input.new) (R.failed input.new) part) e) }
@@ -441,12 +422,9 @@ pub(crate) fn fill<R: Source>(input: &mut R, bytes: &mut [u8]) -> Result<(), Cap
 /// failed. `bytes` must not be empty.
 pub(crate) fn fill_or_end<R: Source>(input: &mut R, bytes: &mut [u8]) -> Result<bool, CaptureError>
     requires { 0 < length bytes.old }
-    // `Keeps old new`: nothing was read.
     ensures filled { IfOk result (λ is_filled. MatchBool is_filled
         (Consumes (R.left input.old) (R.left input.new) bytes.new)
         (IsAtEnd (R.left input.new) × Keeps (R.left input.old) (R.left input.new))) }
-    // If the error is `Truncated`, `part` has at least one byte. `IsInputStop input e`: the input
-    // is at its end, or a read failed.
     ensures stopped { IfErr result (λ e. (part : List ℕ) × (length part < length bytes.old)
         × (e ≡ CaptureError.Truncated → 0 < length part)
         × Consumes (R.left input.old) (R.left input.new) part
@@ -480,7 +458,6 @@ impl<'a> Packet<'a> {
     /// at offset 14 is 4, both big-endian `u16`. Returns `Other` if they are not, and `Short` if
     /// there are fewer than 16 bytes.
     pub fn parse(bytes: &'a [u8]) -> Packet<'a>
-        // `IsPacketOf bytes packet`: this is the content of a packet of these bytes.
         ensures { IsPacketOf bytes.entry.now result }
     {
         if bytes.len() < COOKED_HEADER_LEN {

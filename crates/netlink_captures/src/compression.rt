@@ -21,7 +21,6 @@ impl Compression {
     /// Returns the format of a file whose first four bytes are `first`, as a big-endian number.
     /// Returns `None` if they belong to none of the formats.
     pub(crate) fn find(first: u32) -> Option<Compression>
-        // `compression_of first`: this format, as `Some`, or `None`.
         ensures { result ≡ compression_of first }
     {
         // The first two, three or four bytes, as listed at the variants.
@@ -40,7 +39,6 @@ impl Compression {
 
     /// Returns the text about a file in this format, with the command that decompresses it.
     pub fn text(self) -> &'static str
-        // `compression_text format`: the text for each format, as below.
         ensures { result.now ≡ compression_text self }
     {
         match self {

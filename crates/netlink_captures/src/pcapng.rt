@@ -150,7 +150,6 @@ pub struct PcapngReader {
 /// Returns whether a block is a section header, by the first four of its bytes.
 pub(crate) fn is_section_header(block: &[u8]) -> bool
     requires { 4 ≤ length block.now }
-    // The type at 0 is 0x0a0d0d0a.
     ensures { result ≡ is_section_header block.now }
 {
     // The type reads the same in both byte orders, so either one does.
@@ -161,7 +160,6 @@ pub(crate) fn is_section_header(block: &[u8]) -> bool
 /// the section. Returns `None` if the magic is unknown.
 fn find_order(section_order: ByteOrder, block: &[u8]) -> Option<ByteOrder>
     requires { MIN_BLOCK_LEN ≤ length block.now }
-    // `order_of_block section_order bytes`: this byte order, as `Some`, or `None`.
     ensures { result ≡ order_of_block section_order block.now }
 {
     if !is_section_header(block) {
@@ -212,7 +210,6 @@ fn option_size(order: ByteOrder, options: &[u8]) -> usize
 /// contain the whole option. Fails with `Options` if its value does not have one byte, and with
 /// `Resolution` if the unit is neither a microsecond nor a nanosecond.
 fn unit_in_option(order: ByteOrder, options: &[u8]) -> Result<TimeUnit, BlockError>
-    // `option_size`: the number of bytes of the option, with its header of 4 bytes.
     requires { option_size order options.now ≤ length options.now }
     ensures { result ≡ unit_in_option order options.now }
 {
@@ -227,7 +224,6 @@ fn unit_in_option(order: ByteOrder, options: &[u8]) -> Result<TimeUnit, BlockErr
 /// `if_tsresol`, or a microsecond if they end without one. Fails with `Options` or `Resolution` if
 /// an option up to this one is invalid.
 fn find_unit(order: ByteOrder, options: &[u8]) -> Result<TimeUnit, BlockError>
-    // `unit_by_options order options`: this unit, or the error.
     ensures { result ≡ unit_by_options order options.now }
 {
     let mut remaining = options;
@@ -284,8 +280,6 @@ fn simple_captured(snap_length: u32, original: u32) -> u32
 impl PcapngReader {
     /// Returns a reader at the start of a file. Allocates nothing.
     pub(crate) fn new(alloc: Global) -> PcapngReader
-        // `start_of_file`: no interfaces, offset 0, and any byte order, since a section header has
-        // its own.
         ensures { position_of result ≡ start_of_file }
     {
         PcapngReader {
@@ -298,7 +292,6 @@ impl PcapngReader {
 
     /// Returns the error of the block at the reader's offset, for this reason.
     fn invalid_block(&self, reason: BlockError) -> CaptureError
-        // `Block` with the reader's offset.
         ensures { result ≡ invalid_block (position_of self.now) reason }
     {
         CaptureError::Block {
@@ -311,7 +304,6 @@ impl PcapngReader {
     /// if it is not known, and with `Length` if the length of the block, in this order, is invalid.
     fn checked_order(&self, block: &[u8]) -> Result<ByteOrder, CaptureError>
         requires { MIN_BLOCK_LEN ≤ length block.now }
-        // `checked_order position bytes`: this byte order, or the error.
         ensures { result ≡ checked_order (position_of self.now) block.now }
     {
         match find_order(self.order, block) {
@@ -324,7 +316,6 @@ impl PcapngReader {
     /// Parses a section header. Fails with `Length` if it has fewer than 28 bytes, and with
     /// `Version` if its major version is not 1.
     fn section_header(&self, order: ByteOrder, block: &[u8]) -> Result<Content, CaptureError>
-        // `section_header_in block`: the content, or the error.
         ensures { result ≡ section_header_in (next_block self.now order block.now) }
     {
         if block.len() < MIN_SECTION_HEADER_LEN {
@@ -340,7 +331,6 @@ impl PcapngReader {
     /// `TooManyInterfaces` if the section already has `MAX_INTERFACES`, and with `Options` or
     /// `Resolution` if its options are invalid.
     fn interface(&self, order: ByteOrder, block: &[u8]) -> Result<Content, CaptureError>
-        // `interface_in block`: the content, or the error.
         ensures { result ≡ interface_in (next_block self.now order block.now) }
     {
         if block.len() < MIN_INTERFACE_LEN {
@@ -363,7 +353,6 @@ impl PcapngReader {
     /// Returns the interface with a number, from 0 on. Fails with `NoInterface` if the section has
     /// not described it, and with `OtherLinkType` if its link type is not 253.
     fn find_interface(&self, number: u32) -> Result<Interface, CaptureError>
-        // `interface_of position number`: this interface of the section, or the error.
         ensures { result ≡ interface_of (position_of self.now) number }
     {
         match self.interfaces.as_slice().get(number as usize) {
@@ -379,7 +368,6 @@ impl PcapngReader {
     fn packet_in(&self, block: &[u8], slot: PacketSlot) -> Result<Content, CaptureError>
         // No packet begins after this offset. So the offset of its end fits a `usize`.
         requires { slot.start ≤ ENHANCED_PACKET_START }
-        // `packet_in position bytes slot`: this packet, or the error.
         ensures value { result ≡ packet_in (position_of self.now) block.now slot }
         ensures fits { IfOk result (FitsBlock block.now) }
     {
@@ -404,7 +392,6 @@ impl PcapngReader {
         timestamp: u64,
     ) -> Result<Content, CaptureError>
         requires { MIN_ENHANCED_PACKET_LEN ≤ length block.now }
-        // `timed_packet block unit timestamp`: this packet, or the error.
         ensures value { result
             ≡ timed_packet (next_block self.now order block.now) unit timestamp }
         ensures fits { IfOk result (FitsBlock block.now) }
@@ -437,7 +424,6 @@ impl PcapngReader {
         block: &[u8],
         number: u32,
     ) -> Result<Content, CaptureError>
-        // `enhanced_packet_in block number`: this packet, or the error.
         ensures value { result ≡ enhanced_packet_in (next_block self.now order block.now) number }
         ensures fits { IfOk result (FitsBlock block.now) }
     {
@@ -460,7 +446,6 @@ impl PcapngReader {
     /// it has no timestamp, which counts as 0. Fails with `Length` if the block is too short, or
     /// else with the error of the interface or of the packet.
     fn simple_packet(&self, order: ByteOrder, block: &[u8]) -> Result<Content, CaptureError>
-        // `simple_packet_in block`: this packet, or the error.
         ensures value { result ≡ simple_packet_in (next_block self.now order block.now) }
         ensures fits { IfOk result (FitsBlock block.now) }
     {
@@ -491,7 +476,6 @@ impl PcapngReader {
     /// interface description or of the packet.
     fn content_by_type(&self, order: ByteOrder, block: &[u8]) -> Result<Content, CaptureError>
         requires { MIN_BLOCK_LEN ≤ length block.now }
-        // `content_by_type block`: the content, or the error.
         ensures value { result ≡ content_by_type (next_block self.now order block.now) }
         ensures fits { IfOk result (FitsBlock block.now) }
     {
@@ -511,7 +495,6 @@ impl PcapngReader {
     fn content(&self, order: ByteOrder, block: &[u8]) -> Result<Content, CaptureError>
         requires long { MIN_BLOCK_LEN ≤ length block.now }
         requires short { length block.now ≤ MAX_BLOCK_LEN }
-        // `content_of block`: the content, or the error.
         ensures value { result ≡ content_of (next_block self.now order block.now) }
         ensures fits { IfOk result (FitsBlock block.now) }
     {
@@ -528,8 +511,7 @@ impl PcapngReader {
     /// allocation fails.
     fn store_block(&mut self, head: &[u8], rest: &[u8]) -> Result<(), AllocError>
         ensures stored { OnOk result (self.new.block.items ≡ head.now ++ rest.now) }
-        // Whether it fails or not, the reader does not move: its byte order, interfaces and offset
-        // are unchanged.
+        // Whether it fails or not, the reader does not move.
         ensures kept { position_of self.new ≡ position_of self.old }
     {
         self.block.clear();
@@ -548,18 +530,12 @@ impl PcapngReader {
         rest: &mut Vec<u8>,
     ) -> Result<ByteOrder, CaptureError>
         requires { length head.now ≡ MIN_BLOCK_LEN }
-        // `checked_order position head`: the byte order, if it and the length of the block are
-        // valid. `block_length order head`: this length, here of `head` and `rest`. Both are
-        // stored.
         ensures read { IfOk result (λ order.
             (checked_order (position_of self.old) head.now ≡ Ok order)
             × (MIN_BLOCK_LEN + length rest.new.items ≡ block_length order head.now)
             × (self.new.block.items ≡ head.now ++ rest.new.items)
             × Consumes (R.left input.old) (R.left input.new) rest.new.items) }
-        // Whether it fails or not, the reader does not move.
         ensures kept { position_of self.new ≡ position_of self.old }
-        // `IsStopInBlock position input e`: `e` is the reason why no whole block was read at this
-        // position, after these bytes, here `head` and `part`.
         ensures stopped { IfErr result (λ e. (part : List ℕ)
             × Consumes (R.left input.old) (R.left input.new) part
             × IsStopInBlock (position_of self.old)
@@ -577,7 +553,6 @@ impl PcapngReader {
     fn advance(&mut self, order: ByteOrder, content: Content) -> Result<(), AllocError>
         // The end of the block fits the 64 bits of an offset.
         requires { (position_of self.old).offset + length self.old.block.items < 2 ^ 64 }
-        // `after_block block content`: the position after the block.
         ensures moved { OnOk result (position_of self.new
             ≡ after_block (next_block self.old order self.old.block.items) content) }
         ensures block { self.new.block.items ≡ self.old.block.items }
@@ -602,15 +577,12 @@ impl PcapngReader {
         rest: &mut Vec<u8>,
     ) -> Result<Content, CaptureError>
         requires { length head.now ≡ MIN_BLOCK_LEN }
-        // `more`: the bytes of the block after `head`. The stored block has both.
         ensures read { IfOk result (λ content. (more : List ℕ)
             × (self.new.block.items ≡ head.now ++ more)
             × Consumes (R.left input.old) (R.left input.new) more
             × MovesOver (position_of self.old) self.new.block.items content
             (position_of self.new)) }
         ensures fits { IfOk result (FitsBlock self.new.block.items) }
-        // `IsBlockStop position input e`: `e` is the reason why no block was read at this position,
-        // after these bytes, here `head` and `part`.
         ensures stopped { IfErr result (λ e. (part : List ℕ)
             × Consumes (R.left input.old) (R.left input.new) part
             × IsBlockStop (position_of self.old)
@@ -630,13 +602,9 @@ impl PcapngReader {
         input: &mut R,
     ) -> Result<PcapngReader, CaptureError>
         requires { length head.now ≡ MIN_BLOCK_LEN }
-        // `more`: the bytes of the block after `head`. `start_of_file`: the position of the first
-        // block.
         ensures read { IfOk result (λ reader. (more : List ℕ) × (content : Content)
             × Consumes (R.left input.old) (R.left input.new) more
             × MovesOver start_of_file (head.now ++ more) content (position_of reader)) }
-        // `IsBlockStop position input e`: `e` is the reason why no block was read at this position,
-        // after these bytes, here `head` and `part`.
         ensures stopped { IfErr result (λ e. (part : List ℕ)
             × Consumes (R.left input.old) (R.left input.new) part
             × IsBlockStop start_of_file
@@ -658,8 +626,6 @@ impl PcapngReader {
         input: &mut R,
         rest: &mut Vec<u8>,
     ) -> Result<Option<Content>, CaptureError>
-        // `None`: the input is at its end, nothing was read, and the reader did not move. A
-        // content: the bytes of the stored block were read, and the reader moved over this block.
         ensures read { IfOk result (λ found. MatchOption found
             (IsAtEnd (R.left input.new) × Keeps (R.left input.old) (R.left input.new)
             × (position_of self.new ≡ position_of self.old))
@@ -667,7 +633,6 @@ impl PcapngReader {
             × MovesOver (position_of self.old) self.new.block.items content
             (position_of self.new))) }
         ensures fits { IfOk result (λ found. IfSome found (FitsBlock self.new.block.items)) }
-        // `IsBlockStop position input e`: `e` is the reason why no block was read at this position.
         ensures stopped { IfErr result (λ e. (part : List ℕ)
             × Consumes (R.left input.old) (R.left input.new) part
             × IsBlockStop (position_of self.old)
@@ -687,8 +652,6 @@ impl PcapngReader {
     /// dropped. Fails if an allocation fails.
     fn copy_packet(&self, slot: PacketSlot, packet: &mut Vec<u8>) -> Result<(), AllocError>
         requires { slot.start + slot.count ≤ length self.now.block.items }
-        // `captured_packet bytes header`: the packet with these bytes and this header.
-        // `packet_in_slot slot bytes`: the packet in this slot of the block.
         ensures { OnOk result (captured_packet packet.new.items slot.header
             ≡ packet_in_slot slot self.now.block.items) }
     {
@@ -707,10 +670,6 @@ impl PcapngReader {
         input: &mut R,
         packet: &mut Vec<u8>,
     ) -> Result<Option<PacketHeader>, CaptureError>
-        // `bytes`: those that were read. `IsEndOfBlocks old bytes new`: they are blocks without a
-        // packet, which lead from the position `old` to `new`.
-        // `IsNextPacket old bytes packet new`: they are such blocks, and then one with this packet.
-        // `captured_packet bytes header`: the packet with these bytes and this header.
         ensures read { IfOk result (λ found. (bytes : List ℕ)
             × Consumes (R.left input.old) (R.left input.new) bytes
             × MatchOption found
@@ -718,8 +677,7 @@ impl PcapngReader {
             × IsEndOfBlocks (position_of self.old) bytes (position_of self.new))
             (λ header. IsNextPacket (position_of self.old) bytes
             (captured_packet packet.new.items header) (position_of self.new))) }
-        // `IsNextPacketStop position input e`: `e` is the reason why no packet was read after this
-        // position. `part`: blocks without a packet, and bytes of the block that failed.
+        // `part`: blocks without a packet, and bytes of the block that failed.
         ensures stopped { IfErr result (λ e. (part : List ℕ)
             × Consumes (R.left input.old) (R.left input.new) part
             × IsNextPacketStop (position_of self.old)

@@ -36,8 +36,6 @@ pub enum CaptureReader {
 /// `NoCapture` if they are not.
 fn check_magic(bytes: &[u8]) -> Result<(), CaptureError>
     requires { 4 ≤ length bytes.now }
-    // `HasMagic bytes`: they begin as a pcapng file does, or with a magic number of pcap in either
-    // byte order. `IsRejectedByMagic bytes e`: they do not, and `e` is their error.
     ensures { MatchResult result (λ _. HasMagic bytes.now) (IsRejectedByMagic bytes.now) }
 {
     if is_section_header(bytes) || ByteOrder::find(bytes).is_some() {
@@ -52,10 +50,8 @@ fn check_magic(bytes: &[u8]) -> Result<(), CaptureError>
 /// `CaptureReader::open` does for these bytes.
 fn read_magic<R: Source>(input: &mut R, magic: &mut [u8]) -> Result<(), CaptureError>
     requires { length magic.old ≡ 4 }
-    // `HasMagic bytes`: they begin with a known magic number.
     ensures read { OnOk result (HasMagic magic.new
         × Consumes (R.left input.old) (R.left input.new) magic.new) }
-    // `IsEarlyReadStop input e`: `e` is the reason why reading stopped.
     ensures stopped { IfErr result (λ e. (part : List ℕ) × (length part ≤ 4)
         × Consumes (R.left input.old) (R.left input.new) part
         × IsEarlyReadStop (stopped_input (R.left input.new) (R.failed input.new) part) e) }
@@ -74,10 +70,8 @@ fn read_magic<R: Source>(input: &mut R, magic: &mut [u8]) -> Result<(), CaptureE
 /// header of a pcap file. Fails as `CaptureReader::open` does for these bytes.
 fn read_head<R: Source>(input: &mut R, head: &mut [u8]) -> Result<(), CaptureError>
     requires { length head.old ≡ MIN_BLOCK_LEN }
-    // `HasMagic bytes`: they begin with a known magic number.
     ensures read { OnOk result (HasMagic head.new
         × Consumes (R.left input.old) (R.left input.new) head.new) }
-    // `IsEarlyReadStop input e`: `e` is the reason why reading stopped.
     ensures stopped { IfErr result (λ e. (part : List ℕ) × (length part < MIN_BLOCK_LEN)
         × Consumes (R.left input.old) (R.left input.new) part
         × IsEarlyReadStop (stopped_input (R.left input.new) (R.failed input.new) part) e) }
@@ -92,13 +86,9 @@ fn read_head<R: Source>(input: &mut R, head: &mut [u8]) -> Result<(), CaptureErr
 /// of `FileHeader::parse`.
 fn open_pcap<R: Source>(head: &[u8], input: &mut R) -> Result<FileHeader, CaptureError>
     requires { length head.now ≡ MIN_BLOCK_LEN }
-    // `more`: the bytes that were read. `IsFileHeader bytes header`: the bytes begin with this file
-    // header.
     ensures read { IfOk result (λ file. (more : List ℕ) × (length more ≡ 12)
         × IsFileHeader (head.now ++ more) file
         × Consumes (R.left input.old) (R.left input.new) more) }
-    // `IsInputStop input e`: the input is at its end, or a read failed.
-    // `IsFileHeaderError bytes e`: the 24 bytes are not a file header, for the reason `e`.
     ensures stopped { IfErr result (λ e. (part : List ℕ)
         × Consumes (R.left input.old) (R.left input.new) part
         × (((length part < 12)
@@ -123,13 +113,9 @@ impl CaptureReader {
     /// `FileHeader::parse`. If a pcapng file begins with an invalid block, fails with `Block`, and
     /// if an allocation failed, with `Memory`.
     pub fn open<R: Source>(alloc: Global, input: &mut R) -> Result<CaptureReader, CaptureError>
-        // `IsCaptureStart bytes state`: a capture begins with these bytes, and a reader that has
-        // read them has this state. `state_of reader`: the file header of a pcap file, or the
-        // position in a pcapng file.
         ensures read { IfOk result (λ reader. (bytes : List ℕ)
             × IsCaptureStart bytes (state_of reader)
             × Consumes (R.left input.old) (R.left input.new) bytes) }
-        // `IsCaptureStartStop input e`: `e` is the reason why no capture was opened.
         ensures stopped { IfErr result (λ e. (part : List ℕ)
             × Consumes (R.left input.old) (R.left input.new) part
             × IsCaptureStartStop (stopped_input (R.left input.new) (R.failed input.new) part) e) }
@@ -169,17 +155,12 @@ impl CaptureReader {
         input: &mut R,
         packet: &mut Vec<u8>,
     ) -> Result<Option<PacketHeader>, CaptureError>
-        // `bytes`: those that were read. `IsCaptureEnd state bytes`: after this state they contain
-        // no packet. `state_of reader`: the file header of a pcap file, or the position in a pcapng
-        // file. `ReadsPacket old bytes packet new`: they lead from the state `old` over this packet
-        // to `new`. `captured_packet bytes header`: the packet with these bytes and this header.
         ensures read { IfOk result (λ found. (bytes : List ℕ)
             × Consumes (R.left input.old) (R.left input.new) bytes
             × MatchOption found
             (IsAtEnd (R.left input.new) × IsCaptureEnd (state_of self.old) bytes)
             (λ header. ReadsPacket (state_of self.old) bytes
             (captured_packet packet.new.items header) (state_of self.new))) }
-        // `IsCaptureStop state input e`: `e` is the reason why no packet was read after this state.
         ensures stopped { IfErr result (λ e. (part : List ℕ)
             × Consumes (R.left input.old) (R.left input.new) part
             × IsCaptureStop (state_of self.old)
