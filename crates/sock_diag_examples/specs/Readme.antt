@@ -22,8 +22,7 @@ use Rattle.sock_diag_records.specs.ResponseKind.{unix_response}
 use Rattle.sock_diag_replies.specs.UnixGetters.{first_content_of}
 use Rattle.sock_diag_replies.specs.UnixResponseSpec.{unix_response_spec}
 
--- `IsUnixReply bytes`: the bytes parse as a reply about a UNIX socket, as some value `v`. The codec
--- has no parameter (`tt`).
+-- `IsUnixReply bytes`: the bytes parse as a reply about a UNIX socket, as some value `v`.
 abbrev pub IsUnixReply : List ℕ → Type 0
 IsUnixReply bytes =
     (v : ReplyValue unix_response_spec) × (response_codec unix_response_spec).parses bytes tt v

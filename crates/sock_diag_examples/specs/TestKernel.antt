@@ -55,7 +55,7 @@ done_message_bytes sequence_number =
 
 -- `parsed_request header bytes`: the payload of the netlink message with this header at the start
 -- of the bytes, parsed as a request for UNIX sockets. It follows the 16 bytes of the header, up to
--- the length of the message. The parser has no parameter (`tt`).
+-- the length of the message.
 abbrev pub parsed_request : NetlinkHeader → List ℕ → Result UnixRequest DecodeError
 parsed_request header bytes =
     parse_record unix_request tt (take (header.length - 16) (drop 16 bytes))
@@ -118,8 +118,7 @@ AnswerFails request replies errors.Unwritable =
     IsUnixRequestMessage request × ¬ AllByRecursion IsWritableReplyMessage replies
 AnswerFails request replies errors.Memory = IsUnixRequestMessage request
 
--- `IsWritableReply reply`: a reply as parsers return it, whose message is writable. Parsers of
--- replies have no parameter (`tt`).
+-- `IsWritableReply reply`: a reply as parsers return it, whose message is writable.
 pub record IsWritableReply (reply : ReplyValue unix_response_spec) : Type 0 where
   -- each number fits its field
   pub is_in_range : (response_codec unix_response_spec).is_in_range reply

@@ -8,7 +8,6 @@ use crate::listening_tcp::REQUEST_LENGTH;
 
 /// States the value of each constant.
 pub fn use_constants_have_their_values()
-    // `PairsAreEqual`: both numbers of each pair are equal.
     ensures { PairsAreEqual ((REQUEST_LENGTH, 72) ∷ (IFLA_IFNAME, 3) ∷
         (IFLA_MTU, 4) ∷ []) }
 {}

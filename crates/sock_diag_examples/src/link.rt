@@ -49,7 +49,6 @@ pub enum LinkError {
 }
 
 impl From<DecodeError> for LinkError {
-    // `e`: what `from` returns for the error.
     ghost from_gives = { λ error e. e ≡ link_error_of error };
 
     fn from(error: DecodeError) -> LinkError {
@@ -66,16 +65,11 @@ impl From<DecodeError> for LinkError {
 ///   UTF-8, or an MTU that does not have four bytes. Or `e` is `Memory`, if an allocation for a
 ///   name failed.
 pub fn parse_link(alloc: Global, payload: &[u8]) -> Result<Link, LinkError>
-    // `DecodeTo decodes_link bytes found`: the attributes after the 16 bytes of `struct ifinfomsg`
-    // decode to `found`, in order. `string_content`: the bytes of a `String`, if there is one.
-    // `last_or None`: the last element of a list, or `None` if it is empty. `name_in`, `mtu_in`:
-    // the name or the MTU, if an attribute decodes to one.
+    // `found` is what the attributes after `struct ifinfomsg` decode to, in order.
     ensures value { IfOk result (λ link. (found : List LinkAttribute) × (16 ≤ length payload.now)
         × DecodeTo decodes_link (drop 16 payload.now) found
         × (string_content link.name ≡ last_or None (filter_map name_in found))
         × (link.mtu ≡ last_or None (filter_map mtu_in found))) }
-    // `LinkFails payload error`: what the list above says of this error; of `Memory` only that
-    // there is a name to allocate.
     ensures error { IfErr result (LinkFails payload.now) }
 {
     if payload.len() < IFINFOMSG_LEN {
@@ -98,7 +92,6 @@ pub fn parse_link(alloc: Global, payload: &[u8]) -> Result<Link, LinkError>
 
 /// Returns `v == w`: whether two interfaces have equal names and equal MTUs.
 pub fn equal_links(v: &Link, w: &Link) -> bool
-    // `string_content`: the bytes of a `String`, if there is one.
     ensures { IsTrue result
         ↔ ((string_content v.now.name ≡ string_content w.now.name) × (v.now.mtu ≡ w.now.mtu)) }
 {
@@ -118,23 +111,17 @@ pub fn equal_link_errors(v: &LinkError, w: &LinkError) -> bool
 /// framing error if the bytes do not start with an attribute, and with `Memory` if an allocation
 /// fails.
 pub fn attribute_key(alloc: Global, attribute: &[u8]) -> Result<Vec<u8>, CanonError>
-    // `first_attribute_codec []`: the codec of one attribute, of which no kind is known (`[]`), so
-    // that it parses as itself. It has no parameter (`tt`). `attribute_bytes a`: the header, the
-    // value and the padding of the attribute `a`.
+    // No kind of attribute is known (`[]`), so that each attribute parses as itself.
     ensures written { IfOk result (λ key.
         (a : Attribute) × (first_attribute_codec []).parses attribute.now tt a
         × (key.items ≡ attribute_bytes a)) }
-    // For all other bytes (`IsBytes`: numbers below 256): if they parse as an attribute, it has the
-    // same canonical form if and only if the bytes are equivalent. The condition `FitsLengthField`
-    // holds of every attribute that was parsed.
+    // For all other bytes that parse as an attribute. `FitsLengthField` holds of every attribute
+    // that was parsed.
     ensures equal_bytes { IfOk result (λ key. (bytes : List ℕ) (other : Attribute) → IsBytes bytes
         → (first_attribute_codec []).parses bytes tt other
         → FitsLengthField other
         → ((attribute_bytes other ≡ key.items)
         ↔ (first_attribute_codec []).equivalent tt attribute.now bytes)) }
-    // `CanonicalFails parses rejects is_writable`: what holds by the error. `Refused(e)`: the bytes
-    // are rejected with `e`. `Unwritable`: they parse as an attribute that does not fit its length
-    // field. `Memory`: they parse as one that does.
     ensures err { IfErr result (canon.CanonicalFails
         ((first_attribute_codec []).parses attribute.now tt)
         ((first_attribute_codec []).rejects attribute.now tt) FitsLengthField) }

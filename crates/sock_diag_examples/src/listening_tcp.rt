@@ -40,9 +40,6 @@ impl Exact for Family {
 /// replies repeat the sequence number.
 #[tactic(auto, unfolding(sock_diag_records::specs::InetRequest::inet_request))]
 pub fn listening_tcp(family: Family, sequence_number: u32) -> NetlinkMessage<SockDiagMessage>
-    // `netlink_message_model message_model result`: the header of the message, and the model of its
-    // request. `listening_request family sequence_number`: the message that the doc comment
-    // describes.
     ensures { netlink_message_model message_model result
         ≡ listening_request family sequence_number }
 {
@@ -70,7 +67,6 @@ pub fn listening_tcp(family: Family, sequence_number: u32) -> NetlinkMessage<Soc
 /// Returns the bytes of [`listening_tcp`] as they are sent.
 #[tactic(auto, unfolding(sock_diag_records::specs::InetRequest::inet_request))]
 pub fn listening_tcp_bytes(family: Family, sequence_number: u32) -> [u8; REQUEST_LENGTH]
-    // `netlink_message_codec.serialized message`: the bytes of the message with its header.
     ensures written { result ≡ netlink_message_codec.serialized
         (listening_request family sequence_number) }
     // Length 72, type 20, flags 0x301, the sequence number, port id 0; the family (`family_number`,

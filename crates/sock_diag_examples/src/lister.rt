@@ -35,8 +35,6 @@ pub enum Line {
 /// Returns the lines of a datagram, in order: one for each message except `NLMSG_NOOP`, and one for
 /// remaining bytes that are not a message. Fails only if an allocation fails.
 pub fn list(alloc: Global, datagram: &[u8]) -> Result<Vec<Line>, AllocError>
-    // `AreLinesOf datagram lines`: these are the lines of the items of the datagram, in order. An
-    // `Err` is an allocation failure, of which nothing is stated.
     ensures { IfOk result (λ lines. AreLinesOf datagram.now lines.items) }
 {
     // Proof only: what the iterator yields are the items of the datagram.
@@ -54,9 +52,7 @@ pub fn equal_lines(v: &Line, w: &Line) -> bool
 // Returns the lines of the items that the iterator `views` yields, in order. Fails only if an
 // allocation fails.
 fn lines_of(alloc: Global, views: DumpViews<'_>) -> Result<Vec<Line>, AllocError>
-    // `Drains YieldsPayloadView views items`: `items` is what `next` of the iterator yields until
-    // its end. `filter_map line_of`: the lines of those that have one. `map (map_ok
-    // payload_view_model) items`: the models of the items.
+    // `items` is what the iterator yields.
     ensures { IfOk result (λ lines. (items : List (Result PayloadView DecodeErrorModel))
         × Drains YieldsPayloadView views.entry items
         × (lines.items ≡ filter_map line_of (map (map_ok payload_view_model) items))) }
@@ -72,8 +68,6 @@ fn lines_of(alloc: Global, views: DumpViews<'_>) -> Result<Vec<Line>, AllocError
 
 // Returns the line of an item, or `None` for `NLMSG_NOOP`.
 fn line_for(item: Result<PayloadView<'_>, DecodeError>) -> Option<Line>
-    // `line_of item`: this line. `map_ok payload_view_model item`: the model of the payload, or the
-    // decode error.
     ensures { result ≡ line_of (map_ok payload_view_model item.entry) }
 {
     match item {
@@ -87,8 +81,7 @@ fn line_for(item: Result<PayloadView<'_>, DecodeError>) -> Option<Line>
 
 // Returns the line of a socket.
 fn socket_line(message: &SockDiagView<'_>) -> Line
-    // `socket_of message`: the line of a message, `None` for a request. A borrowed message is
-    // always a reply, so it has a line (`Some`).
+    // A borrowed message is always a reply, so it has a line (`Some`).
     ensures { Some result ≡ socket_of (message_view_model message.now) }
 {
     match message {

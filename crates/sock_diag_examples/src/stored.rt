@@ -19,11 +19,7 @@ use std::alloc::Global;
 /// Fails with `Refused` and the first decode error if the reply is invalid, with `Unwritable` if
 /// its value is not writable, and with `Memory` if an allocation fails.
 pub fn key(alloc: Global, reply: &[u8]) -> Result<Vec<u8>, CanonError>
-    // `IsKey reply key`: the reply is a writable message, and `key` are the bytes that it
-    // serializes to. `KeyFails reply error`: what the doc comment says of this error.
     ensures key { IfOk result (λ key. IsKey reply.now key.items) }
-    // For each other reply that has a key: both keys are equal if and only if the replies are
-    // equivalent.
     ensures equal_bytes { IfOk result (λ key. (other other_key : List ℕ) → IsKey other other_key
         → ((key.items ≡ other_key)
         ↔ message_codec.equivalent SOCK_DIAG_BY_FAMILY reply.now other)) }
@@ -36,8 +32,6 @@ pub fn key(alloc: Global, reply: &[u8]) -> Result<Vec<u8>, CanonError>
 /// Otherwise returns the error of the first reply, or of the second if the first has a
 /// key. An error is the one of [`key`].
 pub fn same_reply(alloc: Global, one: &[u8], other: &[u8]) -> Result<bool, CanonError>
-    // `HasKey reply`: the reply has a key. `KeyFails reply error`: `key` fails with this error. By
-    // `keys`, both replies have keys if the result is `Ok`.
     ensures value { IfOk result (λ same. IsTrue same
         ↔ message_codec.equivalent SOCK_DIAG_BY_FAMILY one.now other.now) }
     ensures keys { OnOk result (HasKey one.now × HasKey other.now) }

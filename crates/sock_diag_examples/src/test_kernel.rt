@@ -36,7 +36,6 @@ pub enum AnswerError {
 }
 
 impl From<DecodeError> for AnswerError {
-    // `e`: what `from` returns for the error.
     ghost from_gives = { λ error e. e ≡ errors.Request error };
 
     fn from(error: DecodeError) -> AnswerError {
@@ -45,7 +44,6 @@ impl From<DecodeError> for AnswerError {
 }
 
 impl From<AllocError> for AnswerError {
-    // `e`: what `from` returns, for any argument (`_`).
     ghost from_gives = { λ _ e. e ≡ errors.Memory };
 
     fn from(_e: AllocError) -> AnswerError {
@@ -54,7 +52,6 @@ impl From<AllocError> for AnswerError {
 }
 
 impl<T: Drop> From<AllocFailed<T>> for AnswerError {
-    // `e`: what `from` returns, for any argument (`_`).
     ghost from_gives = { λ _ e. e ≡ errors.Memory };
 
     fn from(_e: AllocFailed<T>) -> AnswerError {
@@ -84,10 +81,6 @@ pub fn answer(
     request: &[u8],
     replies: &[UnixResponse],
 ) -> Result<Vec<u8>, AnswerError>
-    // `IsAnswer request replies datagram`: the request is valid, and the datagram has the message
-    // of each reply and then `NLMSG_DONE`, all with its sequence number. `AnswerFails request
-    // replies error`: what the list above says of this error; of `Memory`, that the request is
-    // valid. `unix_response_model`: the model of a reply, its header and its decoded attributes.
     ensures answer { IfOk result (λ datagram.
         IsAnswer request.now (map unix_response_model replies.now)
         datagram.items) }
@@ -114,10 +107,6 @@ pub fn answer(
 /// The dump over an answer is complete and has exactly the caller's replies, if each is in range
 /// and in normal form, and its message is writable. Proof only: the contract states the property.
 pub fn answer_is_a_complete_dump()
-    // `IsAnswer request replies datagram`: what `answer` ensures of its result. `IsWritableReply`:
-    // the reply is in range and in normal form, and its message is writable. `IsCompleteDump
-    // datagram replies`: the dump over the datagram has exactly these replies, and ends with
-    // `NLMSG_DONE` and error number 0.
     ensures { (request : List ℕ) (replies : List (ReplyValue unix_response_spec))
         (datagram : List ℕ)
         → IsAnswer request replies datagram
@@ -137,9 +126,6 @@ fn push_replies(
     sequence_number: u32,
     replies: &[UnixResponse],
 ) -> Result<(), AnswerError>
-    // `flat_map (reply_message_bytes sequence_number) replies`: the bytes of the message of each
-    // reply, concatenated. `FailsUnless are_writable error`: the error is `Memory`, or it is
-    // `Unwritable` and `are_writable` does not hold.
     ensures added { OnOk result (datagram.new.items ≡ datagram.old.items
         ++ flat_map (reply_message_bytes sequence_number) (map unix_response_model replies.now)) }
     ensures err { IfErr result
@@ -160,9 +146,6 @@ fn push_reply(
     sequence_number: u32,
     reply: &UnixResponse,
 ) -> Result<(), AnswerError>
-    // `reply_message_bytes sequence_number reply`: the bytes of the message of the reply.
-    // `FailsUnless are_writable error`: the error is `Memory`, or it is `Unwritable` and
-    // `are_writable` does not hold.
     ensures added { OnOk result (datagram.new.items ≡ datagram.old.items
         ++ reply_message_bytes sequence_number (unix_response_model reply.now)) }
     ensures err { IfErr result (FailsUnless
@@ -189,10 +172,6 @@ fn push_message(
     sequence_number: u32,
     payload: NetlinkPayload<SockDiagMessage>,
 ) -> Result<(), AnswerError>
-    // `owned_payload_model message_model payload`: the model of the payload, in which bytes are
-    // a list, and an inner message is a `Message`. `numbered_message_bytes sequence_number
-    // payload`: the bytes of the message with this payload. `FailsUnless are_writable error`: the
-    // error is `Memory`, or it is `Unwritable` and `are_writable` does not hold.
     ensures added { OnOk result (datagram.new.items ≡ datagram.old.items
         ++ numbered_message_bytes sequence_number (owned_payload_model message_model payload)) }
     ensures err { IfErr result (FailsUnless

@@ -13,13 +13,10 @@ use netlink_packet_sock_diag::unix::UnixResponseView;
 /// the same order, except for ignored bits such as padding. Returns the decode error of the first
 /// reply if it is invalid, or else the error of the second.
 pub fn are_same_reply(one: &[u8], other: &[u8]) -> Result<bool, DecodeError>
-    // The codec of these replies has no parameter (`tt`).
     ensures value { IfOk result (λ same.
         IsTrue same ↔ (response_codec unix_response_spec).equivalent tt one.now
         other.now) }
-    // `IsUnixReply`: the bytes are a valid reply about a UNIX socket.
     ensures accepted { OnOk result (IsUnixReply one.now × IsUnixReply other.now) }
-    // The error of the first reply, or of the second if the first is valid.
     ensures error { IfErr result (λ e. (response_codec unix_response_spec).rejects one.now tt e
         ⊎ (IsUnixReply one.now × (response_codec unix_response_spec).rejects other.now tt e)) }
 {

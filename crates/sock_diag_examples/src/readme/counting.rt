@@ -11,7 +11,6 @@ use netlink_packet_sock_diag::{DumpViews, PayloadView, SockDiagView};
 /// that data was lost: that message is `NLMSG_ERROR`, `NLMSG_OVERRUN`, or `NLMSG_DONE` without an
 /// error number 0. Returns the first decode error before that message.
 pub fn listening(datagram: &[u8]) -> Result<Option<usize>, DecodeError>
-    // `IsCounted datagram result`: the result is what the doc comment says.
     ensures { IsCounted datagram.now result }
 {
     let mut count = 0usize;

@@ -24,8 +24,7 @@ pub fn listener(alloc: Global, inode: u32, path: &[u8]) -> Result<UnixResponse, 
           inode = inode;
           cookie = replicate 8 0;
         }) }
-    // The reply has exactly one attribute: `value_as_decoded` makes a decoded attribute of this
-    // kind from its value.
+    // The reply has exactly one attribute.
     ensures name { IfOk result
         (λ reply. (unix_response_model reply).nlas
         ≡ value_as_decoded unix_attribute_set UNIX_DIAG_NAME
