@@ -2,7 +2,7 @@
 //! sock_diag(7).
 
 use super::attribute_sizes::attribute;
-use super::{assert_bytes, assert_debug, assert_emits, assert_text, debug_text, emitted};
+use super::{assert_bytes, assert_emits, assert_text, debug_text, emitted};
 use netlink_core::{
     CanonError, DecodeError, DefaultNla, Emitable, NlaBuffer, Parseable, Wire, canonical,
 };
@@ -277,28 +277,6 @@ fn information_on_a_connection(rt: HostRuntime) {
     let text = format!(in alloc; "TcpInfo({info:?})").expect(&rt, "memory");
     let subject = Subject::InetAttribute;
     assert_views_and_values(&rt, alloc, subject, (&bytes, &bytes), &text, &text);
-}
-
-#[test]
-fn numbers_are_shown_and_kept(rt: HostRuntime) {
-    let alloc = rt.alloc();
-    // `UNIX_DIAG_ICONS` (3) with two inodes.
-    let bytes = &[12, 0, 3, 0, 5, 0, 0, 0, 6, 0, 0, 0];
-    let nla = NlaBuffer::new_checked(bytes).expect(&rt, "refused");
-    let NlaView::PendingConnections(numbers) = NlaView::parse(&nla).expect(&rt, "refused") else {
-        panic!(&rt; "no numbers");
-    };
-    let text = "NumbersIterator { remaining: NumbersView { bytes: [5, 0, 0, 0, 6, 0, 0, 0] } }";
-    assert_debug(&rt, alloc, &numbers.iter(), text);
-    let items = [numbers.get(0), numbers.get(1), numbers.get(2)];
-    assert_debug(
-        &rt,
-        alloc,
-        &(numbers.len(), items),
-        "(2, [Some(5), Some(6), None])",
-    );
-    let owned = numbers.to_owned(alloc).expect(&rt, "memory");
-    assert_debug(&rt, alloc, &owned, "[5, 6]");
 }
 
 // Checks each row. It has bytes in hexadecimal, a space, and the error that rejects them, as

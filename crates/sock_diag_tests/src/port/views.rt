@@ -2,11 +2,13 @@
 
 use super::sizes::assert_dump_keeps;
 use super::{
-    INET, PATH, SHUTDOWN, assert_bytes, assert_debug, assert_debug_contains, assert_items, bytes,
+    ABSTRACT, INET, PATH, SHUTDOWN, assert_bytes, assert_debug, assert_debug_contains,
+    assert_items, bytes,
 };
 use netlink_core::{DecodeError, Emitable, write_new};
 use netlink_packet_sock_diag::inet::InetResponseView;
 use netlink_packet_sock_diag::unix::UnixResponseView;
+use netlink_packet_sock_diag::unix::nlas::NameView;
 use netlink_packet_sock_diag::{
     DumpError, DumpReader, DumpState, DumpViews, LossyDump, SOCK_DIAG_BY_FAMILY, SockDiagView,
 };
@@ -42,6 +44,30 @@ fn a_borrowed_unix_reply(rt: HostRuntime) {
     assert_emits(&rt, alloc, &view, &parts);
     let text = "UnixResponse(UnixResponseView { bytes: [1, 1, 10, 0, ";
     assert_message_emits(&rt, alloc, &reply, text, &parts);
+}
+
+// The name and the numbers are bytes of the reply.
+#[test]
+fn a_name_and_numbers_of_a_borrowed_reply(rt: HostRuntime) {
+    let alloc = rt.alloc();
+    // `UNIX_DIAG_ICONS` (3) with the inodes 5 and 6 of two pending connections.
+    let reply = bytes(&rt, alloc, &[ABSTRACT, "0c0003000500000006000000"]);
+    let view = UnixResponseView::parse(&reply).expect(&rt, "refused");
+    // The name follows the header of the reply, that of the attribute, and a NUL.
+    let name = reply.get(21..64).expect(&rt, "short");
+    assert!(rt; view.name() == Some(NameView::Abstract(name)));
+    let numbers = view.pending_connections().expect(&rt, "no numbers");
+    let text = "NumbersIterator { remaining: NumbersView { bytes: [5, 0, 0, 0, 6, 0, 0, 0] } }";
+    assert_debug(&rt, alloc, &numbers.iter(), text);
+    let items = [numbers.get(0), numbers.get(1), numbers.get(2)];
+    assert_debug(
+        &rt,
+        alloc,
+        &(numbers.len(), items),
+        "(2, [Some(5), Some(6), None])",
+    );
+    let owned = numbers.to_owned(alloc).expect(&rt, "memory");
+    assert_debug(&rt, alloc, &owned, "[5, 6]");
 }
 
 #[test]
