@@ -363,7 +363,18 @@ const VALUES: [Case; 9] = [
 ];
 
 /// Invalid bytes. Most have a name or a text, whose parser allocates, before the error.
-const ERRORS: [Case; 9] = [
+const ERRORS: [Case; 10] = [
+    Case {
+        subject: Subject::UnixRequest,
+        header: UNIX_REQUEST,
+        attributes: "",
+        parsed: 0,
+        error: Some(DecodeError::BufferTooSmall {
+            which: RecordName::UnixRequest,
+            got: 0,
+            need: 24,
+        }),
+    },
     Case {
         subject: Subject::UnixRequest,
         header: UNIX_REQUEST,
