@@ -1,7 +1,8 @@
 //! What `Debug` prints for replies and messages, or a part of it. A row has the digits that follow
 //! a given start, possibly none, a space, and that part.
 
-use super::parsers::{Subject, parse_all_and_print};
+use super::hostile::changed;
+use super::parsers::{Subject, parse_all_and_compare, parse_all_and_print};
 use super::{
     ABSTRACT, CONNECTED, INET, LISTENING, PATH, PEER, SHUTDOWN, assert_contains, assert_debug,
     assert_debug_contains, assert_debug_lines, bytes, cells,
@@ -133,6 +134,18 @@ socket_id
 000000806000000000000000000000e8030000a8da29000500080000000000 Err(UnsupportedFamily { \
 family: 1 })";
 
+/// Returns whether the reply `INET` with the timer `one` (`idiag_timer`) equals the one with the
+/// timer `other`.
+fn are_equal_with_timers(rt: &impl Abort, alloc: Global, one: u8, other: u8) -> bool {
+    // `INET` has the timer 2, at offset 2.
+    let reply = bytes(rt, alloc, &[INET]);
+    let one = changed(rt, alloc, &reply, 2, one ^ 2);
+    let other = changed(rt, alloc, &reply, 2, other ^ 2);
+    let report = parse_all_and_compare(rt, alloc, Subject::InetReply, &one, &other);
+    assert!(rt; report.error.is_none());
+    report.is_original
+}
+
 /// Rows with payloads of messages. The first two have the layout of `inet_diag_req_v2`, and are
 /// parsed as replies: in the address of the first, whose family is `AF_UNIX`, is the header of an
 /// attribute.
@@ -168,6 +181,9 @@ fn values_and_errors(rt: HostRuntime) {
     assert_attribute_rows(&rt, alloc, Subject::UnixReply, CONNECTED, CONNECTED_ROWS);
     assert_attribute_rows(&rt, alloc, Subject::InetReply, INET, INET_ROWS);
     assert_attribute_rows(&rt, alloc, Subject::InetReply, "", INET_TIMERS);
+    // The timers 0 and 9 are none, and 2 is a keepalive timer.
+    assert!(rt; are_equal_with_timers(&rt, alloc, 0, 9));
+    assert!(rt; !are_equal_with_timers(&rt, alloc, 0, 2));
     assert_attribute_rows(&rt, alloc, Subject::Message, "", MESSAGE_ROWS);
 }
 
