@@ -7,9 +7,13 @@ use super::{
     ABSTRACT, CONNECTED, INET, LISTENING, PATH, PEER, SHUTDOWN, assert_contains, assert_debug,
     assert_debug_contains, assert_debug_lines, bytes, cells,
 };
-use netlink_core::{NetlinkDeserializable, NetlinkMessage, Parseable, ParseableParametrized};
+use netlink_core::{
+    NetlinkDeserializable, NetlinkHeader, NetlinkMessage, Parseable, ParseableParametrized,
+};
 use netlink_packet_sock_diag::unix::{UnixResponse, UnixResponseView};
-use netlink_packet_sock_diag::{MessageView, SOCK_DESTROY, SockDiagDestroy, SockDiagMessage};
+use netlink_packet_sock_diag::{
+    MessageView, SOCK_DESTROY, SOCK_DIAG_BY_FAMILY, SockDiagDestroy, SockDiagMessage,
+};
 use std::alloc::Global;
 use std::fmt::Debug;
 use std::process::Abort;
@@ -438,6 +442,18 @@ fn a_message_under_another_type(rt: HostRuntime) {
     let read = SockDiagMessage::parse_with_param(rt.alloc(), b"\x03\0", SOCK_DESTROY);
     let text = "Err(UnknownMessageType { message_type: 21 })";
     assert_debug(&rt, rt.alloc(), &read, text);
+    // The length in the header is not considered: it is 0.
+    let mut header = NetlinkHeader::default();
+    header.message_type = SOCK_DESTROY;
+    let reply = bytes(&rt, rt.alloc(), &[PATH]);
+    let read = SockDiagDestroy::deserialize(rt.alloc(), &header, &reply);
+    assert_debug(&rt, rt.alloc(), &read, text);
+    header.message_type = SOCK_DIAG_BY_FAMILY;
+    let read = SockDiagDestroy::deserialize(rt.alloc(), &header, &reply);
+    let part =
+        "Ok(SockDiagDestroy(UnixResponse(UnixResponse { header: UnixResponseHeader { kind: 1, \
+        state: 10, inode: 20238, ";
+    assert_debug_contains(&rt, rt.alloc(), &read, part);
 }
 
 #[test]
