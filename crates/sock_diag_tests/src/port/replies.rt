@@ -377,7 +377,7 @@ length: 35, got: 34 })
 got: 56, need: 72 })";
 
 /// Parses the message in `parts`, and calls `finalize`. Asserts that then `Debug` prints its header
-/// as this text.
+/// as this text, and that its payload is unchanged.
 fn assert_finalized(rt: &impl Abort, alloc: Global, parts: &[&str], header: &str) {
     let bytes = bytes(rt, alloc, parts);
     let mut message = NetlinkMessage::<SockDiagMessage>::deserialize(alloc, &bytes).expect(
@@ -385,7 +385,10 @@ fn assert_finalized(rt: &impl Abort, alloc: Global, parts: &[&str], header: &str
     );
     assert!(rt; message.is_writable());
     message.finalize();
-    assert_debug(rt, alloc, &message.header, header);
+    let (finalized, payload) = message.into_parts();
+    assert_debug(rt, alloc, &finalized, header);
+    let parsed_again = NetlinkMessage::<SockDiagMessage>::deserialize(alloc, &bytes);
+    assert!(rt; parsed_again.expect(rt, "refused").payload == payload);
 }
 
 // Two bytes follow the first message. The second one lacks the last byte of its padding: its length
