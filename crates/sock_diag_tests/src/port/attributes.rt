@@ -297,8 +297,10 @@ const NO_NAMES: &str = " Err(NameEmpty)
 // Invalid attributes of UNIX sockets, as rows of `assert_rejected_rows`.
 const NO_UNIX: &str = "0b00010000000000000000 Err(BufferTooSmall { which: Vfs, got: 7, need: 8 })
 07000280000000 Err(WrongLength { kind: Some(2), got: 3, need: 4 })
+0c0002000102030405060708 Err(WrongLength { kind: Some(2), got: 8, need: 4 })
 060003000102 Err(NotMultipleOfFour { got: 2 })
 0800040000000000 Err(WrongLength { kind: Some(4), got: 4, need: 8 })
+10000400000000000000000000000000 Err(WrongLength { kind: Some(4), got: 12, need: 8 })
 04000600 Err(WrongLength { kind: Some(6), got: 0, need: 1 })
 060006000000 Err(WrongLength { kind: Some(6), got: 2, need: 1 })
 2000050001000000020000000300000004000000050000000600000007000000 \
@@ -312,6 +314,7 @@ ffff0600 Err(AttributeLengthPast { length: 65535, left: 4 })
 const NO_INET: &str = "060005000102 Err(WrongLength { kind: Some(5), got: 2, need: 1 })
 04000b00 Err(WrongLength { kind: Some(11), got: 0, need: 1 })
 07000f40010203 Err(WrongLength { kind: Some(15), got: 3, need: 4 })
+0c000f000102030405060708 Err(WrongLength { kind: Some(15), got: 8, need: 4 })
 04000100 Err(BufferTooSmall { which: LegacyMemInfo, got: 0, need: 16 })
 05000400ff Err(NotUtf8)";
 

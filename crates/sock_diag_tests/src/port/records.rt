@@ -264,8 +264,8 @@ const TIMERS: [([u8; 2], &str, [u8; 2], [u8; 4]); 6] = [
     ([9, 7], "None", [0, 0], [0; 4]),
     ([1, 7], "Some(Retransmit(24.704s, 7))", [1, 7], EXPIRES),
     ([2, 7], "Some(KeepAlive(24.704s))", [2, 0], EXPIRES),
-    ([3, 0], "Some(TimeWait)", [3, 0], [0; 4]),
-    ([4, 0], "Some(Probe(24.704s))", [4, 0], EXPIRES),
+    ([3, 7], "Some(TimeWait)", [3, 0], [0; 4]),
+    ([4, 7], "Some(Probe(24.704s))", [4, 0], EXPIRES),
 ];
 
 #[test]
