@@ -8,8 +8,9 @@ they depend on, each once, with its file and line: a definition follows the one 
 is indented below it. For a function of another crate the definitions of the port and of the program
 are not followed. They are listed after the others, and then the types and constants of the code,
 and the names of the kit. The modules and the type of the function may be given too, as in
-`netlink_core::Wire::read`. Members of traits that a contract names, such as `T.codec`, are listed
-and not followed: the impls name their definitions.
+`netlink_core::Wire::read`. Members of traits that a contract names are listed and not followed: the
+impls name their definitions. If a member has members of its own, the used ones are listed too, such
+as `T.codec.equivalent`, and so are those of an argument of a definition, such as `C.parses`.
 
 A ghost member is named like a function, as in `netlink_core::Exact::exact`. An impl of a trait is
 named by its type and its trait, as in `netlink_captures::<CaptureError as Display>`, or by a
@@ -485,7 +486,7 @@ class Outline:
         head, *rest = path.split(".")
         target, name = names.get(head, ("", ""))
         if rest and not target and re.fullmatch("Self|[A-Z]", head):
-            self.members.add(f"{head}.{rest[0]}")
+            self.members.add(path)
         name = name or "".join(rest[:1])
         crate, _, module = target.removeprefix("Rattle.").partition(".specs.")
         if crate not in CRATES + OTHERS:
@@ -570,7 +571,8 @@ def print_of(path):
     outline = Outline(Specs(), [] if crate in CRATES else CRATES, roots_of(found))
     print(f"the contract of {path}:", *[part.place() for part in found], sep="\n")
     for title, lines in (
-            ("definitions", outline.lines), ("members of traits", sorted(outline.members)),
+            ("definitions", outline.lines),
+            ("members of traits and arguments", sorted(outline.members)),
             ("the port and the program", outline.others),
             ("the code", sorted(outline.code)), ("the kit", sorted(outline.kit))):
         if lines:

@@ -247,6 +247,10 @@ ROWS = [
          "ghost use Rattle.netlink_core.specs.Planted.{IsPlanted};\n"
          "pub fn planted() -> u8\n    ensures { IsPlanted result }\n{\n    1\n}\n"),
     )),
+    # Without an error: that a member of a member is listed.
+    Row("python3 tests/believed.py --of netlink_core::planted && false", ("\nT.codec.planted\n",),
+        (("crates/netlink_core/src/lib.rt", "",
+          "pub fn planted<T: HasCodec>()\n    ensures { T.codec.planted }\n{}\n"),)),
     Row("python3 tests/start.py", ("sslist: planted option -q",),
         (("tools/start", "wrong option", "planted option"),)),
     Row("tests/vendor.sh", ("vendor.sh: from is not refused: 2",),
