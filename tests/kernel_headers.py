@@ -239,18 +239,18 @@ def about_record(table, struct, names):
     yield from about_members(struct, members, known)
 
 
-def about_bits(struct, member, at, mask):
+def about_bits(struct, member, at, count):
     """Yields the questions about a bit field, from bit `at` on, each with its answer."""
     yield f"BIT({struct}, {member})", at
-    yield f"BITS({struct}, {member})", mask.bit_length()
-    yield f"PLACE({struct}, {member}, {at}, {mask.bit_length()})", mask.bit_length()
+    yield f"BITS({struct}, {member})", count
+    yield f"PLACE({struct}, {member}, {at}, {count})", count
 
 
 def about_fields(module, struct, prefix, version):
     """Yields the questions about the spans in a module of specs/, each with its answer there."""
     text = (CRATES / f"sock_diag_extras/specs/{module}.antt").read_text(encoding="utf-8")
-    bits = re.findall(r"^tcp_bits_of field\.(\w+) = Some \((\d+), (\w+)\)", text, re.M)
-    bits = {field: (int(shift), int(mask, 0)) for field, shift, mask in bits}
+    bits = re.findall(r"^tcp_bits_of field\.(\w+) = Some \((\d+), (\d+)\)", text, re.M)
+    bits = {field: (int(lowest), int(count)) for field, lowest, count in bits}
     for field, at, width in re.findall(r"tcp_span_of field\.(\w+) = \((\d+), (\d+)\)", text):
         member = re.sub(r"(?<=[a-z\d])(?=[A-Z])", "_", field).lower()
         at, width, inside = int(at), int(width), prefix + member
@@ -259,8 +259,8 @@ def about_fields(module, struct, prefix, version):
             if member not in BIT_FIELDS:
                 yield f"PLACE({struct}, {inside}, {8 * at}, {8 * width})", 8 * width
         elif version >= BITS_SINCE:
-            shift, mask = bits[field]
-            yield from about_bits(struct, inside, 8 * at + shift, mask)
+            lowest, count = bits[field]
+            yield from about_bits(struct, inside, 8 * at + lowest, count)
 
 
 def c_name(constant):
