@@ -1,11 +1,14 @@
 //! Properties of programs, of requests that are serialized and parsed, and of `==` and `clone`.
 //! Proof only: the contract of each function states the property.
 
-ghost use Rattle.std.specs.Prelude.{◌≡◌, ◌↔◌, ℕ, Bool, List, [], ◌∷◌, IfOk, IsOk, IsTrue};
+ghost use Rattle.std.specs.Prelude.{◌≡◌, ◌↔◌, ◌+◌, ◌^◌, ◌<◌, ◌≤◌, ℕ, Bool, List, [], ◌∷◌};
+ghost use Rattle.std.specs.Prelude.{IfOk, IsOk, IsTrue, None, length, replicate};
+ghost use Rattle.std.specs.Borrow.{Bor};
+ghost use Rattle.std.specs.declared.net.ip_addr.IpAddr.{IpAddr};
 ghost use Rattle.netlink_core.specs.declared.error.DecodeError.{DecodeError};
 ghost use Rattle.sock_diag_records.specs.Constants.{PairsAreEqual};
 ghost use Rattle.sock_diag_filters.specs.declared.filter.Filter.{Filter};
-ghost use Rattle.sock_diag_filters.specs.Conditions.{arguments, code_of};
+ghost use Rattle.sock_diag_filters.specs.Conditions.{IsNewPrefix, arguments, code_of};
 ghost use Rattle.sock_diag_filters.specs.Filters.{meaning};
 ghost use Rattle.sock_diag_filters.specs.Run.{Runs};
 ghost use Rattle.sock_diag_filters.specs.Sockets.{AreConditionsInRange, Socket};
@@ -15,11 +18,16 @@ ghost use Rattle.sock_diag_filters.specs.InetRequests.{IsRejectedRequest};
 ghost use Rattle.sock_diag_filters.specs.InetRequests.{request_attribute_content};
 ghost use Rattle.sock_diag_filters.specs.AnyRequest.{ParsesAsAnyRequest, AnyRequest, RecordFamily};
 ghost use Rattle.sock_diag_filters.specs.AnyRequest.{IsRejectedAnyRequest, RecordRequest};
-ghost use Rattle.sock_diag_filters.specs.AnyRequest.{of_family};
+ghost use Rattle.sock_diag_filters.specs.AnyRequest.{of_family, unix};
 ghost use Rattle.sock_diag_filters.specs.AnyReadBack.{IsParsedInetRequest, IsCompleteRecordRequest};
 ghost use Rattle.sock_diag_filters.specs.AnyReadBack.{record_request_bytes};
 ghost use Rattle.sock_diag_filters.specs.ReadBack.{IsRoundTrippingRequest, IsParsedRequest};
-ghost use Rattle.sock_diag_filters.specs.Requests.{request_message};
+ghost use Rattle.sock_diag_filters.specs.Prefixes.{bits_of};
+ghost use Rattle.sock_diag_filters.specs.Requests.{header_with_length, request_message};
+ghost use Rattle.sock_diag_filters.specs.Uses.{dump_flags, example_request_header, listen_state};
+ghost use Rattle.sock_diag_filters.specs.Uses.{tcp_request_with, zero_socket_id};
+ghost use Rattle.sock_diag_filters.specs.declared.request.RequestAttribute.TheVariants.{Program};
+ghost use Rattle.sock_diag_filters.specs.declared.request.RequestAttribute.TheVariants.{Protocol};
 ghost use Rattle.sock_diag_filters.specs.declared.request.RequestWithAttributes.{
   RequestWithAttributes,
 };
@@ -35,6 +43,7 @@ use crate::request::{
 };
 use crate::view::RequestView;
 use netlink_core::Exact;
+use sock_diag_records::constants::SOCK_DIAG_BY_FAMILY;
 use std::alloc::AllocError;
 
 /// States that a `RequestWithAttributes` round-trips, if its request is in range and in normal form
@@ -84,6 +93,43 @@ pub fn any_request_round_trips()
     ensures inet_accepted { (r : RequestWithAttributes) (e : DecodeError)
         → IsRoundTrippingRequest r → IsRequestType r.header.message_type
         → ¬ IsRejectedAnyRequest (request_message r) e }
+{}
+
+/// States that requests with attributes meet the premises of [`request_round_trips`] and of
+/// [`any_request_round_trips`].
+///
+/// - `inet`: a request for the listening TCP sockets over IPv4, with a program of at most 65,531
+///   bytes and the protocol 262 (`IPPROTO_MPTCP`) as attributes;
+/// - `unix`: a request for the listening UNIX sockets, with any bytes after its record.
+pub fn requests_meet_the_premises()
+    // `example_request_header message_type flags sequence_number`: a header with these numbers.
+    // `tcp_request_with states socket_id`: a request for the TCP sockets in these states.
+    ensures inet { (r : RequestWithAttributes) (program : Bor (List ℕ)) (sequence_number : ℕ)
+        → sequence_number < 2 ^ 32 → length program.now ≤ MAX_PROGRAM
+        → r.header ≡ example_request_header SOCK_DIAG_BY_FAMILY dump_flags sequence_number
+        → r.request ≡ tcp_request_with listen_state zero_socket_id
+        → r.attributes.now ≡ Program program ∷ Protocol 262 ∷ [] → IsRoundTrippingRequest r }
+    // `record { 0 = bits }`: a set of flags. 24 and 16 are the lengths of the record and of the
+    // header.
+    ensures unix { (r : RecordRequest unix) (sequence_number : ℕ) → sequence_number < 2 ^ 32
+        → 16 + (24 + length r.attributes) < 2 ^ 32
+        → r.header ≡ header_with_length
+        (example_request_header SOCK_DIAG_BY_FAMILY dump_flags sequence_number)
+        (16 + (24 + length r.attributes))
+        → r.request ≡ record {
+          state_flags = record { 0 = listen_state };
+          inode = 0;
+          show_flags = record { 0 = 0x3f };
+          cookie = replicate 8 255;
+        } → IsCompleteRecordRequest r }
+{}
+
+/// States that `Prefix::new` does not return `None` for a number of bits that the address has.
+pub fn fitting_bits_have_a_prefix()
+    // `IsNewPrefix result address bits`: `Prefix::new` returns this for the address and the bits.
+    // `bits_of address`: 32 or 128.
+    ensures { (address : IpAddr) (bits : ℕ) → bits ≤ bits_of address
+        → ¬ IsNewPrefix None address bits }
 {}
 
 /// States that a filter selects the same sockets under two readings of its conditions: under
