@@ -15,13 +15,16 @@
 
 ghost use Rattle.std.specs.Prelude.{Bool, true, ◌≡◌, ◌≢◌, ◌%◌, ◌↔◌, ◌⊎◌, ◌++◌, ℕ, List, [], ◌∷◌};
 ghost use Rattle.std.specs.Prelude.{length, count_by, IsTrue, Result, IfOk, IsOk, map, None};
+ghost use Rattle.std.specs.Prelude.{◌≤◌, replicate};
 ghost use Rattle.std.specs.Iterator.{Drains};
 ghost use Rattle.std.specs.List.{AllByRecursion, concat};
 ghost use Rattle.netlink_core.specs.Bytes.{IsBytes};
 ghost use Rattle.netlink_core.specs.declared.error.DecodeError.{DecodeError};
 ghost use Rattle.netlink_core.specs.declared.error.DecodeError.TheVariants as errors;
 ghost use Rattle.netlink_core.specs.declared.header.NetlinkHeader.{NetlinkHeader};
+ghost use Rattle.netlink_core.specs.Attribute.{padding_length};
 ghost use Rattle.netlink_core.specs.Header.{IsMessageError, header_fields, header_values};
+ghost use Rattle.netlink_core.specs.Header.{message_length_in};
 ghost use Rattle.netlink_core.specs.Table.{FitFields};
 ghost use Rattle.netlink_core.specs.Canonical.{HasCanonicalForm};
 ghost use Rattle.netlink_core.specs.Codec.{HasOneResult};
@@ -257,6 +260,45 @@ pub fn split_changes_no_dump()
     laws::datagram_has_items::<SockDiagMessage>();
     laws::one_list_of_items::<SockDiagMessage>();
 }
+
+/// What the laws about splits assume, `IsCompleteSplit`, holds of messages with their padding, and
+/// it holds of all bytes of such a split as one datagram.
+///
+/// - `first`: a message with its padding, before datagrams of which this holds;
+/// - `whole`: the split of all bytes of such datagrams into one datagram;
+/// - `example`: two datagrams with one `NLMSG_DONE` of 17 bytes each, the first one with its three
+///   bytes of padding, are such a split, and so is the one datagram with both messages.
+pub fn padded_messages_are_complete()
+    // `message_length_in message`: the length in its header. `padding_length n`: the number of
+    // bytes of padding after `n` bytes. `IsCompleteSplit datagrams`: each datagram except the last
+    // consists of complete messages with all their padding.
+    ensures first { (message : List ℕ) (later : List (List ℕ)) → IsBytes message
+        → 16 ≤ length message → message_length_in message ≡ length message → IsCompleteSplit later
+        → IsCompleteSplit
+        ((message ++ replicate (padding_length (length message)) 0) ∷ later) }
+    // `AreSplitsOfSameBytes datagrams others`: both are such splits of the same bytes.
+    ensures whole { (datagrams : List (List ℕ)) → IsCompleteSplit datagrams
+        → AreSplitsOfSameBytes datagrams (concat datagrams ∷ []) }
+    ensures example { (message : List ℕ)
+        → message ≡ 17 ∷ 0 ∷ 0 ∷ 0 ∷ 3 ∷ replicate 12 0
+        → AreSplitsOfSameBytes ((message ++ replicate 3 0) ∷ message ∷ [])
+        (((message ++ replicate 3 0) ++ message) ∷ []) }
+{}
+
+/// Two ways to split the same bytes into datagrams, in each of which every datagram except the last
+/// consists of complete messages with all their padding, have the same items, for a `DumpReader`
+/// (`reader`) and for a `LossyDump` (`lossy`). So the laws about lists with the same items are
+/// about different splits, too.
+pub fn splits_have_same_items()
+    // `AreSplitsOfSameBytes datagrams others`: both are such splits of the same bytes.
+    // `HaveSameItems item_is datagrams others`: the items of all datagrams of a list, concatenated
+    // in order, are the same for both lists.
+    ensures reader { (datagrams others : List (List ℕ)) → AreSplitsOfSameBytes datagrams others
+        → HaveSameItems (IsItemOf message_codec) datagrams others }
+    // `HasLossyEntry message_codec`: the item of a message in a `LossyDump`.
+    ensures lossy { (datagrams others : List (List ℕ)) → AreSplitsOfSameBytes datagrams others
+        → HaveSameItems (HasLossyEntry message_codec) datagrams others }
+{}
 
 /// The result of feeding a `DumpReader` does not depend on the split into datagrams. `datagrams`
 /// and `others` are two ways to split the same bytes into datagrams, in each of which every
