@@ -1,9 +1,14 @@
-//! Properties of `==` and `clone` of the types of this crate. Each function calls one of the two,
-//! and its contract states the property.
+//! Properties of parsed replies, and of `==` and `clone` of the types of this crate. A function
+//! with parameters calls `==` or `clone`; one without is proof only. The contract of each states
+//! the property.
 
-ghost use Rattle.std.specs.Prelude.{◌≡◌, ◌↔◌, IfOk, IsOk, IsTrue};
+ghost use Rattle.std.specs.Prelude.{◌≡◌, ◌↔◌, ◌⊎◌, ℕ, List, IfOk, IsOk, IsTrue};
+ghost use Rattle.netlink_core.specs.Bytes.{IsBytes};
+ghost use Rattle.netlink_core.specs.declared.error.DecodeError.{DecodeError};
+ghost use Rattle.netlink_core.specs.declared.error.DecodeError.TheVariants.{Memory};
 ghost use Rattle.sock_diag_replies.specs.ViewModel.{view_model};
-ghost use Rattle.sock_diag_any.specs.AnyMessage.{any_view_model};
+ghost use Rattle.sock_diag_any.specs.AnyMessage.{AnyMessage, any_view_model};
+ghost use Rattle.sock_diag_any.specs.AnyMessage.{IsRejectedAsAnyMessage, ParsesAsAnyMessage};
 
 use crate::{AnySockDiagView, FamilyHeader, RawHeader, RawReplyView};
 use std::alloc::AllocError;
@@ -62,3 +67,20 @@ pub fn copied_any_view<'a>(view: &AnySockDiagView<'a>) -> Result<AnySockDiagView
 {
     view.clone()
 }
+
+/// Under each message type bytes have one value, a message of the port or a reply of one of the
+/// four families, or one decode error. They do not have both, and the error is not `Memory`.
+pub fn one_message_or_error()
+    // `ParsesAsAnyMessage b t m`: the bytes `b` of a message of type `t` parse as `m`.
+    // `IsRejectedAsAnyMessage b t e`: they are rejected with the error `e`.
+    ensures is_total { (b : List ℕ) (t : ℕ) → IsBytes b
+        → ((m : AnyMessage) × ParsesAsAnyMessage b t m)
+        ⊎ ((e : DecodeError) × IsRejectedAsAnyMessage b t e) }
+    ensures one_value { (b : List ℕ) (t : ℕ) (m n : AnyMessage) → IsBytes b
+        → ParsesAsAnyMessage b t m → ParsesAsAnyMessage b t n → m ≡ n }
+    ensures is_exclusive { (b : List ℕ) (t : ℕ) (m : AnyMessage) (e : DecodeError)
+        → ParsesAsAnyMessage b t m → IsRejectedAsAnyMessage b t e → ⊥ }
+    ensures error_is_unique { (b : List ℕ) (t : ℕ) (e f : DecodeError)
+        → IsRejectedAsAnyMessage b t e → IsRejectedAsAnyMessage b t f → e ≡ f }
+    ensures error_is_not_memory { (b : List ℕ) (t : ℕ) → IsRejectedAsAnyMessage b t Memory → ⊥ }
+{}
