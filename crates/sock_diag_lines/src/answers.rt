@@ -19,7 +19,7 @@ ghost use Rattle.netlink_packet_sock_diag.specs.Message.{netlink_message_codec};
 ghost use Rattle.netlink_packet_sock_diag.specs.MessageViewModel.{message_view_model};
 ghost use Rattle.netlink_packet_sock_diag.specs.PayloadViewModel.{netlink_message_view_model};
 ghost use Rattle.sock_diag_lines.specs.Answer.{IsAnswerOf, IsWritableRequest, codec_of_name};
-ghost use Rattle.sock_diag_lines.specs.Answer.{spelling_of};
+ghost use Rattle.sock_diag_lines.specs.Answer.{IsRequest, spelling_of};
 ghost use Rattle.program_streams.specs.LineRun.{AnswersEachLine};
 ghost use Rattle.sock_diag_lines.specs.private.LineRequest.{IsAnswerTo, IsParsedAs};
 ghost use Rattle.sock_diag_lines.specs.DumpLine.{IsDumpRequest};
@@ -137,6 +137,17 @@ pub fn each_line_has_one_answer()
     // Two texts that answer one line (`IsAnswerOf line text`) are equal.
     ensures one { (line text other : List ℕ) → IsAnswerOf line text → IsAnswerOf line other
         → text ≡ other }
+{}
+
+/// A request, a line of a name and a hex field, that is answered by `ok` has a writable value.
+/// Proof only: the contract states the property.
+pub fn ok_is_for_writable_values()
+    // `IsRequest line name bytes`: the line is this name and a hex field of these bytes.
+    // `ok_text value_text`: `ok ` and this text. `IsWritableRequest line name bytes`: it is such a
+    // line, and the bytes parse as a writable value.
+    ensures { (line : List ℕ) (name : Name) (bytes value_text : List ℕ)
+        → IsRequest line name bytes → IsAnswerOf line (ok_text value_text)
+        → IsWritableRequest line name bytes }
 {}
 
 /// Appends the answer to a line to the text. `bytes` is a buffer for the bytes of the field.
