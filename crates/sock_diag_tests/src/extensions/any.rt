@@ -154,6 +154,8 @@ fn fields_of_an_xdp_socket(rt: HostRuntime) {
     assert_debug(&rt, alloc, &xdp::shared_memory(&reply), text);
     let text = "Ok(Some(XdpInfo { interface: 3, queue: 1 }))";
     assert_debug(&rt, alloc, &xdp::info(&reply), text);
+    let rings = (xdp::receive_ring(&reply), xdp::send_ring(&reply));
+    assert_debug(&rt, alloc, &rings, "(Ok(Some(2048)), Ok(None))");
     let text = "Ok(Some(XdpStatistics { received_dropped: 1, received_invalid: 2, \
         received_full: 3, fill_ring_empty: 4, sent_invalid: 5, send_ring_empty: 6 }))";
     assert_debug(&rt, alloc, &xdp::statistics(&reply), text);
