@@ -10,6 +10,8 @@
 # its error message "out of memory". Some runs can do without some memory, as for a buffer: then
 # output and status are as always.
 #
+# A test that drops dumps also runs under valgrind, if it is installed: it must not leak.
+#
 # The gate runs it, with what `rt ci` built. It preloads a library that replaces malloc, so it needs
 # a C compiler and a loader that supports LD_PRELOAD.
 set -eu
@@ -57,6 +59,20 @@ look() { [ "$status" -eq 0 ] || fail "the test failed"; }
 for what in $("$tests" --list | sed -n 's/^\(.*::out_of_memory::.*\): test$/\1/p'); do
     sweep "$tests" "$what"
 done
+
+# No clause excludes a leak. This test drops dumps with owned replies of both families, with
+# attributes that are stored inline and with more.
+what=port::sizes::dumps_of_one_message
+if command -v valgrind >/dev/null; then
+    valgrind -q --leak-check=full --error-exitcode=1 "$tests" "$what" >"$work/out" 2>&1 || {
+        echo "out_of_memory: $what: under valgrind:" >&2
+        cat "$work/out" >&2
+        exit 1
+    }
+    echo "$what: no leak"
+else
+    echo "out_of_memory: skipped: $what: no valgrind"
+fi
 
 # Compares the run of a program with the one that had all memory. $without_all is whether the
 # program can do without some memory.
