@@ -302,11 +302,15 @@ module _ {A : Type 0} (item_is : List ℕ → Item A → Type 0) where
       let parts = items_of_each some datagrams split.0 in
       let other_parts = items_of_each some others other.0 in
       let bytes : AreItemsOf item_is (concat others) (concatenation parts.0) =
-      rw same at (split_items datagrams parts.0 split.1 parts.1) in
-      (parts.0, other_parts.0, parts.1, other_parts.1,
-      one (concat others) (bytes-concatenation others other.0) (concatenation parts.0)
-      (concatenation other_parts.0) bytes
-      (split_items others other_parts.0 other.1 other_parts.1))
+      rw same at (split_items datagrams parts.0 split.1 parts.1) in (
+        parts.0,
+        other_parts.0,
+        parts.1,
+        other_parts.1,
+        one (concat others) (bytes-concatenation others other.0) (concatenation parts.0)
+            (concatenation other_parts.0) bytes
+            (split_items others other_parts.0 other.1 other_parts.1),
+      )
 
   -- a dump over the items of a single datagram is a dump over the list of these items
   of_one_part : (before : List A) (datagram : List ℕ) (after : List A) (end : EndOrDecodeError)

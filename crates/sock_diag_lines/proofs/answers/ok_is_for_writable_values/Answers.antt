@@ -14,6 +14,8 @@ value_is_writable S bytes value_text (inr (e, rejects, is)) =
     absurd (omega (arith, ap (λ (text : List ℕ). slice_index text 0) is))
 
 pub returns : goal.returns
-returns c = λ line name bytes value_text request answer.
-    (request, value_is_writable (codec_of_name name) bytes value_text
-    (answer.named name bytes request))
+returns c = λ line name bytes value_text request answer. (
+  request,
+  value_is_writable (codec_of_name name) bytes value_text
+      (answer.named name bytes request),
+)
