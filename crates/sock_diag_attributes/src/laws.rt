@@ -1,9 +1,13 @@
 //! Properties of attributes and names. Proof only: the contracts state the properties.
 
-ghost use Rattle.std.specs.Prelude.{◌≡◌, ◌↔◌, IsTrue, IsOk, IfOk, true};
+ghost use Rattle.std.specs.Prelude.{◌≡◌, ◌↔◌, ℕ, IsTrue, IsOk, IfOk, true};
 ghost use Rattle.sock_diag_attributes.specs.NameModel.{name_view_model};
 ghost use Rattle.sock_diag_attributes.specs.NumbersModel.{numbers_left, numbers_view_model};
-ghost use Rattle.netlink_core.specs.AttributeSet.{AttributeValue};
+ghost use Rattle.netlink_core.specs.AttributeSet.{AttributeValue, NeedsNoMemoryIn};
+ghost use Rattle.netlink_core.specs.AttributeSet.{value_as_decoded};
+ghost use Rattle.sock_diag_values.specs.declared.inet.tcp_info.TcpInfo.{TcpInfo};
+ghost use Rattle.sock_diag_records.specs.declared.constants.TheConstants.{INET_DIAG_INFO};
+ghost use Rattle.sock_diag_records.specs.declared.constants.TheConstants.{UNIX_DIAG_PEER};
 ghost use Rattle.sock_diag_attributes.specs.InetAttributes.{inet_attribute_set};
 ghost use Rattle.sock_diag_attributes.specs.InetModel.{inet_nla_view_model, inet_variant};
 ghost use Rattle.sock_diag_attributes.specs.InetModel.{inet_variant_value};
@@ -31,6 +35,15 @@ pub fn parsers_take_memory() -> (bool, bool, bool)
         UnixDiagName::TAKES_MEMORY,
     )
 }
+
+/// States that attributes whose values are numbers or records need no memory: the inode of a peer,
+/// and `struct tcp_info`. So clauses `needs_no_memory` promise that calls succeed.
+pub fn numbers_and_records_need_no_memory()
+    ensures number { (inode : ℕ) → NeedsNoMemoryIn unix_attribute_set
+        (value_as_decoded unix_attribute_set UNIX_DIAG_PEER inode) }
+    ensures record_value { (info : TcpInfo) → NeedsNoMemoryIn inet_attribute_set
+        (value_as_decoded inet_attribute_set INET_DIAG_INFO info) }
+{}
 
 /// States that each decoded value of an attribute of a reply about a UNIX socket has a variant of
 /// the enum `UnixNla`. `unix_variant value` is this variant, and `unix_variant_value` returns the
