@@ -16,7 +16,6 @@ ghost use Rattle.sockdiag_c.specs.InetDetails.{inet_family};
 ghost use Rattle.sockdiag_c.specs.NetlinkDetails.{netlink_family};
 ghost use Rattle.sockdiag_c.specs.PacketDetails.{packet_family};
 ghost use Rattle.sockdiag_c.specs.TcpInfo.{AreInetReplyAttributes};
-ghost use Rattle.sock_diag_records.specs.declared.inet.response.TheConstants.{INET_RESPONSE_HEADER_LEN};
 ghost use Rattle.sockdiag_c.specs.UnixDetails.{unix_family};
 ghost use Rattle.sockdiag_c.specs.VsockDetails.{vsock_family};
 ghost use Rattle.sockdiag_c.specs.XdpDetails.{xdp_family};
@@ -25,6 +24,8 @@ ghost use Rattle.sockdiag_c.specs.declared.walks.MessageRange.{MessageRange};
 ghost use Rattle.sockdiag_c.specs.Walks.{IterationStep, StepsOverAttribute, StepsOverMessage};
 ghost use Rattle.sockdiag_c.specs.Walks.{StoresCheckedMessage, attribute_in, bytes_after_step};
 ghost use Rattle.sockdiag_c.specs.Walks.{bytes_before_step};
+
+use netlink_packet_sock_diag::inet::INET_RESPONSE_HEADER_LEN;
 
 /// States that a call of `sockdiag_next_attribute` returns the first of the attributes left, and
 /// leaves the others (`next`); and that it returns 0 if none is left (`end`). The bytes left have

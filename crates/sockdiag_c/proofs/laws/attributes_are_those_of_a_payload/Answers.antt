@@ -6,9 +6,9 @@ use Rattle.netlink_core.proofs.Splitting.{all_attribute_bytes_split}
 use Rattle.sockdiag_c.proofs.laws.attributes_are_those_of_a_payload.Goals as goal
 
 pub returns : goal.returns
-returns c = λ header attributes size fits.
+returns c = λ head attributes size fits.
     let bytes : List ℕ = flat_map attribute_bytes attributes in
-    let rest = ap (λ (n : ℕ). drop n (header ++ bytes)) (sym size) ∙ drop-append_seam header bytes in (
+    let rest = ap (λ (n : ℕ). drop n (head ++ bytes)) (sym size) ∙ drop-append_seam head bytes in (
       None,
       subst (λ (b : List ℕ). SplitsIntoAttributes b attributes []) (sym rest)
           (all_attribute_bytes_split attributes fits),
