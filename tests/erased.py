@@ -1,0 +1,187 @@
+#!/usr/bin/env python3
+"""Compares what tools/erase writes with the sources, token by token. Needs neither kit nor cargo.
+
+This reads both sides in its own, cruder way: by brackets, without the rules of tools/erase. Besides
+what only the prover reads (`pruned`), the code may differ only by the entries of CHANGES. Then it
+checks that tools/erase writes the same files again, and that it refuses each form of REFUSED.
+"""
+
+import re
+import subprocess
+import sys
+import tempfile
+from collections import Counter
+from importlib.machinery import SourceFileLoader
+from pathlib import Path
+
+TOP = Path(__file__).resolve().parent.parent
+sys.dont_write_bytecode = True
+sys.path.insert(0, str(TOP / "tools"))
+eraser = SourceFileLoader("erase", str(TOP / "tools/erase")).load_module()
+
+TOKEN = re.compile(
+    r"""//[^\n]*|b?"(?:\\.|[^"\\])*"|b?'(?:\\[^']+|[^'\\])'|'\w+|\w+|::|->|\S"""
+)
+OPEN, CLOSE = set("([{"), set(")]}")
+CRATES = "|".join(eraser.CRATES)
+# Attributes of the prover, `no_mangle` and those of thiserror.
+PROVER = {"tactic", "cycle", "unsafe", "error"}
+# What the tokens of a source become, as patterns: both sides joined by spaces. Each is tried only
+# where the next tokens differ.
+CHANGES = [
+    # A crate becomes a module.
+    ("", "crate :: kit ::"),
+    ("", "crate ::"),
+    ("", f"(?:{CRATES}) ::"),
+    # The C ABI is in c_api.rs.
+    ('extern "C"', ""),
+    (r"& 'a \[ u8 \]", "crate :: kit :: c :: Bytes < 'a >"),
+    (r"& \[ \]", r"crate :: kit :: c :: Bytes :: of \( & \[ \] \)"),
+    ("", r": crate :: kit :: c :: Bytes :: of \( bytes \)"),
+    # Each value can be dropped, and cloned without an error.
+    (r"\+ Drop", ""),
+    (r"Drop \+", ""),
+    (": Drop", ""),
+    ("Drop", "Sized"),
+    (", Drop", ""),
+    ("Drop ,", ""),
+    (r"# \[ derive \( Drop \) \]", ""),
+    (r"\?", ""),
+    ("Result < Self , AllocError >", "Self"),
+    (r"Ok \(", ""),
+    (r"\)", ""),
+    (", ;", ";"),
+    # Texts of errors.
+    ("use thiserror :: Error ;", ""),
+    (", Error", ""),
+    ("< W : fmt :: Write >", ""),
+    ("W", "'_"),
+    # Other names.
+    ("prove", "assert"),
+    ("from_octets|from_segments", "from"),
+]
+# What tools/erase adds: the heads of files, and what thiserror derives.
+ADDED = re.compile(
+    r"""^\#!\[forbid\(unsafe_code\)\]$
+      | ^\#\[cfg\(feature\ =\ "c"\)\]\nmod\ c_api;$
+      | ^use\ crate::kit::prelude::\*;$
+      | ^impl\ core::fmt::Display\ for\ (?s:.*?)^impl\ core::error::Error\ for\ \w+\ \{\}$""",
+    re.M | re.X,
+)
+# Forms that the script has to refuse.
+REFUSED = [
+    "fn f() { g().unwrap! {} }",
+    "#[must_use]\nfn f() {}",
+    "#[derive(Hash)]\nstruct A;",
+    "fn f() { let x = «data»; }",
+    "fn f(x: &A) -> Result<A, E> { x.clone() }",
+    "fn f(s: &mut String) { write!(s, \"\") }",
+    "fn f() { for i in (250u8..) {} }",
+    "impl<T> A for &T {}",
+    "fn f(x: u8) { u16::try_from(x) }",
+    "const N: usize = std::mem::size_of::<A>();",
+    "fn f(v: &[A]) -> A { A { ..v[7] } }",
+    "fn f() { prove!(true) }",
+    "fn f() -> Drop {}",
+]
+
+
+def end_of(tokens, at):
+    """Returns the index after the bracket that closes the one at the index."""
+    depth = 0
+    while True:
+        depth += (tokens[at] in OPEN) - (tokens[at] in CLOSE)
+        at += 1
+        if depth == 0:
+            return at
+
+
+def pruned(tokens):
+    """Returns the tokens without ghost items, clauses, attributes, `mod laws` and `impl Drop`."""
+    kept, at = [], 0
+    while at < len(tokens):
+        if tokens[at] == "ghost":
+            if kept[-1:] == ["pub"]:
+                kept.pop()
+            ends = ";" if tokens[at + 1] == "use" else ";,"
+            while tokens[at] not in ends and tokens[at] not in CLOSE:
+                at = end_of(tokens, at) if tokens[at] in OPEN else at + 1
+            at += tokens[at] in ends
+        elif tokens[at] in ("requires", "ensures"):
+            at = end_of(tokens, tokens.index("{", at))
+        elif tokens[at] == "#" and {*tokens[at + 1 : at + 4]} & PROVER:
+            at = end_of(tokens, tokens.index("[", at))
+        elif tokens[at : at + 3] == ["mod", "laws", ";"]:
+            if kept[-1:] == ["pub"]:
+                kept.pop()
+            at += 3
+        elif tokens[at] == "impl" and "Drop for" in " ".join(tokens[at : tokens.index("{", at)]):
+            at = end_of(tokens, tokens.index("{", at))
+        else:
+            kept.append(tokens[at])
+            at += 1
+    return kept
+
+
+def tokens_of(text):
+    return [token for token in TOKEN.findall(text) if not token.startswith("//")]
+
+
+def change_at(source, erased):
+    """Returns the change at the start of two lists, and how many tokens of each it covers: one after
+    which both go on with the same token, if there is one."""
+    before, after = (" ".join(it[:20]) + " " for it in (source, erased))
+    found = []
+    for name, (old, new) in enumerate(CHANGES):
+        removed = re.match(f"(?:{old}) " if old else "", before)
+        inserted = re.match(f"(?:{new}) " if new else "", after)
+        if removed and inserted:
+            found.append((name, len(removed[0].split()), len(inserted[0].split())))
+    same = [it for it in found if source[it[1] : it[1] + 1] == erased[it[2] : it[2] + 1]]
+    return next(iter(same + found), None)
+
+
+def differences(name, source, erased, counts):
+    """Yields where an erased file is not its source by CHANGES, and counts these."""
+    i = j = 0
+    while i < len(source) or j < len(erased):
+        if source[i : i + 1] == erased[j : j + 1]:
+            i, j = i + 1, j + 1
+            continue
+        change = change_at(source[i:], erased[j:])
+        if not change:
+            yield f"{name}: {' '.join(source[i:i + 8])} became {' '.join(erased[j:j + 8])}"
+            return
+        counts[change[0]] += 1
+        i, j = i + change[1], j + change[2]
+
+
+def run(out):
+    subprocess.run([TOP / "tools/erase", out], check=True)
+    return {path.relative_to(out): path.read_bytes() for path in out.rglob("*") if path.is_file()}
+
+
+def main():
+    wrong, counts = [], Counter()
+    with tempfile.TemporaryDirectory() as work:
+        written, again = run(Path(work, "one")), run(Path(work, "two"))
+    if written != again:
+        wrong.append("tools/erase writes other files the second time")
+    for crate, path, text in eraser.sources():
+        erased = written[eraser.place_of(crate, path)].decode()
+        sides = pruned(tokens_of(text)), tokens_of(ADDED.sub("", erased))
+        wrong += differences(path.relative_to(TOP), *sides, counts)
+    for text in REFUSED:
+        try:
+            eraser.erase(text + "\n", "netlink_core")
+            wrong.append(f"tools/erase accepts {text}")
+        except SyntaxError:
+            pass
+    for name, (old, new) in enumerate(CHANGES):
+        print(f"{counts[name]:4} of {old or 'nothing'} -> {new or 'nothing'}")
+    print(*wrong, f"tests/erased.py: {len(wrong)} errors", sep="\n")
+    return 1 if wrong else 0
+
+
+if __name__ == "__main__":
+    sys.exit(main())

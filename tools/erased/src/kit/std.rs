@@ -1,0 +1,40 @@
+//! Rust's `core`, and what the kit's `std` has in addition.
+
+pub use core::{fmt, mem, net, ops, str, time};
+
+pub mod alloc {
+    pub use crate::kit::memory::{AllocError, AllocFailed, Global};
+}
+
+pub mod convert {
+    /// A text, owned or borrowed.
+    pub trait AsStr {
+        fn as_str(&self) -> &str;
+    }
+
+    impl AsStr for &str {
+        fn as_str(&self) -> &str {
+            self
+        }
+    }
+
+    impl AsStr for crate::kit::prelude::String {
+        fn as_str(&self) -> &str {
+            self
+        }
+    }
+}
+
+pub mod default {
+    /// A type with a value for slots that are not used.
+    pub trait MadeWith<A> {
+        fn made_with(alloc: A) -> Self;
+    }
+}
+
+pub mod marker {
+    pub use core::marker::PhantomData;
+
+    /// States what contracts see of a value, so nothing here.
+    pub trait Model {}
+}
