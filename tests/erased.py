@@ -20,7 +20,7 @@ sys.path.insert(0, str(TOP / "tools"))
 eraser = SourceFileLoader("erase", str(TOP / "tools/erase")).load_module()
 
 TOKEN = re.compile(
-    r"""//[^\n]*|b?"(?:\\.|[^"\\])*"|b?'(?:\\[^']+|[^'\\])'|'\w+|\w+|::|->|\S"""
+    r"""//[^\n]*|b?r\#".*?"\#|b?"(?:\\[\s\S]|[^"\\])*"|b?'(?:\\[^']+|[^'\\])'|'\w+|\w+|::|->|\S"""
 )
 OPEN, CLOSE = set("([{"), set(")]}")
 CRATES = "|".join(eraser.CRATES)
@@ -56,6 +56,15 @@ CHANGES = [
     (", Error", ""),
     ("< W : fmt :: Write >", ""),
     ("W", "'_"),
+    # Tests: the runtime, and the allocator of `repeat` and `concat`.
+    ("(?:& )?rt [,;]", ""),
+    ("rt : HostRuntime", ""),
+    ("", "let rt = HostRuntime ;"),
+    ("", "rt = HostRuntime ; let"),
+    (r"\. expect \( (?:& )?rt , \S+ \)", ""),
+    ("repeat", "repeat_in"),
+    ("concat", "concat_in"),
+    ("any ; mod", ""),
     # Other names.
     ("prove", "assert"),
     ("from_octets|from_segments", "from"),
@@ -178,7 +187,7 @@ def main():
         except SyntaxError:
             pass
     for name, (old, new) in enumerate(CHANGES):
-        print(f"{counts[name]:4} of {old or 'nothing'} -> {new or 'nothing'}")
+        print(f"{counts[name]:4} times {old or 'nothing':.40} became {new or 'nothing':.40}")
     print(*wrong, f"tests/erased.py: {len(wrong)} errors", sep="\n")
     return 1 if wrong else 0
 

@@ -7,7 +7,7 @@ TOKEN = re.compile(
     r"""
     (?P<space>\s+)
   | (?P<comment>//[^\n]*|/\*.*?\*/)
-  | (?P<string>b?"(?:\\.|[^"\\])*")
+  | (?P<string>b?r(?P<hashes>\#*)".*?"(?P=hashes)|b?"(?:\\.|[^"\\])*")
   | (?P<char>b?'(?:\\[^\n]+?|[^'\\\n])')
   | (?P<lifetime>'[A-Za-z_]\w*(?!'))
   | (?P<number>\d\w*)

@@ -7,17 +7,24 @@
 # the library, builds the examples, runs them with the replies of other kernels, and lists the
 # sockets of this machine by list_sockets, if the kernel permits it. Needs the kit's rt, a C
 # compiler and Python. The gate runs this script.
+#
+# With SOCKDIAG_LIBRARY, the path of a libsockdiag_c.a, tests this library instead, which may also call
+# abort(3), and installs nothing: erased.sh does so.
 set -eu
 top=$(CDPATH='' cd -- "$(dirname -- "$0")/../.." && pwd)
 work=$(mktemp -d)
 trap '[ $? = 0 ] || echo "$0: failed" >&2; rm -rf "$work"' EXIT
 
-echo "c_api: proving and building the library, if it is older than a source"
-"$top/tests/api/library.sh" >"$work/log" 2>&1 || { cat "$work/log" >&2; exit 1; }
+library=$top/crates/sockdiag_c/out/libsockdiag_c.a calls='memcpy|memmove|memset'
+if [ -n "${SOCKDIAG_LIBRARY-}" ]; then
+    library=$SOCKDIAG_LIBRARY calls="$calls|abort"
+else
+    echo "c_api: proving and building the library, if it is older than a source"
+    "$top/tests/api/library.sh" >"$work/log" 2>&1 || { cat "$work/log" >&2; exit 1; }
+fi
 
 # The library does not allocate, and needs no more of the C library than its header says.
-if nm -u "$top/crates/sockdiag_c/out/libsockdiag_c.a" | sed -n 's/^ *U //p' |
-    grep -vxE 'memcpy|memmove|memset'; then
+if nm -u "$library" | sed -n 's/^ *U //p' | grep -vxE "$calls"; then
     echo "c_api: the library calls these functions" >&2
     exit 1
 fi
@@ -27,8 +34,7 @@ build_as() {
     language=$1 standard=$2 name=$3 source=$4
     shift 4
     ${CC:-cc} -std="$standard" -O2 -Wall -Wextra -Wpedantic -Werror "$@" -I"$top/include" \
-        -o "$work/$name" -x "$language" "$source" -x none \
-        "$top/crates/sockdiag_c/out/libsockdiag_c.a"
+        -o "$work/$name" -x "$language" "$source" -x none "$library"
 }
 
 # build NAME SOURCE FLAG..: builds a program in C with the library.
@@ -91,7 +97,7 @@ build fuzz_c "$top/tests/api/fuzz_c.c" "$@"
 "$work/fuzz_c" 20000 "$top/crates/sslist/stdin"
 
 # The lenient calls, compared with an independent reader.
-CFLAGS="$*" SOCKDIAG_LIB_DIR="$top/crates/sockdiag_c/out" "$top/tests/api/compare_replies.sh"
+CFLAGS="$*" SOCKDIAG_LIB_DIR="$(dirname -- "$library")" "$top/tests/api/compare_replies.sh"
 
 # The example with answers that a kernel seldom sends: an interrupted dump is requested again, and
 # one that lost data on another socket, a rejected reply does not end a dump, and a rejected
@@ -136,8 +142,8 @@ done
 
 # As an author of a program does: installs the library, and builds with the shared library that
 # pkg-config finds. Without pkg-config or make, builds with the static library.
-"$top/tools/install" "$work/prefix" >/dev/null
-if command -v pkg-config >/dev/null && command -v make >/dev/null; then
+[ -n "${SOCKDIAG_LIBRARY-}" ] || "$top/tools/install" "$work/prefix" >/dev/null
+if [ -d "$work/prefix" ] && command -v pkg-config >/dev/null && command -v make >/dev/null; then
     cp "$top/examples/Makefile" "$top/examples/"*.[ch] "$work"
     PKG_CONFIG_PATH="$work/prefix/lib/pkgconfig" make -s -C "$work"
 else

@@ -23,10 +23,14 @@ pub mod attribute_lists;
 pub mod exact_values;
 pub mod netlink_core;
 pub mod netlink_packet_sock_diag;
+pub mod sock_diag_any;
 pub mod sock_diag_attributes;
 pub mod sock_diag_extras;
 pub mod sock_diag_families;
+pub mod sock_diag_filters;
 pub mod sock_diag_records;
 pub mod sock_diag_replies;
+#[cfg(all(test, feature = "alloc"))]
+mod sock_diag_tests;
 pub mod sock_diag_values;
 pub mod sockdiag_c;

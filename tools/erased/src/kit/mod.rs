@@ -4,12 +4,16 @@ pub mod bitflags;
 mod boxed;
 pub mod byteorder;
 pub mod c;
+#[cfg(all(test, feature = "alloc"))]
+pub mod hex;
 #[cfg(not(feature = "alloc"))]
 mod no_heap;
 mod memory;
 pub mod smallvec;
 pub mod std;
 mod string;
+#[cfg(all(test, feature = "alloc"))]
+pub mod testing;
 mod vec;
 
 /// Memory on the heap, which `Vec`, `String` and `Box` are made of.
@@ -25,6 +29,8 @@ use no_heap as heap;
 /// The types that replace those of Rust with the same name.
 pub mod prelude {
     pub use super::boxed::Box;
+    #[cfg(all(test, feature = "alloc"))]
+    pub(crate) use super::testing::{format, ConcatIn, HostRuntime, RepeatIn};
     pub use super::string::String;
     pub(crate) use super::vec::vec;
     pub use super::vec::Vec;

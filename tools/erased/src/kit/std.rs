@@ -38,3 +38,8 @@ pub mod marker {
     /// States what contracts see of a value, so nothing here.
     pub trait Model {}
 }
+
+#[cfg(all(test, feature = "alloc"))]
+pub mod process {
+    pub use crate::kit::testing::Abort;
+}

@@ -3,7 +3,7 @@
 use super::heap;
 use super::memory::{AllocError, Global};
 
-/// A text that does not change.
+/// A text.
 #[derive(PartialEq, Eq)]
 pub struct String(heap::String);
 
@@ -14,6 +14,10 @@ impl String {
         string.try_reserve_exact(text.len())?;
         string.push_str(text);
         Ok(String(string))
+    }
+
+    pub fn as_str(&self) -> &str {
+        &self.0
     }
 }
 
