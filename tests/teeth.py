@@ -25,9 +25,11 @@ from pathlib import Path
 from typing import NamedTuple
 
 TOP = Path(__file__).resolve().parent.parent
-# Scripts that others run, which need no row, and scripts that only c_api.sh and rust_api.sh run.
+# Scripts that others run, which need no row, and scripts that only c_api.sh, rust_api.sh and
+# erased.sh run.
 CALLED = {"tests/over_gate.sh", "tests/stand_in.sh", "tests/api/reply_reader.py"}
-OF_C_API = {"tests/api/compare_replies.sh", "tests/api/kernels.py", "tests/api/sockdump.py"}
+OF_C_API = {"tests/api/compare_libraries.py", "tests/api/compare_replies.sh",
+            "tests/api/kernels.py", "tests/api/sockdump.py"}
 # Variables that would change what the scripts run.
 UNSET = {"CC", "CFLAGS", "CARGO_TARGET_DIR", "SOCKDIAG_LIB_DIR", "SOCKDIAG_PROGRAM"}
 # The stand-in of most programs. It fails if its name and its arguments match $FAILS.
@@ -159,6 +161,21 @@ C_API, RUST_API = "tests/api/c_api.sh", "tests/api/rust_api.sh"
 # What they run after the calls from C, or after those from Rust.
 LATER = tuple((it, None, PROGRAM) for it in (
     "tools/install", "tests/api/kernels.py", "tests/api/sockdump.py"))
+# An eraser that writes only a library, which cargo would build.
+ERASER = (("tools/erase", None, """#!/bin/sh
+mkdir -p "$1/target/release"
+cd "$1/target/release"
+: >sockdiag_c.o
+ar rcs libsockdiag_c.a sockdiag_c.o
+"""), ("tests/api/c_api.sh", None, PROGRAM), ("tests/api/compare_libraries.py", None, PROGRAM))
+# Makes two libraries whose functions return 0, except the version of the second one.
+LIBRARIES = ("libraries.sh", None, """set -eu
+sed -n 's/^[a-z0-9_]* \\(sockdiag_[a-z0-9_]*\\)(.*/long \\1(void) { return 0; }/p' \\
+    include/sockdiag.h >one.c
+sed '/sockdiag_version/s/0/1/' one.c >two.c
+for name in one two; do cc -shared -fPIC -o "$name.so" "$name.c"; done
+exec "$1" one.so two.so 1
+""")
 # The scripts that the gate runs, and what its stand-ins print.
 SCRIPTS = sorted(str(path.relative_to(TOP)) for it in ("tests/*.py", "tests/*.sh", "tests/api/*")
                  for path in TOP.glob(it) if path.is_file() and os.access(path, os.X_OK))
@@ -316,6 +333,21 @@ ROWS = [
       for it in ("cargo test --offline --test changed_bytes", "cargo test --offline",
                  "cargo build *", "kernels.py *")),
     Row(RUST_API, ("a library of another version was linked",), (LIBRARY,), "version", "ar"),
+    Row("python3 tests/erased.py", ("crates/netlink_core/src/nla.rt: = MAX_VALUE_LEN",
+                                    "tools/erase accepts impl<T> A for &T {}"), (
+        ("tools/erase", "    return documentation + head_of(s)",
+         "    rest = rest.replace(' <= MAX_VALUE_LEN', ' < MAX_VALUE_LEN')\n"
+         "    return documentation + head_of(s)"),
+        ("tools/erase", "        yield from silent(s, i)\n", ""),
+    )),
+    Row("python3 tests/erased.py", ("the attribute must_use is not known",),
+        (("crates/netlink_core/src/lib.rt", "", "\n#[must_use]\npub fn planted() {}\n"),)),
+    *(Row("tests/api/erased.sh", (f"planted: {it.split(' *')[0]}",), (LIBRARY, *ERASER), it, "ar")
+      for it in ("cargo build *", "cargo test --offline", "cargo test * --features alloc *",
+                 "c_api.sh", "compare_libraries.py *")),
+    Row("sh libraries.sh tests/api/compare_libraries.py",
+        ("sockdiag_version: the first difference at call 1: 0 and 1", ": 1 differ"), (LIBRARIES,),
+        needs="cc"),
     Row("tests/api/kernels.py $STAND_INS/program", ("with the replies of linux-4.14",), (), ""),
     Row("tests/api/sockdump.py $STAND_INS/program", ("AssertionError", ", expected (0, "), (), ""),
 ]

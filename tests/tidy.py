@@ -36,6 +36,8 @@ VERSIONS = {
     "examples/sockdump.c": r'(?m)^#define VERSION "([^"]*)"$',
     "include/sockdiag.h": r'(?m)^#define SOCKDIAG_VERSION "([^"]*)"$',
     "rust/sockdiag/Cargo.toml": r'(?m)^version = "([^"]*)"$',
+    "tools/erased/Cargo.toml": r'(?m)^version = "([^"]*)"$',
+    "tools/erased/c/Cargo.toml": r'(?m)^version = "([^"]*)"$',
 }
 
 

@@ -8,8 +8,8 @@
 # sockets of this machine by list_sockets, if the kernel permits it. Needs the kit's rt, a C
 # compiler and Python. The gate runs this script.
 #
-# With SOCKDIAG_LIBRARY, the path of a libsockdiag_c.a, tests this library instead, which may also call
-# abort(3), and installs nothing: erased.sh does so.
+# With SOCKDIAG_LIBRARY, the path of a libsockdiag_c.a, it tests this library instead, which may
+# also call abort(3), and installs nothing: erased.sh does so.
 set -eu
 top=$(CDPATH='' cd -- "$(dirname -- "$0")/../.." && pwd)
 work=$(mktemp -d)
@@ -143,7 +143,8 @@ done
 # As an author of a program does: installs the library, and builds with the shared library that
 # pkg-config finds. Without pkg-config or make, builds with the static library.
 [ -n "${SOCKDIAG_LIBRARY-}" ] || "$top/tools/install" "$work/prefix" >/dev/null
-if [ -d "$work/prefix" ] && command -v pkg-config >/dev/null && command -v make >/dev/null; then
+if [ -z "${SOCKDIAG_LIBRARY-}" ] && command -v pkg-config >/dev/null &&
+    command -v make >/dev/null; then
     cp "$top/examples/Makefile" "$top/examples/"*.[ch] "$work"
     PKG_CONFIG_PATH="$work/prefix/lib/pkgconfig" make -s -C "$work"
 else
