@@ -23,51 +23,51 @@ TOKEN = re.compile(
     r"""//[^\n]*|b?r\#".*?"\#|b?"(?:\\[\s\S]|[^"\\])*"|b?'(?:\\[^']+|[^'\\])'|'\w+|\w+|::|->|\S"""
 )
 OPEN, CLOSE = set("([{"), set(")]}")
-CRATES = "|".join(eraser.CRATES)
+CRATES, KIT = "|".join(eraser.CRATES), "|".join(eraser.KIT)
 # Attributes of the prover, `no_mangle` and those of thiserror.
 PROVER = {"tactic", "cycle", "unsafe", "error"}
-# What the tokens of a source become, as patterns: both sides joined by spaces. Each is tried only
-# where the next tokens differ.
+# The changes of code, as patterns of tokens that are joined by spaces: the last tokens before, the
+# tokens of the source, and those that they become. Each is tried only where the next tokens differ.
+# OWN is the crate of the file.
 CHANGES = [
     # A crate becomes a module.
-    ("", "crate :: kit ::"),
-    ("", "crate ::"),
-    ("", f"(?:{CRATES}) ::"),
+    ("", "", f"crate :: kit ::(?= (?:{KIT}) )"),
+    ("", "", f"crate ::(?= (?:{CRATES}) )"),
+    ("crate ::", "", "OWN ::"),
     # The C ABI is in c_api.rs.
-    ('extern "C"', ""),
-    (r"& 'a \[ u8 \]", "crate :: kit :: c :: Bytes < 'a >"),
-    (r"& \[ \]", r"crate :: kit :: c :: Bytes :: of \( & \[ \] \)"),
-    ("", r": crate :: kit :: c :: Bytes :: of \( bytes \)"),
-    # Each value can be dropped, and cloned without an error.
-    (r"\+ Drop", ""),
-    (r"Drop \+", ""),
-    (": Drop", ""),
-    ("Drop", "Sized"),
-    (", Drop", ""),
-    ("Drop ,", ""),
-    (r"# \[ derive \( Drop \) \]", ""),
-    (r"\?", ""),
-    ("Result < Self , AllocError >", "Self"),
-    (r"Ok \(", ""),
-    (r"\)", ""),
-    (", ;", ";"),
+    ("pub", 'extern "C"(?= fn )', ""),
+    ("pub bytes :", r"& 'a \[ u8 \]", "crate :: kit :: c :: Bytes < 'a >"),
+    (" bytes :", r"& \[ \]", r"crate :: kit :: c :: Bytes :: of \( & \[ \] \)"),
+    (" bytes", "", r": crate :: kit :: c :: Bytes :: of \( bytes \)"),
+    # Each value can be dropped.
+    ("", r"\+ Drop|Drop \+|: Drop", ""),
+    ("where Self :", "Drop", "Sized"),
+    ("where Self : Drop", ", ;", ";"),
+    (r"derive \([\w ,]*", ", Drop|Drop ,", ""),
+    ("", r"# \[ derive \( Drop \) \]", ""),
+    # `clone` of a value that owns no memory returns it.
+    (r"clone \( \)", r"\?", ""),
+    (r"fn clone \( & self \) ->", "Result < Self , AllocError >", "Self"),
+    (r"AllocError > \{", r"Ok \(", ""),
+    ("", r"\)(?= \})", ""),
     # Texts of errors.
-    ("use thiserror :: Error ;", ""),
-    (", Error", ""),
-    ("< W : fmt :: Write >", ""),
-    ("W", "'_"),
-    # Tests: the runtime, and the allocator of `repeat` and `concat`.
-    ("(?:& )?rt [,;]", ""),
-    ("rt : HostRuntime", ""),
-    ("", "let rt = HostRuntime ;"),
-    ("", "rt = HostRuntime ; let"),
-    (r"\. expect \( (?:& )?rt , \S+ \)", ""),
-    ("repeat", "repeat_in"),
-    ("concat", "concat_in"),
-    ("any ; mod", ""),
+    ("", "use thiserror :: Error ;", ""),
+    (r"derive \([\w ,]*", ", Error", ""),
+    ("fn fmt", "< W : fmt :: Write >", ""),
+    ("Formatter <", "W", "'_"),
     # Other names.
-    ("prove", "assert"),
-    ("from_octets|from_segments", "from"),
+    ("=", "prove(?= ! )", "assert"),
+    ("Ipv[46]Addr ::", "from_octets|from_segments", "from"),
+]
+# The changes of tests: the runtime, the allocator of `repeat` and `concat`, and a module.
+CHANGES_OF_TESTS = [
+    (r"(?:assert|panic) ! \(|expect \(", "(?:& )?rt [,;]", ""),
+    (r"fn \w+ \(", "rt : HostRuntime", ""),
+    (r"\{(?: let)?", "", "(?:let )?rt = HostRuntime ;(?: let)?"),
+    (r"clone \( \)", r"\. expect \( (?:& )?rt , \S+ \)", ""),
+    (r"\.", "repeat", "repeat_in"),
+    (r"\.", "concat", "concat_in"),
+    ("mod", "any ; mod", ""),
 ]
 # What tools/erase adds: the heads of files, and what thiserror derives.
 ADDED = re.compile(
@@ -143,28 +143,32 @@ def tokens_of(text):
     return [token for token in TOKEN.findall(text) if not token.startswith("//")]
 
 
-def change_at(source, erased):
-    """Returns the change at the start of two lists, and how many tokens of each it covers: one after
-    which both go on with the same token, if there is one."""
-    before, after = (" ".join(it[:20]) + " " for it in (source, erased))
+def change_at(before, source, erased, changes):
+    """Returns the change at the start of two lists of tokens, and how many of each it covers: one
+    after which both go on with the same token, if there is one."""
+    last, old, new = (" ".join(it) + " " for it in (before, source, erased))
     found = []
-    for name, (old, new) in enumerate(CHANGES):
-        removed = re.match(f"(?:{old}) " if old else "", before)
-        inserted = re.match(f"(?:{new}) " if new else "", after)
-        if removed and inserted:
-            found.append((name, len(removed[0].split()), len(inserted[0].split())))
+    for name, patterns in enumerate(changes):
+        # An empty pattern is no token.
+        follows, taken, made = (f"(?:{it}) " if it else "" for it in patterns)
+        if re.search(f"{follows}$", last) and re.match(taken, old) and re.match(made, new):
+            counts = (len(re.match(*it)[0].split()) for it in ((taken, old), (made, new)))
+            found.append((name, *counts))
     same = [it for it in found if source[it[1] : it[1] + 1] == erased[it[2] : it[2] + 1]]
     return next(iter(same + found), None)
 
 
-def differences(name, source, erased, counts):
-    """Yields where an erased file is not its source by CHANGES, and counts these."""
+def differences(name, crate, source, erased, counts):
+    """Yields where an erased file is not its source by the changes, and counts these."""
+    changes = [*CHANGES, *(CHANGES_OF_TESTS if crate == eraser.TESTS else [])]
+    changes = [tuple(it.replace("OWN", crate) for it in change) for change in changes]
     i = j = 0
     while i < len(source) or j < len(erased):
         if source[i : i + 1] == erased[j : j + 1]:
             i, j = i + 1, j + 1
             continue
-        change = change_at(source[i:], erased[j:])
+        parts = source[max(0, i - 12) : i], source[i : i + 20], erased[j : j + 20]
+        change = change_at(*parts, changes)
         if not change:
             yield f"{name}: {' '.join(source[i:i + 8])} became {' '.join(erased[j:j + 8])}"
             return
@@ -186,14 +190,14 @@ def main():
     for crate, path, text in eraser.sources():
         erased = written[eraser.place_of(crate, path)].decode()
         sides = pruned(tokens_of(text)), tokens_of(ADDED.sub("", erased))
-        wrong += differences(path.relative_to(TOP), *sides, counts)
+        wrong += differences(path.relative_to(TOP), crate, *sides, counts)
     for text in REFUSED:
         try:
             eraser.erase(text + "\n", "netlink_core")
             wrong.append(f"tools/erase accepts {text}")
         except SyntaxError:
             pass
-    for name, (old, new) in enumerate(CHANGES):
+    for name, (_, old, new) in enumerate([*CHANGES, *CHANGES_OF_TESTS]):
         print(f"{counts[name]:4} times {old or 'nothing':.40} became {new or 'nothing':.40}")
     print(*wrong, f"tests/erased.py: {len(wrong)} errors", sep="\n")
     return 1 if wrong else 0
