@@ -38,15 +38,16 @@ class Source:
         self.text, self.edits = text, []
         found = (Token(it.lastgroup, it[0], *it.span()) for it in TOKEN.finditer(text))
         self.tokens = [it for it in found if it.kind not in ("space", "comment")]
+        self.texts = [it.text for it in self.tokens]
 
     def at(self, index, *texts):
         """Returns whether the tokens from the index on have these texts. None is any text."""
-        if not 0 <= index <= len(self.tokens) - len(texts):
+        if not 0 <= index < len(self.texts) or texts[0] not in (self.texts[index], None):
             return False
-        for token, text in zip(self.tokens[index : index + len(texts)], texts):
-            if text is not None and token.text != text:
-                return False
-        return True
+        found = self.texts[index : index + len(texts)]
+        return len(found) == len(texts) and all(
+            text in (it, None) for it, text in zip(found, texts)
+        )
 
     def line(self, index):
         """Returns the number of the line of a token."""
