@@ -81,6 +81,8 @@ ADDED = re.compile(
 REFUSED = [
     "fn f() { g().unwrap! {} }",
     "#[must_use]\nfn f() {}",
+    "#[cfg(feature = \"a\")]\nfn f() {}",
+    "#![no_std]",
     "#[derive(Hash)]\nstruct A;",
     "fn f() { let x = «data»; }",
     "fn f(x: &A) -> Result<A, E> { x.clone() }",
