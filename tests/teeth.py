@@ -161,10 +161,17 @@ C_API, RUST_API = "tests/api/c_api.sh", "tests/api/rust_api.sh"
 # What they run after the calls from C, or after those from Rust.
 LATER = tuple((it, None, PROGRAM) for it in (
     "tools/install", "tests/api/kernels.py", "tests/api/sockdump.py"))
-# An eraser that writes only a library, which cargo would build.
+# An eraser that writes only a library and a program, which cargo would build.
 ERASER = (("tools/erase", None, """#!/bin/sh
-mkdir -p "$1/target/release"
+top=$PWD
+mkdir -p "$1/target/release/examples"
 cd "$1/target/release"
+cat >examples/answer_lines <<END
+#!/bin/sh
+[ "\$FAILS" != answer_lines ] || echo planted
+exec cat $top/crates/sockdiag/stdout
+END
+chmod +x examples/answer_lines
 : >sockdiag_c.o
 ar rcs libsockdiag_c.a sockdiag_c.o
 """), ("tests/api/c_api.sh", None, PROGRAM), ("tests/api/compare_libraries.py", None, PROGRAM))
@@ -345,6 +352,7 @@ ROWS = [
     *(Row("tests/api/erased.sh", (f"planted: {it.split(' *')[0]}",), (LIBRARY, *ERASER), it, "ar")
       for it in ("cargo build *", "cargo test --offline", "cargo test * --features alloc *",
                  "c_api.sh", "compare_libraries.py *")),
+    Row("tests/api/erased.sh", ("sockdiag/stdin differ",), ERASER, "answer_lines", "ar"),
     Row("sh libraries.sh tests/api/compare_libraries.py",
         ("sockdiag_version: the first difference at call 1: 0 and 1", ": 1 differ"), (LIBRARIES,),
         needs="cc"),

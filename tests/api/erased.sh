@@ -1,8 +1,9 @@
 #!/bin/sh
 # Tests the plain Rust that tools/erase makes of the sources: builds it by cargo, without a heap and
-# with one, runs its tests, has c_api.sh test its C library, and compares this library with the
-# proved one, if that is built: each function with 20,000 inputs. Needs cargo and a C compiler, and
-# no kit. The gate runs this script.
+# with one, runs its tests, has it answer the stored lines of the program sockdiag, and has c_api.sh
+# test its C library. Then compares its answers to many lines with those of the proved program, and
+# its C library with the proved one, each function with 20,000 inputs, if these are built. Needs
+# cargo and a C compiler, and no kit. The gate runs this script.
 set -eu
 top=$(CDPATH='' cd -- "$(dirname -- "$0")/../.." && pwd)
 work=$(mktemp -d)
@@ -23,6 +24,28 @@ quiet cargo test --offline
 quiet cargo test --offline --package sockdiag_erased --features alloc -- \
     --skip a_record_buffer_is_printed
 sed -n 's/^test result: ok. \([0-9]* passed\).*/erased: \1/p' "$work/log" | sed -n 1p
+quiet cargo build --release --offline --package sockdiag_erased --features alloc \
+    --example answer_lines
+answer=$built/examples/answer_lines
+
+# same_answers INPUT ANSWERS: compares the answers to the lines of a file.
+same_answers() {
+    "$answer" <"$1" >"$work/answers"
+    cmp "$work/answers" "$2" || { echo "erased: the answers to $1 differ" >&2; exit 1; }
+    echo "erased: the answers to $(wc -l <"$1") lines are equal"
+}
+
+same_answers "$top/crates/sockdiag/stdin" "$top/crates/sockdiag/stdout"
+program=${SOCKDIAG_PROGRAM-$top/crates/sockdiag/out/sockdiag}
+if [ -f "$program" ]; then
+    "$top/tests/api/reply_reader.py" make 100000 1 | sed -n '
+        /^unix /{ p; s/^unix /unixview /p; s/^unixview /message /p; }
+        /^inet /{ p; s/^inet /message /p; }' >"$work/lines"
+    "$program" <"$work/lines" >"$work/expected"
+    same_answers "$work/lines" "$work/expected"
+else
+    echo "erased: skipped: comparison with the program: no $program"
+fi
 
 # Cargo adds objects of Rust's own library, of which the one of the library needs nothing.
 mkdir "$work/object" "$work/library"

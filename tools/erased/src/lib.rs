@@ -28,6 +28,8 @@ pub mod sock_diag_attributes;
 pub mod sock_diag_extras;
 pub mod sock_diag_families;
 pub mod sock_diag_filters;
+#[cfg(feature = "alloc")]
+pub mod sock_diag_lines;
 pub mod sock_diag_records;
 pub mod sock_diag_replies;
 #[cfg(all(test, feature = "alloc"))]

@@ -1,26 +1,63 @@
-//! Hexadecimal digits in tests, as in the crate hex.
+//! Hexadecimal digits, as in the crate hex.
 
 use super::memory::Global;
 use super::prelude::{String, Vec};
 
-/// Why digits are not decoded.
+/// Why digits are not decoded, or bytes are not encoded.
 #[derive(Debug, PartialEq, Eq)]
 pub enum FromHexError {
     OutOfMemory,
     InvalidDigits,
+    InvalidLength,
+}
+
+/// Decodes two digits for each byte of the buffer.
+pub fn decode_to_slice(digits: &[u8], bytes: &mut [u8]) -> Result<(), FromHexError> {
+    if digits.len() % 2 != 0 || digits.len() / 2 != bytes.len() {
+        return Err(FromHexError::InvalidLength);
+    }
+    for (pair, byte) in digits.chunks_exact(2).zip(bytes) {
+        let high = value(pair[0]).ok_or(FromHexError::InvalidDigits)?;
+        let low = value(pair[1]).ok_or(FromHexError::InvalidDigits)?;
+        *byte = 16 * high + low;
+    }
+    Ok(())
+}
+
+fn value(digit: u8) -> Option<u8> {
+    match digit {
+        b'0'..=b'9' => Some(digit - b'0'),
+        b'a'..=b'f' => Some(digit - b'a' + 10),
+        b'A'..=b'F' => Some(digit - b'A' + 10),
+        _ => None,
+    }
+}
+
+/// Encodes each byte as two digits of the buffer, in lower case.
+pub fn encode_to_slice(bytes: &[u8], digits: &mut [u8]) -> Result<(), FromHexError> {
+    if digits.len() % 2 != 0 || digits.len() / 2 != bytes.len() {
+        return Err(FromHexError::InvalidLength);
+    }
+    for (byte, pair) in bytes.iter().zip(digits.chunks_exact_mut(2)) {
+        pair[0] = b"0123456789abcdef"[usize::from(byte / 16)];
+        pair[1] = b"0123456789abcdef"[usize::from(byte % 16)];
+    }
+    Ok(())
 }
 
 pub fn decode(alloc: Global, digits: &str) -> Result<Vec<u8>, FromHexError> {
-    let mut bytes = Vec::new(alloc);
-    for at in (0..digits.len()).step_by(2) {
-        let pair = digits.get(at..at + 2).ok_or(FromHexError::InvalidDigits)?;
-        let byte = u8::from_str_radix(pair, 16).map_err(|_| FromHexError::InvalidDigits)?;
-        bytes.push(byte).map_err(|_| FromHexError::OutOfMemory)?;
-    }
+    let Ok(mut bytes) = Vec::filled(alloc, 0, digits.len() / 2) else {
+        return Err(FromHexError::OutOfMemory);
+    };
+    decode_to_slice(digits.as_bytes(), &mut bytes)?;
     Ok(bytes)
 }
 
-pub fn encode(alloc: Global, bytes: &[u8]) -> Result<String, super::memory::AllocError> {
-    let digits = bytes.iter().map(|byte| alloc::format!("{byte:02x}"));
-    String::from_str(alloc, &digits.collect::<alloc::string::String>())
+pub fn encode(alloc: Global, bytes: &[u8]) -> Result<String, FromHexError> {
+    let Ok(mut digits) = Vec::filled(alloc, 0, 2 * bytes.len()) else {
+        return Err(FromHexError::OutOfMemory);
+    };
+    encode_to_slice(bytes, &mut digits)?;
+    let text = core::str::from_utf8(&digits).expect("digits are UTF-8");
+    String::from_str(alloc, text).map_err(|_| FromHexError::OutOfMemory)
 }

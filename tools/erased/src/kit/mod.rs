@@ -4,8 +4,8 @@ pub mod bitflags;
 mod boxed;
 pub mod byteorder;
 pub mod c;
-#[cfg(all(test, feature = "alloc"))]
 pub mod hex;
+pub mod memchr;
 #[cfg(not(feature = "alloc"))]
 mod no_heap;
 mod memory;

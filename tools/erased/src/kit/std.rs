@@ -32,6 +32,31 @@ pub mod default {
     }
 }
 
+pub mod io {
+    use crate::kit::memory::AllocError;
+    use crate::kit::prelude::Vec;
+    use core::fmt;
+
+    /// Appends formatted text to a vector, by `write!`.
+    pub trait Write {
+        fn write_fmt(&mut self, arguments: fmt::Arguments<'_>) -> Result<(), AllocError>;
+    }
+
+    struct Text<'a>(&'a mut Vec<u8>);
+
+    impl fmt::Write for Text<'_> {
+        fn write_str(&mut self, text: &str) -> fmt::Result {
+            self.0.extend_from_slice(text.as_bytes()).map_err(|_| fmt::Error)
+        }
+    }
+
+    impl Write for Vec<u8> {
+        fn write_fmt(&mut self, arguments: fmt::Arguments<'_>) -> Result<(), AllocError> {
+            fmt::Write::write_fmt(&mut Text(self), arguments).map_err(|_| AllocError)
+        }
+    }
+}
+
 pub mod marker {
     pub use core::marker::PhantomData;
 

@@ -18,43 +18,9 @@ impl HostRuntime {
 
 impl Abort for HostRuntime {}
 
-impl<T> Vec<T> {
-    pub fn push(&mut self, value: T) -> Result<(), AllocFailed<T>> {
-        if self.reserve(1).is_err() {
-            return Err(AllocFailed { value });
-        }
-        self.push_reserved(value);
-        Ok(())
-    }
-
-    pub fn extend_from_slice(&mut self, items: &[T]) -> Result<(), AllocError>
-    where
-        T: Copy,
-    {
-        self.reserve(items.len())?;
-        for item in items {
-            self.push_reserved(*item);
-        }
-        Ok(())
-    }
-}
-
 impl<T> fmt::Debug for AllocFailed<T> {
     fn fmt(&self, f: &mut fmt::Formatter<'_>) -> fmt::Result {
         f.write_str("AllocFailed")
-    }
-}
-
-impl Vec<u8> {
-    pub fn resize(&mut self, count: usize, byte: u8) -> Result<(), AllocError> {
-        while self.len() < count {
-            self.push(byte)?;
-        }
-        Ok(())
-    }
-
-    pub fn truncate(&mut self, count: usize) {
-        *self = Vec::from_slice(Global, &self[..count]).unwrap();
     }
 }
 

@@ -1,7 +1,7 @@
 //! `Vec` with allocations that may fail.
 
 use super::heap;
-use super::memory::{AllocError, Global};
+use super::memory::{AllocError, AllocFailed, Global};
 use core::ops::{Deref, DerefMut};
 
 /// A vector. An allocation that fails changes nothing.
@@ -14,16 +14,20 @@ impl<T> Vec<T> {
         Vec(heap::Vec::new())
     }
 
+    /// Returns an empty vector with this capacity.
+    pub fn with_capacity(alloc: Global, capacity: usize) -> Result<Self, AllocError> {
+        let mut vec = Vec::new(alloc);
+        vec.reserve_exact(capacity)?;
+        Ok(vec)
+    }
+
     /// Returns a copy of the items.
     pub fn from_slice(alloc: Global, items: &[T]) -> Result<Self, AllocError>
     where
         T: Copy,
     {
-        let mut vec = Vec::new(alloc);
-        vec.reserve_exact(items.len())?;
-        for item in items {
-            vec.push_reserved(*item);
-        }
+        let mut vec = Vec::with_capacity(alloc, items.len())?;
+        vec.extend_from_slice(items)?;
         Ok(vec)
     }
 
@@ -32,11 +36,8 @@ impl<T> Vec<T> {
     where
         T: Copy,
     {
-        let mut vec = Vec::new(alloc);
-        vec.reserve_exact(count)?;
-        for _ in 0..count {
-            vec.push_reserved(item);
-        }
+        let mut vec = Vec::with_capacity(alloc, count)?;
+        vec.resize(count, item)?;
         Ok(vec)
     }
 
@@ -56,6 +57,47 @@ impl<T> Vec<T> {
         self.0.push(item);
     }
 
+    /// Appends an item, or returns it if an allocation fails.
+    pub fn push(&mut self, value: T) -> Result<(), AllocFailed<T>> {
+        if self.reserve(1).is_err() {
+            return Err(AllocFailed { value });
+        }
+        self.push_reserved(value);
+        Ok(())
+    }
+
+    /// Appends copies of the items.
+    pub fn extend_from_slice(&mut self, items: &[T]) -> Result<(), AllocError>
+    where
+        T: Copy,
+    {
+        self.reserve(items.len())?;
+        for item in items {
+            self.push_reserved(*item);
+        }
+        Ok(())
+    }
+
+    /// Removes the items after the first `count`, or appends copies of an item.
+    pub fn resize(&mut self, count: usize, item: T) -> Result<(), AllocError>
+    where
+        T: Copy,
+    {
+        self.truncate(count);
+        self.reserve(count - self.len())?;
+        while self.len() < count {
+            self.push_reserved(item);
+        }
+        Ok(())
+    }
+
+    /// Removes the items after the first `count`.
+    pub fn truncate(&mut self, count: usize) {
+        while self.len() > count {
+            self.0.pop();
+        }
+    }
+
     pub fn capacity(&self) -> usize {
         self.0.capacity()
     }
@@ -66,6 +108,10 @@ impl<T> Vec<T> {
 
     pub fn as_slice(&self) -> &[T] {
         &self.0
+    }
+
+    pub fn as_mut_slice(&mut self) -> &mut [T] {
+        &mut self.0
     }
 }
 
