@@ -351,7 +351,7 @@ ROWS = [
         (("crates/netlink_core/src/lib.rt", "", "\n#[must_use]\npub fn planted() {}\n"),)),
     *(Row("tests/api/erased.sh", (f"planted: {it.split(' *')[0]}",), (LIBRARY, *ERASER), it, "ar")
       for it in ("cargo build *", "cargo test --offline", "cargo test * --features alloc *",
-                 "c_api.sh", "compare_libraries.py *")),
+                 "cargo clippy --offline *", "c_api.sh", "compare_libraries.py *")),
     Row("tests/api/erased.sh", ("sockdiag/stdin differ",), ERASER, "answer_lines", "ar"),
     Row("sh libraries.sh tests/api/compare_libraries.py",
         ("sockdiag_version: the first difference at call 1: 0 and 1", ": 1 differ"), (LIBRARIES,),

@@ -28,6 +28,14 @@ quiet cargo build --release --offline --package sockdiag_erased --features alloc
     --example answer_lines
 answer=$built/examples/answer_lines
 
+# The package uses no function of Rust's library that is newer than its `rust-version`.
+if cargo clippy --version >/dev/null 2>&1; then
+    quiet cargo clippy --offline --package sockdiag_erased --features alloc,c -- \
+        -A clippy::all -D clippy::incompatible_msrv
+else
+    echo "erased: skipped: the minimal version of Rust: no cargo clippy"
+fi
+
 # same_answers INPUT ANSWERS: compares the answers to the lines of a file.
 same_answers() {
     "$answer" <"$1" >"$work/answers"

@@ -2,8 +2,8 @@
 //! not about this one: see `docs/ERASED.md` of the repository.
 #![no_std]
 #![deny(unsafe_code)]
-// What only contracts or laws use is left.
-#![allow(dead_code, unused_imports, private_bounds)]
+// What only contracts, proofs or laws use is left.
+#![allow(dead_code, unused_imports, unused_labels, private_bounds)]
 
 #[cfg(feature = "alloc")]
 extern crate alloc;
