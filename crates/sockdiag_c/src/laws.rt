@@ -1,10 +1,8 @@
 //! Properties of iterations and of lenient calls. Proof only: each contract states a property.
 //! `step` has the arguments and the results of a call.
 
-ghost use Rattle.std.specs.Prelude.{◌≡◌, ◌++◌, ℕ, List, [], ◌∷◌, length, Option, Some, None};
-ghost use Rattle.std.specs.List.{AllByRecursion, flat_map};
-ghost use Rattle.netlink_core.specs.Attribute.{Attribute, FitsHeaderFields, SplitsIntoAttributes};
-ghost use Rattle.netlink_core.specs.Attribute.{attribute_bytes};
+ghost use Rattle.std.specs.Prelude.{◌≡◌, ℕ, List, [], ◌∷◌, Option, Some, None};
+ghost use Rattle.netlink_core.specs.Attribute.{Attribute, SplitsIntoAttributes};
 ghost use Rattle.netlink_core.specs.Bytes.{IsBytes};
 ghost use Rattle.netlink_core.specs.Datagram.{SplitsIntoMessages};
 ghost use Rattle.netlink_core.specs.declared.error.DecodeError.{DecodeError};
@@ -15,7 +13,6 @@ ghost use Rattle.sockdiag_c.specs.Family.{AgreesWithCodec, CallsAgree, EveryReje
 ghost use Rattle.sockdiag_c.specs.InetDetails.{inet_family};
 ghost use Rattle.sockdiag_c.specs.NetlinkDetails.{netlink_family};
 ghost use Rattle.sockdiag_c.specs.PacketDetails.{packet_family};
-ghost use Rattle.sockdiag_c.specs.TcpInfo.{AreInetReplyAttributes};
 ghost use Rattle.sockdiag_c.specs.UnixDetails.{unix_family};
 ghost use Rattle.sockdiag_c.specs.VsockDetails.{vsock_family};
 ghost use Rattle.sockdiag_c.specs.XdpDetails.{xdp_family};
@@ -24,8 +21,6 @@ ghost use Rattle.sockdiag_c.specs.declared.walks.MessageRange.{MessageRange};
 ghost use Rattle.sockdiag_c.specs.Walks.{IterationStep, StepsOverAttribute, StepsOverMessage};
 ghost use Rattle.sockdiag_c.specs.Walks.{StoresCheckedMessage, attribute_in, bytes_after_step};
 ghost use Rattle.sockdiag_c.specs.Walks.{bytes_before_step};
-
-use netlink_packet_sock_diag::inet::INET_RESPONSE_HEADER_LEN;
 
 /// States that a call of `sockdiag_next_attribute` returns the first of the attributes left, and
 /// leaves the others (`next`); and that it returns 0 if none is left (`end`). The bytes left have
@@ -61,14 +56,6 @@ pub fn a_step_passes_the_first_message()
         → SplitsIntoMessages (bytes_before_step step) [] (Some e)
         → StepsOverMessage step
         → (step.returned ≡ error_code e) × (bytes_after_step step ≡ []) }
-{}
-
-/// States that any attributes whose lengths and types fit their fields are the attributes of a
-/// payload. So what clauses assume of the attributes of a payload holds for each such list.
-pub fn attributes_are_those_of_a_payload()
-    ensures { (header : List ℕ) (attributes : List Attribute)
-        → length header ≡ INET_RESPONSE_HEADER_LEN → AllByRecursion FitsHeaderFields attributes
-        → AreInetReplyAttributes (header ++ flat_map attribute_bytes attributes) attributes }
 {}
 
 /// States that a lenient call, `sockdiag_.._get_lenient_details`, agrees with the strict call,
