@@ -23,9 +23,8 @@ attribute_kind a = bit_and a.type_word 0x3fff
 abbrev pub padding_length : ℕ → ℕ
 padding_length n = (4 - n % 4) % 4
 
--- `header_and_value a`: the bytes of the attribute `a` without its padding: `nla_len`, which is 4
--- plus the length of the value, `nla_type`, and the value; both fields have 16 bits and are
--- little-endian
+-- `header_and_value a`: the bytes of the attribute `a` without its padding: `nla_len` (4 plus the
+-- length of the value), `nla_type`, and the value; both fields have 16 bits and are little-endian
 abbrev pub header_and_value : Attribute → List ℕ
 header_and_value a = little_bytes 2 (4 + length a.value) ++ little_bytes 2 a.type_word ++ a.value
 

@@ -142,8 +142,8 @@ pub fn serialized_attributes_are_split()
 {}
 
 /// Bytes parse as a value of a record type if and only if they contain it (`IsContainedIn`): they
-/// are long enough, they have the tag and the numbers of the value, and the value is in range and
-/// in normal form.
+/// are long enough, they have the tag of the value, which selects the rows of its layout, and its
+/// numbers in the fields that are not ignored, and the value is in range and in normal form.
 pub fn parsed_iff_contained<T: Record>()
     ensures { (bytes : List ℕ) (param : T.Param) (value : T) → IsBytes bytes
         → (parse_record T.layout param bytes ≡ Ok value)

@@ -133,13 +133,13 @@ pub fn os_error_end(code: u32) -> &'static str
     }
 }
 
-/// An input. Generic code that has no other bound on it cannot claim that a read failed with an
-/// error, unless one did.
+/// An input.
 pub trait Source {
     // The bytes that are left to read, if they are known, else `None`.
     ghost left: { Self → Option (List ℕ) };
 
-    // `failed source error`: a read failed with this error.
+    // `failed source error`: a read failed with this error. Generic code that knows no more of the
+    // type than this trait can prove it only by a read that failed.
     ghost failed: { Self → ReadError → Type 0 };
 
     /// Reads once, to the start of `bytes`. Returns the number of bytes that were read. It is 0

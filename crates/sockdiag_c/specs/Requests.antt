@@ -121,8 +121,8 @@ WritesMessage len message call =
     × (length call.old < len → (call.returned ≡ 0) × (call.new ≡ call.old))
 
 -- `WritesInetMessage message_type r call`: if the family of the request `r` is AF_INET or AF_INET6,
--- its message with this type is written if the buffer is long enough (`WritesMessage`). For any
--- other family nothing is written, and the return value is 0.
+-- its message with this type (`inet_message`) is written if the buffer is long enough
+-- (`WritesMessage`). For any other family nothing is written, and the return value is 0.
 abbrev pub WritesInetMessage : ℕ → InetRequest → Call (List ℕ) → Type 0
 WritesInetMessage message_type r call =
     (IsInetFamily r.family

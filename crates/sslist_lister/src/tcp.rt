@@ -52,14 +52,14 @@ pub(crate) enum FieldPart {
 /// table shows them, their text in the table, and their name in JSON.
 type FieldRow = (usize, FieldPart, Shown, &'static [u8], Option<&'static str>);
 
-/// A row.
+/// A row with all five columns of a `FieldRow`.
 macro_rules! row {
     ($offset:literal, $part:ident, $format:expr, $text:literal, $member:expr) => {
         ($offset, FieldPart::$part, $format, $text, $member)
     };
 }
 
-/// A field, or some bits of it, that the table shows if it is neither 0 nor unlimited.
+/// A field, or some bits of it, that the table shows unless it is 0 or, for no limit, `u64::MAX`.
 macro_rules! nonzero {
     ($offset:literal, $part:ident, $text:literal, $member:literal) => {
         row!($offset, $part, Shown::Nonzero, $text, Some($member))
@@ -90,8 +90,8 @@ macro_rules! flag {
 /// Offset of `tcpi_options` in bytes.
 const OPTIONS: usize = 5;
 
-// In the rows below: the offset of the field in bytes, the number there, the text of the table, and
-// the name in JSON.
+// In the rows below: the offset of the field in bytes, the number there, how the table shows it
+// (`Shown`, if the macro does not say it), its text, and the name in JSON.
 
 /// The facts of the first eight bytes of `struct tcp_info`: the state, the options and the window
 /// scales.

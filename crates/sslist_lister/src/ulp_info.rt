@@ -318,7 +318,7 @@ fn show_rows<S: FactSink>(sink: &mut S, bytes: &[u8], rows: &[UlpRow]) -> Result
     Ok(())
 }
 
-/// Shows a number, if the nested attributes have its field. The table shows it by `format`, after
+/// Shows a number, if the nested attributes `bytes` have its field. The table shows it by `format`, after
 /// `text`. JSON has it under `member`, or not at all for `None`.
 #[tactic(auto, unfolding(crate::specs::UlpInfo::ulp_row))]
 fn show_row<S: FactSink>(
@@ -340,7 +340,7 @@ fn show_row<S: FactSink>(
     }
 }
 
-/// Returns the number of a field. Returns `None` if the nested attributes do not have it.
+/// Returns the number of a field. Returns `None` if the nested attributes `bytes` do not have it.
 fn number_of(bytes: &[u8], field: UlpField) -> Option<u64>
     ensures { result ≡ ulp_number bytes.now field }
 {

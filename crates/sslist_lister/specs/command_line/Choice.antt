@@ -318,8 +318,8 @@ names_file parsed = false
 
 -- ---- the command line
 
--- `with_end_port end condition filter`: the conditions `filter`, with this one on the port of the
--- end in place of any other one on it
+-- `with_end_port end condition filter`: the filter with this condition on the local or the remote
+-- port; it replaces an earlier one
 abbrev pub with_end_port : End → PortCondition → SocketFilter → SocketFilter
 with_end_port Local condition filter = record filter { source_port = Some condition }
 with_end_port Remote condition filter = record filter { destination_port = Some condition }

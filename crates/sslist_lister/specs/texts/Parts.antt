@@ -55,7 +55,8 @@ abbrev pub timer_if_shown : Options → TimerFields → List ℕ
 timer_if_shown options timer = if shows_detail options Timer then timer_text timer else []
 
 -- `cookie_if_shown options cookie`: ` sk:` and the cookie as a little-endian number of eight bytes,
--- in hexadecimal digits, if the group of details of `-e` is shown, or else nothing
+-- in hexadecimal digits, lowercase (`false`), if the group of details of `-e` is shown, or else
+-- nothing
 abbrev pub cookie_if_shown : Options → List ℕ → List ℕ
 cookie_if_shown options cookie =
     if shows_detail options Extended
