@@ -203,15 +203,14 @@ fn error_number(code: Option<i32>) -> Option<u32>
     }
 }
 
-/// An output. Generic code that has no other bound on it cannot claim that a write or a flush
-/// failed with an error, unless one did. It cannot claim that the output was flushed, unless its
-/// last call flushed it.
+/// An output.
 pub trait Sink {
     // The bytes that have been written, if they are known, else `None`.
     ghost held: { Self → Option (List ℕ) };
 
     // `failed sink error`: a write or a flush failed with this error. A write that accepted no
-    // bytes counts as failed.
+    // bytes counts as failed. Generic code that knows no more of the type than this trait can prove
+    // it only by a call that failed, and `flushed` only by a last call that flushed.
     ghost failed: { Self → WriteError → Type 0 };
 
     // The last call flushed the output.

@@ -150,8 +150,8 @@ payload_lines o list protocol _ b = []
 -- `payload_error kind b`: the decode error of the payload `b`: that of the reply, or the reason why
 -- it is not a reply. An invalid value of an attribute is not considered. `UnknownFamily n` is the
 -- port's error for the families that it does not have: if `n` is netlink, packet, vsock or XDP, the
--- error is that of this reply (`family_error`), and for any other `n` there is none. `kind` is never
--- a request (`response_kind`), the case of the last equation.
+-- error is that of this reply (`family_error`), and for any other `n` there is none. `kind` is
+-- never a request (`response_kind`), the case of the last equation.
 abbrev pub payload_error : Result MessageKind DecodeError → List ℕ → Option DecodeError
 payload_error (Ok unix_response) b = reply_error unix_response_header b
 payload_error (Ok inet_response) b = reply_error inet_response_header b

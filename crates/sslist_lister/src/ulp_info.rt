@@ -318,8 +318,8 @@ fn show_rows<S: FactSink>(sink: &mut S, bytes: &[u8], rows: &[UlpRow]) -> Result
     Ok(())
 }
 
-/// Shows a number, if the nested attributes `bytes` have its field. The table shows it by `format`, after
-/// `text`. JSON has it under `member`, or not at all for `None`.
+/// Shows a number, if the nested attributes `bytes` have its field. The table shows it by `format`,
+/// after `text`. JSON has it under `member`, or not at all for `None`.
 #[tactic(auto, unfolding(crate::specs::UlpInfo::ulp_row))]
 fn show_row<S: FactSink>(
     sink: &mut S,

@@ -324,8 +324,8 @@ abbrev pub with_end_port : End → PortCondition → SocketFilter → SocketFilt
 with_end_port Local condition filter = record filter { source_port = Some condition }
 with_end_port Remote condition filter = record filter { destination_port = Some condition }
 
--- `with_end_address end condition filter`: the conditions `filter`, with this one on the address of
--- the end in place of any other one on it
+-- `with_end_address end condition filter`: the filter with this condition on the local or the
+-- remote address; it replaces an earlier one
 abbrev pub with_end_address : End → AddressCondition → SocketFilter → SocketFilter
 with_end_address Local condition filter = record filter { source_address = Some condition }
 with_end_address Remote condition filter = record filter { destination_address = Some condition }
