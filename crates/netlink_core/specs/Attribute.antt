@@ -82,8 +82,7 @@ SplitsIntoAttributes bytes (first ∷ later) rest = (after_first : List ℕ)
 
 -- `IsFramingError bytes e`: the bytes do not begin with an attribute, and `e` is their first error:
 -- fewer than 4 bytes; else `nla_len` (the first two bytes, little-endian) is below 4; else
--- `nla_len` is above the number of bytes. The errors contain `nla_len` and the number of bytes. No
--- other `DecodeError` is such an error (`⊥`).
+-- `nla_len` is above the number of bytes. No other `DecodeError` is such an error (`⊥`).
 abbrev pub IsFramingError : List ℕ → DecodeError → Type 0
 IsFramingError bytes (errors.AttributeHeaderCut left) = (left ≡ length bytes) × (length bytes < 4)
 IsFramingError bytes (errors.AttributeLengthUnder4 nla_len) =

@@ -65,8 +65,7 @@ message_payload bytes h = take (h.length - 16) (drop 16 bytes)
 
 -- `IsMessageError bytes e`: the bytes do not begin with a complete message, and `e` is their first
 -- error: fewer than 16 bytes, the length of the header; else `nlmsg_len` is below 16; else
--- `nlmsg_len` is above the number of bytes. The errors contain `nlmsg_len` and the number of bytes.
--- No other `DecodeError` is such an error (`⊥`).
+-- `nlmsg_len` is above the number of bytes. No other `DecodeError` is such an error (`⊥`).
 abbrev pub IsMessageError : List ℕ → DecodeError → Type 0
 IsMessageError bytes (errors.EnvelopeCut got) = (got ≡ length bytes) × (length bytes < 16)
 IsMessageError bytes (errors.EnvelopeLengthUnder16 nlmsg_len) =

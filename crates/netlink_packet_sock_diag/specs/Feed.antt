@@ -49,8 +49,8 @@ status_of_dump dump = (dump.state, dump.error_number)
 abbrev pub IsReading : {A : Type 0} → DumpProgress A → Type 0
 IsReading dump = status_of_dump dump ≡ (Reading, None)
 
--- `InterruptsDump bytes items`: the messages at the start of `bytes`, which have these items,
--- interrupt a dump. Either the header of the first message has the flag NLM_F_DUMP_INTR (0x10, bit
+-- `InterruptsDump bytes items`: the messages at the start of `bytes` interrupt a dump; `items` are
+-- their items. Either the header of the first message has the flag NLM_F_DUMP_INTR (0x10, bit
 -- 4). Or the first item does not end the dump, and the messages after it interrupt the dump. If
 -- there are no items, nothing interrupts the dump.
 abbrev pub InterruptsDump : {A : Type 0} → List ℕ → List (Item A) → Type 0

@@ -123,8 +123,7 @@ impl Nla {
     ghost use Rattle.sock_diag_attributes.specs.InetModel.{inet_nla_model};
 
     /// Returns an equal attribute: of the same kind, with an equal value. Fails only if an
-    /// allocation fails. Only a text, and an attribute of another kind whose value is not empty,
-    /// may need an allocation.
+    /// allocation fails. Only a text, and an `Other` with bytes, may need an allocation.
     pub fn clone(&self, alloc: Global) -> Result<Self, AllocError>
         ensures equal { IfOk result (λ copy. inet_nla_model copy ≡ inet_nla_model self.now) }
         ensures needs_no_memory { NeedsNoMemoryIn inet_attribute_set (inet_nla_model self.now)
@@ -257,8 +256,8 @@ impl<'a> NlaView<'a> {
     }
 
     /// Returns the attribute with an owned text and owned bytes: of the same kind, with an equal
-    /// value. Fails only if an allocation fails. Only a text, and an attribute of another kind
-    /// whose value is not empty, may need an allocation.
+    /// value. Fails only if an allocation fails. Only a text, and an `Other` with bytes, may need
+    /// an allocation.
     #[inline(always)]
     pub fn to_owned(&self, alloc: Global) -> Result<Nla, AllocError>
         ensures equal { IfOk result (λ nla. inet_nla_model nla ≡ inet_nla_view_model self.now) }

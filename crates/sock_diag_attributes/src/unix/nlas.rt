@@ -108,8 +108,8 @@ impl Nla {
     ghost use Rattle.sock_diag_attributes.specs.UnixModel.{unix_nla_model};
 
     /// Returns an equal attribute: of the same kind, with an equal value. Fails only if an
-    /// allocation fails. Only a name, a list that is not empty, and an attribute of another kind
-    /// whose value is not empty, may need an allocation.
+    /// allocation fails. Only a name, a list that is not empty, and an `Other` with bytes, may need
+    /// an allocation.
     pub fn clone(&self, alloc: Global) -> Result<Self, AllocError>
         ensures equal { IfOk result (λ copy. unix_nla_model copy ≡ unix_nla_model self.now) }
         ensures needs_no_memory { NeedsNoMemoryIn unix_attribute_set (unix_nla_model self.now)
@@ -240,7 +240,7 @@ impl<'a> NlaView<'a> {
 
     /// Returns the attribute with an owned name, owned numbers and owned bytes: of the same kind,
     /// with an equal value. Fails only if an allocation fails. Only a name, a list that is not
-    /// empty, and an attribute of another kind whose value is not empty, may need an allocation.
+    /// empty, and an `Other` with bytes, may need an allocation.
     #[inline(always)]
     pub fn to_owned(&self, alloc: Global) -> Result<Nla, AllocError>
         ensures equal { IfOk result (λ nla. unix_nla_model nla ≡ unix_nla_view_model self.now) }

@@ -23,7 +23,7 @@ use Rattle.sslist_lister.specs.declared.command_line.filter.SocketFilter.{Socket
 abbrev pub state_bit : ℕ → ℕ
 state_bit state = if nat_lt state 31 then 2 ^ state else 2 ^ 31
 
--- `has_state states state`: the state is one of these states, a bit for each
+-- `has_state states state`: the bit of the state (`state_bit`) is set in `states`
 abbrev pub has_state : ℕ → ℕ → Bool
 has_state states state = not (bit_and states (state_bit state) == 0)
 

@@ -49,8 +49,8 @@ lists_state options state =
     else not options.listening || state == TCP_LISTEN || state == TCP_CLOSE
 
 -- `lists_unix options state`: a UNIX socket in this state is listed. Three conditions must hold:
--- `-x` is set, or no option that selects sockets is; the state leaves no socket out; and there is
--- no condition on a port or an address of an IPv4 or IPv6 socket.
+-- `-x` is set, or no option that selects sockets is; sockets in this state are listed
+-- (`lists_state`); and there is no condition on a port or an address of an IPv4 or IPv6 socket.
 abbrev pub lists_unix : Options → ℕ → Bool
 lists_unix options state =
     (options.unix || not (selects_sockets options)) && lists_state options state
