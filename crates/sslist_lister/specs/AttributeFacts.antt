@@ -87,7 +87,7 @@ abbrev pub memory_facts : List ℕ → MemInfo → Facts
 memory_facts member m = memory_group member m m.backlog_queue_length m.drops
 
 -- `memory_outcome member a`: the memory in the value of the attribute `a`, as the object `member`
--- in JSON; or the error of its value. The parser has no parameter (`tt`).
+-- in JSON; or the error of its value.
 abbrev pub memory_outcome : List ℕ → Attribute → Outcome
 memory_outcome member a =
     parsed_outcome (memory_facts member) (parse_record mem_info tt a.value)

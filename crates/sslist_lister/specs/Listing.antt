@@ -1,7 +1,6 @@
 -- The lines and diagnostics of messages, datagrams and packets of a capture. `b` is the payload of
 -- a message. `list` is the number of the list of sockets that a reply belongs to (`PastRequests`),
--- and `protocol` is the protocol of its request, None if that is not known. The parsers of headers
--- have no parameter (`tt`).
+-- and `protocol` is the protocol of its request, None if that is not known.
 use Rattle.std.specs.Prelude.{◌≡◌, ◌↔◌, Bool, true, false, IsTrue, ℕ, ℤ, pos, negsuc, ◌+◌}
 use Rattle.std.specs.Prelude.{◌==◌, ◌&&◌, if◌then◌else◌, nat_le, nat_lt, List, [], ◌++◌, ◌≤◌, ◌⊎◌}
 use Rattle.std.specs.Prelude.{bit_and, drop, length, flat_map, is_none, Option, None, Some}

@@ -125,8 +125,6 @@ pub(crate) fn show_attribute<S: FactSink>(
     sockets: Sockets,
     nla: &NlaBuffer<'_>,
 ) -> Result<Status, AllocError>
-    // `attribute_outcome ..`: what the attribute says: its facts, nothing if its type is unknown,
-    // or the error of its value.
     ensures { IfOk result (AddsOutcome (S.content sink.old) (S.content sink.new)
         (attribute_outcome utf8 sockets (buffered_attribute nla.now))) }
 {
@@ -143,7 +141,6 @@ fn show_unix<S: FactSink>(
     alloc: Global,
     nla: &NlaBuffer<'_>,
 ) -> Result<Status, AllocError>
-    // `unix_attribute_outcome attribute`: what its decoded value says, or the decode error.
     ensures { IfOk result (AddsOutcome (S.content sink.old) (S.content sink.new)
         (unix_attribute_outcome (buffered_attribute nla.now))) }
 {
@@ -162,9 +159,6 @@ fn show_unix_view<S: FactSink>(
     nla: &NlaBuffer<'_>,
     view: &UnixView<'_>,
 ) -> Result<Status, AllocError>
-    // `decoded_unix_outcome attribute value`: what an attribute with this value says. `unix_variant
-    // (unix_view_model view)`: the value that the port decodes, with lists for the bytes that it
-    // borrows.
     ensures { IfOk result (AddsOutcome (S.content sink.old) (S.content sink.new)
         (decoded_unix_outcome (buffered_attribute nla.now)
         (unix_variant (unix_view_model view.now)))) }
@@ -194,7 +188,6 @@ fn show_unix_view<S: FactSink>(
 /// Returns the status of an attribute with facts, `Ok(true)`, if they were shown; or the error of
 /// showing them.
 fn shown_status(shown: Result<(), AllocError>) -> Result<Status, AllocError>
-    // `Ok (Ok true)` if they were shown, or else the same error.
     ensures { result ≡ result_map_both (λ done. Ok true) (λ e. e) shown }
 {
     match shown {
@@ -230,7 +223,6 @@ fn show_queues<S: FactSink>(sink: &mut S, first: u32, second: u32) -> Result<(),
 /// any, and returns its status. Only JSON has the user id here, since the table has a column for
 /// it.
 fn show_raw_unix<S: FactSink>(sink: &mut S, nla: &NlaBuffer<'_>) -> Result<Status, AllocError>
-    // `raw_unix_outcome attribute`: the user id, or an error; nothing for any other kind.
     ensures { IfOk result (AddsOutcome (S.content sink.old) (S.content sink.new)
         (raw_unix_outcome (buffered_attribute nla.now))) }
 {
@@ -254,7 +246,6 @@ fn show_number<S: FactSink>(
     // `read_uint` reads one to eight bytes.
     requires one { 1 ≤ width }
     requires eight { width ≤ 8 }
-    // `number_outcome width facts attribute`: the facts of the number, or the error `WrongLength`.
     ensures { IfOk result (AddsOutcome (S.content sink.old) (S.content sink.new)
         (number_outcome width (number_facts format text.now (Some member.now))
         (buffered_attribute nla.now))) }
@@ -269,8 +260,6 @@ fn show_number<S: FactSink>(
 /// Returns the status of an attribute whose value does not have `need` bytes: the error
 /// `WrongLength`.
 pub(crate) fn length_error(nla: &NlaBuffer<'_>, need: usize) -> Status
-    // `status_of`: the status of an outcome. `length_outcome attribute need`: the error
-    // `WrongLength`.
     ensures { result ≡ status_of (length_outcome (buffered_attribute nla.now) need) }
 {
     Err(DecodeError::WrongLength {
@@ -289,8 +278,6 @@ fn show_inet<S: FactSink>(
     info: Info,
     nla: &NlaBuffer<'_>,
 ) -> Result<Status, AllocError>
-    // `inet_attribute_outcome utf8 info attribute`: the facts of its value, or an error; nothing
-    // for an unknown kind.
     ensures { IfOk result (AddsOutcome (S.content sink.old) (S.content sink.new)
         (inet_attribute_outcome utf8 info (buffered_attribute nla.now))) }
 {
@@ -311,7 +298,6 @@ fn show_port_inet<S: FactSink>(
     utf8: bool,
     nla: &NlaBuffer<'_>,
 ) -> Result<Status, AllocError>
-    // `port_inet_outcome utf8 attribute`: what its decoded value says, or the decode error.
     ensures { IfOk result (AddsOutcome (S.content sink.old) (S.content sink.new)
         (port_inet_outcome utf8 (buffered_attribute nla.now))) }
 {
@@ -330,9 +316,6 @@ fn show_inet_view<S: FactSink>(
     nla: &NlaBuffer<'_>,
     view: &InetView<'_>,
 ) -> Result<Status, AllocError>
-    // `decoded_inet_outcome utf8 attribute value`: what an attribute with this value says.
-    // `inet_variant (inet_view_model view)`: the value that the port decodes, with lists for the
-    // bytes that it borrows.
     ensures { IfOk result (AddsOutcome (S.content sink.old) (S.content sink.new)
         (decoded_inet_outcome utf8 (buffered_attribute nla.now) (inet_variant
         (inet_view_model view.now)))) }
@@ -398,8 +381,6 @@ fn show_raw_inet<S: FactSink>(
     alloc: Global,
     nla: &NlaBuffer<'_>,
 ) -> Result<Status, AllocError>
-    // `raw_inet_outcome attribute`: the facts of its value, or an error; nothing for an unknown
-    // kind.
     ensures { IfOk result (AddsOutcome (S.content sink.old) (S.content sink.new)
         (raw_inet_outcome (buffered_attribute nla.now))) }
 {
@@ -424,7 +405,6 @@ fn show_md5_keys<S: FactSink>(
     alloc: Global,
     nla: &NlaBuffer<'_>,
 ) -> Result<Status, AllocError>
-    // `md5_outcome attribute`: the facts of the keys, or the error `WrongLength`.
     ensures { IfOk result (AddsOutcome (S.content sink.old) (S.content sink.new)
         (md5_outcome (buffered_attribute nla.now))) }
 {
@@ -437,8 +417,6 @@ fn show_md5_keys<S: FactSink>(
 /// Shows the options of a socket (`INET_DIAG_SOCKOPT`). If the value is too short, the status is
 /// the error `WrongLength`.
 fn show_options<S: FactSink>(sink: &mut S, nla: &NlaBuffer<'_>) -> Result<Status, AllocError>
-    // `record_outcome layout facts attribute`: `facts` of the record in the value, or the error
-    // `WrongLength` if the value is too short.
     ensures { IfOk result (AddsOutcome (S.content sink.old) (S.content sink.new)
         (record_outcome socket_options option_facts (buffered_attribute nla.now))) }
 {
@@ -475,8 +453,6 @@ fn show_option_bits<S: FactSink>(sink: &mut S, bits: u16) -> Result<(), AllocErr
 /// Shows the measurements of TCP Vegas (`INET_DIAG_VEGASINFO`). If the value is too short, the
 /// status is the error `WrongLength`.
 fn show_vegas<S: FactSink>(sink: &mut S, nla: &NlaBuffer<'_>) -> Result<Status, AllocError>
-    // `record_outcome layout facts attribute`: `facts` of the record in the value, or the error
-    // `WrongLength` if the value is too short.
     ensures { IfOk result (AddsOutcome (S.content sink.old) (S.content sink.new)
         (record_outcome vegas_info vegas_facts (buffered_attribute nla.now))) }
 {
@@ -504,8 +480,6 @@ fn show_vegas_info<S: FactSink>(sink: &mut S, info: &VegasInfo) -> Result<(), Al
 /// Shows the measurements of DCTCP (`INET_DIAG_DCTCPINFO`). If the value is too short, the status
 /// is the error `WrongLength`.
 fn show_dctcp<S: FactSink>(sink: &mut S, nla: &NlaBuffer<'_>) -> Result<Status, AllocError>
-    // `record_outcome layout facts attribute`: `facts` of the record in the value, or the error
-    // `WrongLength` if the value is too short.
     ensures { IfOk result (AddsOutcome (S.content sink.old) (S.content sink.new)
         (record_outcome dctcp_info dctcp_facts (buffered_attribute nla.now))) }
 {
@@ -534,8 +508,6 @@ fn show_dctcp_info<S: FactSink>(sink: &mut S, info: &DctcpInfo) -> Result<(), Al
 /// Shows the measurements of BBR (`INET_DIAG_BBRINFO`). If the value is too short, the status is
 /// the error `WrongLength`.
 fn show_bbr<S: FactSink>(sink: &mut S, nla: &NlaBuffer<'_>) -> Result<Status, AllocError>
-    // `record_outcome layout facts attribute`: `facts` of the record in the value, or the error
-    // `WrongLength` if the value is too short.
     ensures { IfOk result (AddsOutcome (S.content sink.old) (S.content sink.new)
         (record_outcome bbr_info bbr_facts (buffered_attribute nla.now))) }
 {
@@ -580,8 +552,6 @@ fn show_family<S: FactSink>(
     family: Family,
     nla: &NlaBuffer<'_>,
 ) -> Result<Status, AllocError>
-    // `family_attribute_outcome family attribute`: the facts of its value, or an error; nothing for
-    // an unknown kind.
     ensures { IfOk result (AddsOutcome (S.content sink.old) (S.content sink.new)
         (family_attribute_outcome family (buffered_attribute nla.now))) }
 {
@@ -606,7 +576,6 @@ fn show_memory_value<S: FactSink>(
     member: &str,
     nla: &NlaBuffer<'_>,
 ) -> Result<Status, AllocError>
-    // `memory_outcome member attribute`: the facts of the memory, or the decode error.
     ensures { IfOk result (AddsOutcome (S.content sink.old) (S.content sink.new)
         (memory_outcome member.now (buffered_attribute nla.now))) }
 {
@@ -667,7 +636,6 @@ fn widened(number: Option<u32>) -> Option<u64>
 /// Shows the settings of a packet socket (`PACKET_DIAG_INFO`), which are the value of an attribute.
 /// If the value is invalid, the status is the decode error.
 fn show_packet<S: FactSink>(sink: &mut S, value: &[u8]) -> Result<Status, AllocError>
-    // `parsed_outcome facts parsed`: `facts` of the parsed value, or the decode error.
     ensures { IfOk result (AddsOutcome (S.content sink.old) (S.content sink.new)
         (parsed_outcome packet_facts (parse_packet_info value.now))) }
 {
@@ -705,7 +673,6 @@ fn show_packet_info<S: FactSink>(sink: &mut S, info: &PacketInfo) -> Result<(), 
 /// attribute. Only JSON has them here, since the table has a column for them. If the value is
 /// invalid, the status is the decode error.
 fn show_xdp<S: FactSink>(sink: &mut S, value: &[u8]) -> Result<Status, AllocError>
-    // `parsed_outcome facts parsed`: `facts` of the parsed value, or the decode error.
     ensures { IfOk result (AddsOutcome (S.content sink.old) (S.content sink.new)
         (parsed_outcome xdp_facts (parse_xdp_info value.now))) }
 {
@@ -731,7 +698,6 @@ fn show_xdp_info<S: FactSink>(sink: &mut S, info: &XdpInfo) -> Result<(), AllocE
 /// Shows the user id of a socket's owner. If the value does not have four bytes, the status is the
 /// error `WrongLength`.
 fn show_uid<S: FactSink>(sink: &mut S, nla: &NlaBuffer<'_>) -> Result<Status, AllocError>
-    // `uid_outcome attribute`: the user id, or the error `WrongLength`.
     ensures { IfOk result (AddsOutcome (S.content sink.old) (S.content sink.new)
         (uid_outcome (buffered_attribute nla.now))) }
 {
@@ -741,7 +707,6 @@ fn show_uid<S: FactSink>(sink: &mut S, nla: &NlaBuffer<'_>) -> Result<Status, Al
 /// Shows the first 32 groups of a netlink socket, which are the first four bytes of the value. If
 /// the value is too short, the status is the error `WrongLength`.
 fn show_groups<S: FactSink>(sink: &mut S, nla: &NlaBuffer<'_>) -> Result<Status, AllocError>
-    // `groups_outcome attribute`: the groups, or the error `WrongLength`.
     ensures { IfOk result (AddsOutcome (S.content sink.old) (S.content sink.new)
         (groups_outcome (buffered_attribute nla.now))) }
 {

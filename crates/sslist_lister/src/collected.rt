@@ -53,7 +53,6 @@ impl<'a> Attributes<'a> {
     #[inline(always)]
     pub(crate) fn new(alloc: Global, sockets: Sockets) -> Attributes<'a>
         ensures sockets { result.sockets ≡ sockets }
-        // All slots are empty, and there is neither another attribute nor an error.
         ensures none { HasNone result }
     {
         Attributes {
@@ -71,9 +70,6 @@ impl<'a> Attributes<'a> {
     /// it.
     pub(crate) fn collect(&mut self, bytes: &'a [u8]) -> Result<(), AllocError>
         requires { HasNone self.now }
-        // `summary_of ..`: the first valid attribute of each kind, the unknown and the invalid
-        // ones, and the framing error. `pieces_in`: each attribute in the bytes, and then this
-        // error, if there is one.
         ensures summary { OnOk result (collected self.new
             ≡ summary_of self.old.sockets (pieces_in bytes.entry.now)) }
         // `end` is also a member of the summary. This clause names it, since callers return it.
@@ -94,7 +90,6 @@ impl<'a> Attributes<'a> {
 
     /// Returns the first valid attribute of a kind. Returns `None` if there is none.
     pub(crate) fn first_of(&self, kind: u16) -> Option<NlaBuffer<'a>>
-        // `first_in kind ..`: the first valid attribute of this kind, or None.
         ensures { slot_attribute result ≡ first_in kind (collected self.now) }
     {
         element(&self.first.slots, kind as usize)
@@ -118,8 +113,6 @@ fn add<'a>(
         → option_or (slot_attribute (slice_index_or slots.new k None)) (first_valid sockets later k)
         ≡ option_or (slot_attribute (slice_index_or slots.old k None))
         (first_valid sockets (Ok (buffered_attribute nla.entry) ∷ later) k)) }
-    // `other_in_piece ..`: this attribute and its status if it is unknown or invalid, or else
-    // nothing. `other_model`: an attribute in `others`, and its status.
     ensures others { OnOk result (map other_model others.new.items ≡ map other_model
         others.old.items ++ other_in_piece sockets (Ok (buffered_attribute nla.entry))) }
 {

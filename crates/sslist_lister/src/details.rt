@@ -54,7 +54,6 @@ pub(crate) fn push_details(
     cookie: &[u8; 8],
     found: &Attributes<'_>,
 ) -> Result<(), AllocError>
-    // `details_after_separator options text`: the separator and this text; nothing if it is empty.
     ensures { OnOk result (text.new.items ≡ text.old.items
         ++ details_after_separator options
         (details options timer.now cookie.now (collected found.now))) }
@@ -96,8 +95,6 @@ fn push_valid(
     sockets: Sockets,
     slots: &[Option<NlaBuffer<'_>>],
 ) -> Result<(), AllocError>
-    // `valid_detail ..`: the text of the facts of an attribute, if the options select it; nothing
-    // for None. `slot_attribute slot`: the attribute in a slot, or None.
     ensures { OnOk result (text.new.items ≡ text.old.items
         ++ flat_map (λ slot. valid_detail options sockets (slot_attribute slot)) slots.now) }
 {
@@ -135,8 +132,6 @@ fn push_others(
     sockets: Sockets,
     others: &[(NlaBuffer<'_>, Status)],
 ) -> Result<(), AllocError>
-    // `other_detail ..`: the text of an attribute with its status, if the options select it.
-    // `other_model other`: an attribute and its status.
     ensures { OnOk result (text.new.items ≡ text.old.items
         ++ flat_map (λ other. other_detail options sockets (other_model other)) others.now) }
 {

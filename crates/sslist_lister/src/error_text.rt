@@ -102,8 +102,6 @@ fn push_one(text: &mut Vec<u8>, before: &[u8], number: u64, after: &[u8]) -> Res
 /// Returns the text of a decode error, without the name of the record that it is about, which
 /// precedes this text.
 fn sentence_of(error: &DecodeError) -> Sentence
-    // `subject_text error`: the name of the record, or nothing. `sentence_text result`: the text of
-    // the result.
     ensures { subject_text error.now ++ sentence_text result ≡ decode_error_text error.now }
 {
     match *error {

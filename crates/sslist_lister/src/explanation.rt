@@ -119,7 +119,6 @@ fn push_text_and_offset(text: &mut Vec<u8>, bytes: &[u8]) -> Result<(), AllocErr
 /// Appends a colon, a space and the kernel's text, which is `value` without a terminating NUL.
 /// Appends nothing for `None`.
 fn push_kernel_text(text: &mut Vec<u8>, value: Option<&[u8]>) -> Result<(), AllocError>
-    // `option_map (λ bytes. bytes.now) value.entry`: the bytes of the value, if there is one.
     ensures { OnOk result (text.new.items ≡ text.old.items
         ++ kernel_text (option_map (λ bytes. bytes.now) value.entry)) }
 {

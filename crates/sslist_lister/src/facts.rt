@@ -94,7 +94,6 @@ pub(crate) trait FactSink {
         member: Option<&str>,
         number: u64,
     ) -> Result<(), AllocError>
-        // `option_map (λ m. m.now) member.entry`: the bytes of `member`, if there is one.
         ensures { OnOk result (AddsFacts (content self.old) (content self.new)
             (number_facts format text.now (option_map (λ m. m.now) member.entry) number)) };
 
@@ -123,14 +122,12 @@ pub(crate) trait FactSink {
         member: &str,
         numbers: &NumbersView<'_>,
     ) -> Result<(), AllocError>
-        // `numbers_view_model numbers`: the list of the numbers.
         ensures { OnOk result (AddsFacts (content self.old) (content self.new)
             (list_facts text.now member.now (numbers_view_model numbers.now))) };
 
     /// Shows the name of a UNIX socket. Only JSON has it here, since the table has a column for it.
     /// JSON allocates temporary strings by `alloc`.
     fn socket_name(&mut self, alloc: Global, name: NameView<'_>) -> Result<(), AllocError>
-        // `name_view_model name`: the name, with the bytes that it borrows as a list.
         ensures { OnOk result (AddsFacts (content self.old) (content self.new)
             (name_facts (name_view_model name.entry))) };
 
@@ -243,7 +240,6 @@ impl FactSink for Vec<u8> {
         self.extend_from_slice(closing)
     }
 
-    // Proofs of the trait's equations about items, by computation.
     ghost items_of_none = { refl };
 
     ghost items_of_both = { λ a b. refl };
@@ -319,7 +315,6 @@ impl FactSink for () {
         Ok(())
     }
 
-    // Proofs of the trait's equations about items, by computation.
     ghost items_of_none = { refl };
 
     ghost items_of_both = { λ a b. refl };
@@ -400,7 +395,6 @@ impl FactSink for Writer {
         self.end_object()
     }
 
-    // Proofs of the trait's equations about items, by lemmas.
     ghost items_of_none = { no_tokens };
 
     ghost items_of_both = { λ a b. tokens_append a.members b.members };
@@ -426,8 +420,6 @@ pub(crate) fn show_group<S: FactSink>(
     member: &str,
     rows: &[NumberRow<'_>],
 ) -> Result<(), AllocError>
-    // `numbers rows`: the facts of these rows, in order; a row without a number has none.
-    // `number_row_of`: a row, with its texts as lists of bytes.
     ensures { OnOk result (AddsFacts (S.content sink.old) (S.content sink.new)
         (group opening.now closing.now member.now (numbers (map number_row_of rows.now)))) }
 {
@@ -444,8 +436,6 @@ pub(crate) fn show_json_group<S: FactSink>(
     member: &str,
     rows: &[NumberRow<'_>],
 ) -> Result<(), AllocError>
-    // `numbers rows`: the facts of these rows, in order; a row without a number has none.
-    // `number_row_of`: a row, with its texts as lists of bytes.
     ensures { OnOk result (AddsFacts (S.content sink.old) (S.content sink.new)
         (json_group member.now (numbers (map number_row_of rows.now)))) }
 {
@@ -458,8 +448,6 @@ pub(crate) fn show_numbers<S: FactSink>(
     sink: &mut S,
     rows: &[NumberRow<'_>],
 ) -> Result<(), AllocError>
-    // `numbers rows`: the facts of these rows, in order; a row without a number has none.
-    // `number_row_of`: a row, with its texts as lists of bytes.
     ensures { OnOk result (AddsFacts (S.content sink.old) (S.content sink.new)
         (numbers (map number_row_of rows.now))) }
 {
@@ -470,8 +458,6 @@ pub(crate) fn show_numbers<S: FactSink>(
 /// appends them.
 #[inline(always)]
 fn show_each<S: FactSink>(sink: &mut S, rows: &[NumberRow<'_>]) -> Result<(), AllocError>
-    // For each row the items of its fact; none if it has no number. `number_row_of`: the row, with
-    // its texts as lists of bytes.
     ensures { OnOk result (AddsItems (S.content sink.old) (S.content sink.new)
         (flat_map (λ row. S.items (number_row_facts (number_row_of row))) rows.now)) }
 {
@@ -539,7 +525,6 @@ fn push_named(
     name: Option<&[u8]>,
     number: u64,
 ) -> Result<(), AllocError>
-    // `option_map (λ n. n.now) name.entry`: the bytes of the name, if there is one.
     ensures { OnOk result (text.new.items ≡ text.old.items
         ++ before.now ++ unwrap_or (option_map (λ n. n.now) name.entry) (decimal number)) }
 {
@@ -562,7 +547,6 @@ fn push_after(text: &mut Vec<u8>, before: &[u8], number: u64) -> Result<(), Allo
 
 /// Appends each number in decimal, after the text `before`.
 fn push_each(text: &mut Vec<u8>, before: &[u8], numbers: &NumbersView<'_>) -> Result<(), AllocError>
-    // `numbers_view_model numbers`: the list of the numbers.
     ensures { OnOk result (text.new.items ≡ text.old.items
         ++ flat_map (λ n. before.now ++ decimal n) (numbers_view_model numbers.now)) }
 {
@@ -576,10 +560,7 @@ fn push_each(text: &mut Vec<u8>, before: &[u8], numbers: &NumbersView<'_>) -> Re
 #[inline(always)]
 #[tactic(auto, unfolding(crate::specs::texts::JsonWriting::members_tokens))]
 fn write_named(writer: &mut Writer, member: Option<&str>, number: u64) -> Result<(), AllocError>
-    // `KeepsPrefix ..`: the bytes before the first token of the writer are unchanged.
     ensures prefix { KeepsPrefix result writer.old writer.new }
-    // `members_tokens (named_member name number)`: the tokens of the member; none without a name.
-    // `option_map (λ m. m.now) member.entry`: the bytes of the name, if there is one.
     ensures members { OnOk result (writer.new.tokens ≡ writer.old.tokens
         ++ members_tokens (named_member (option_map (λ m. m.now) member.entry) number)) }
 {

@@ -15,7 +15,6 @@ use std::alloc::{AllocError, Global};
 /// Returns the text before a table: a caption with the name of its file if `name` is given, and
 /// the heading. It is empty with `-H` and with `--json`. Names are shown as names of sockets are.
 pub fn heading(alloc: Global, options: Options, name: Option<&str>) -> Result<Vec<u8>, AllocError>
-    // `option_map (λ file. file.now) name.entry`: the bytes of the name, if there is one.
     ensures { IfOk result (λ text. text.items
         ≡ text_before_table options (option_map (λ file. file.now) name.entry) HEADING.now) }
 {
@@ -31,7 +30,6 @@ pub fn heading(alloc: Global, options: Options, name: Option<&str>) -> Result<Ve
 /// Appends a caption with the name of a file, which is shown as names of sockets are. `utf8` is the
 /// option `--utf8`. Appends nothing for `None`.
 fn push_caption(text: &mut Vec<u8>, utf8: bool, name: Option<&str>) -> Result<(), AllocError>
-    // `option_map (λ file. file.now) name.entry`: the bytes of the name, if there is one.
     ensures { OnOk result (text.new.items ≡ text.old.items
         ++ caption utf8 (option_map (λ file. file.now) name.entry)) }
 {

@@ -4,9 +4,8 @@
 //! is not specified. The clauses `prefix` state that the bytes before the first token of the writer
 //! are unchanged.
 //!
-//! In the contracts, `members_tokens` and `json_tokens` are the tokens of members and of a value.
-//! `H.json_members` are the members of a header. `collected found.now` is what the attributes in
-//! `found` say, and `buffered_attribute nla.now` is the attribute `nla`.
+//! In the contracts, `collected found.now` is what the attributes in `found` say, and
+//! `buffered_attribute nla.now` is the attribute `nla`.
 
 ghost use Rattle.std.specs.Prelude.{◌≡◌, ◌++◌, List, OnOk, codes, flat_map, map};
 ghost use Rattle.json.specs.Lex.{tokens};
@@ -51,11 +50,10 @@ pub(crate) fn push_json<H: JsonHeader>(
     header: &H,
     found: &Attributes<'_>,
 ) -> Result<(), AllocError>
-    // `socket_json list members ..`: the line, with these members of the header.
     ensures line { OnOk result (text.new.items ≡ text.old.items
         ++ socket_json list (H.json_members header.now) (collected found.now)) }
     // The text of the object can be parsed: `tokens` finds the tokens of the object in it. This is
-    // stated of each line that was written. `socket_members list ..`: the members of the object.
+    // stated of each line that was written.
     ensures reads_back { let object = object_of
         (socket_members list (H.json_members header.now) (collected found.now)) in
         OnOk result (tokens (json_text object) ≡ json_tokens object) }
@@ -78,8 +76,6 @@ fn write_object<H: JsonHeader>(
     found: &Attributes<'_>,
 ) -> Result<(), AllocError>
     ensures prefix { KeepsPrefix result writer.old writer.new }
-    // `object_of members`: an object. `socket_members list header summary`: the members of the
-    // header, those of the attributes, and the number of the list if it is not the first one.
     ensures tokens { OnOk result (writer.new.tokens ≡ writer.old.tokens
         ++ json_tokens (object_of
         (socket_members list (H.json_members header.now) (collected found.now)))) }
@@ -123,8 +119,6 @@ fn write_members(
     found: &Attributes<'_>,
 ) -> Result<(), AllocError>
     ensures prefix { KeepsPrefix result writer.old writer.new }
-    // `valid_members sockets attribute`: the members of the facts of an attribute; none for None.
-    // `slot_attribute slot`: the attribute in a slot, or None.
     ensures members { OnOk result (writer.new.tokens ≡ writer.old.tokens
         ++ members_tokens
         (flat_map (valid_members found.now.sockets) (map slot_attribute found.now.first.slots))) }
@@ -141,8 +135,6 @@ fn write_valid(
     slots: &[Option<NlaBuffer<'_>>],
 ) -> Result<(), AllocError>
     ensures prefix { KeepsPrefix result writer.old writer.new }
-    // `valid_members sockets attribute`: the members of the facts of an attribute; none for None.
-    // `slot_attribute slot`: the attribute in a slot, or None.
     ensures tokens { OnOk result (writer.new.tokens ≡ writer.old.tokens
         ++ flat_map (λ slot. members_tokens (valid_members sockets (slot_attribute slot)))
         slots.now) }
@@ -160,8 +152,6 @@ fn write_valid(
 #[tactic(auto, using(crate::proofs::Slots::other_rules))]
 fn write_others(writer: &mut Writer, found: &Attributes<'_>) -> Result<(), AllocError>
     ensures prefix { KeepsPrefix result writer.old writer.new }
-    // `array_member name items`: the member with this array. `other_item`: the object for an
-    // attribute. `other_model other`: an attribute and its status.
     ensures members { OnOk result (writer.new.tokens ≡ writer.old.tokens
         ++ members_tokens (array_member (codes "other_attributes")
         (map other_item (map other_model found.now.others.items)))) }
@@ -175,7 +165,6 @@ fn write_others(writer: &mut Writer, found: &Attributes<'_>) -> Result<(), Alloc
 /// Writes an item for each of these attributes.
 fn write_items(writer: &mut Writer, others: &[(NlaBuffer<'_>, Status)]) -> Result<(), AllocError>
     ensures prefix { KeepsPrefix result writer.old writer.new }
-    // `other_item`: the object for an attribute. `other_model other`: an attribute and its status.
     ensures tokens { OnOk result (writer.new.tokens ≡ writer.old.tokens
         ++ flat_map (λ other. json_tokens (other_item (other_model other))) others.now) }
 {
@@ -188,7 +177,6 @@ fn write_items(writer: &mut Writer, others: &[(NlaBuffer<'_>, Status)]) -> Resul
 /// Writes an item for an attribute with this status: an object.
 fn write_item(writer: &mut Writer, nla: &NlaBuffer<'_>, status: &Status) -> Result<(), AllocError>
     ensures prefix { KeepsPrefix result writer.old writer.new }
-    // `other_item`: the object for an attribute and its status.
     ensures tokens { OnOk result (writer.new.tokens ≡ writer.old.tokens
         ++ json_tokens (other_item (buffered_attribute nla.now, status.now))) }
 {

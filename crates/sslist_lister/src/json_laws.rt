@@ -12,8 +12,6 @@ use sock_diag_attributes::unix::nlas::NameView;
 /// Proof only: the contract states that two different names never have the same JSON text. If the
 /// texts are equal, then the names are.
 pub fn different_names_have_different_texts(v: NameView<'_>, w: NameView<'_>)
-    // `json_text (object_of (name_members ..))`: the JSON text of a name. `name_view_model v`: the
-    // name `v`, with the bytes that it borrows as a list.
     ensures { json_text (object_of (name_members (name_view_model v.entry)))
         ≡ json_text (object_of (name_members (name_view_model w.entry)))
         → name_view_model v.entry ≡ name_view_model w.entry }
@@ -26,7 +24,6 @@ pub fn different_names_have_different_texts(v: NameView<'_>, w: NameView<'_>)
 /// if each byte is below 256, since names that are not UTF-8 are in hexadecimal digits. No run-time
 /// effect.
 fn prove_in_range(name: NameView<'_>)
-    // `bytes_of_name ..`: the bytes of the name, each of which is below 256 (`IsBytes`).
     ensures { IsBytes (bytes_of_name (name_view_model name.entry)) }
 {
     match name {

@@ -1,7 +1,6 @@
 //! Members of JSON objects with the name of a UNIX socket, and with lists of numbers. If a function
 //! of this module fails, an allocation failed, and the content of the writer is not specified. The
-//! clauses `prefix` state that the bytes before the first token of the writer are unchanged. In the
-//! contracts, `members_tokens` are the tokens of members.
+//! clauses `prefix` state that the bytes before the first token of the writer are unchanged.
 
 ghost use Rattle.std.specs.Prelude.{◌≡◌, ◌++◌, ◌∷◌, [], OnOk, codes, decimal, flat_map};
 ghost use Rattle.json.specs.Token.{number};
@@ -23,9 +22,6 @@ pub(crate) fn write_name(
     name: NameView<'_>,
 ) -> Result<(), AllocError>
     ensures prefix { KeepsPrefix result writer.old writer.new }
-    // `object_member name members`: a member that is an object with these members. `name_members`:
-    // the members of a name, such as `path`. `name_view_model`: a name, with the bytes that it
-    // borrows as a list.
     ensures members { OnOk result (writer.new.tokens ≡ writer.old.tokens
         ++ members_tokens
         (object_member (codes "name") (name_members (name_view_model name.entry)))) }
@@ -43,8 +39,6 @@ fn write_name_members(
     name: NameView<'_>,
 ) -> Result<(), AllocError>
     ensures prefix { KeepsPrefix result writer.old writer.new }
-    // `name_members`: the members of a name. `name_view_model`: a name, with the bytes that it
-    // borrows as a list.
     ensures members { OnOk result (writer.new.tokens ≡ writer.old.tokens
         ++ members_tokens (name_members (name_view_model name.entry))) }
 {
@@ -63,8 +57,6 @@ pub(crate) fn write_list(
     numbers: &NumbersView<'_>,
 ) -> Result<(), AllocError>
     ensures prefix { KeepsPrefix result writer.old writer.new }
-    // `numbers_member name numbers`: the member with the array. `numbers_view_model numbers`: the
-    // list of the numbers.
     ensures members { OnOk result (writer.new.tokens ≡ writer.old.tokens
         ++ members_tokens (numbers_member name.now (numbers_view_model numbers.now))) }
 {
@@ -77,7 +69,6 @@ pub(crate) fn write_list(
 /// Writes each number of a list, as an item of an array.
 fn write_items(writer: &mut Writer, numbers: &NumbersView<'_>) -> Result<(), AllocError>
     ensures prefix { KeepsPrefix result writer.old writer.new }
-    // For each number of the list (`numbers_view_model numbers`) its token.
     ensures tokens { OnOk result (writer.new.tokens ≡ writer.old.tokens
         ++ flat_map (λ n. number (decimal n) ∷ []) (numbers_view_model numbers.now)) }
 {

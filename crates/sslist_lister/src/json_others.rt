@@ -1,7 +1,6 @@
 //! Headers of replies about netlink, packet, vsock and XDP sockets in lines of JSON. If a function
 //! of this module fails, an allocation failed, and the content of the writer is not specified. The
-//! clauses `prefix` state that the bytes before the first token of the writer are unchanged. In the
-//! contracts, `members_tokens` are the tokens of members.
+//! clauses `prefix` state that the bytes before the first token of the writer are unchanged.
 
 ghost use Rattle.std.specs.Prelude.{◌≡◌, ◌++◌, OnOk, map};
 ghost use Rattle.sslist_lister.specs.JsonOthers.{netlink_header_members, other_header_members};
@@ -33,7 +32,6 @@ fn write_header(
     cookie: u64,
 ) -> Result<(), AllocError>
     ensures prefix { KeepsPrefix result writer.old writer.new }
-    // `other_header_members ..`: these members. `row.0`: the name of a row. `row.1`: its number.
     ensures members { OnOk result (writer.new.tokens ≡ writer.old.tokens
         ++ members_tokens (other_header_members netid.now state
         (map (λ row. (row.0.now, row.1)) rows.now) cookie)) }

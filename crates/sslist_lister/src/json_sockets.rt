@@ -1,7 +1,6 @@
 //! Headers of replies about UNIX, IPv4 and IPv6 sockets in lines of JSON. If a function of this
 //! module fails, an allocation failed, and the content of the writer is not specified. The clauses
-//! `prefix` state that the bytes before the first token of the writer are unchanged. In the
-//! contracts, `members_tokens` are the tokens of members.
+//! `prefix` state that the bytes before the first token of the writer are unchanged.
 
 ghost use Rattle.std.specs.Prelude.{◌≡◌, ◌++◌, OnOk};
 ghost use Rattle.sslist_lister.specs.JsonSockets.{inet_back_members, inet_front_members};

@@ -146,14 +146,8 @@ pub fn run_to_status<R: Source, W: Sink, E: Sink>(
     output: &mut W,
     errors: &mut E,
 ) -> ExitCode
-    // `outcome`: the result of the run. `is_open`: whether no write on `errors` failed.
-    // `ListingEndsReported run outcome`: the run that the record describes had this outcome. If it
-    // is `Ok`, the input is at its end, and the table was written.
-    // R.left: the bytes that are left to read, if known. W.held and E.held: the bytes written, if
-    // known.
-    // R.failed and E.failed state that a read or a write failed with an error.
-    // `ReportsText .. text is_open`: this text was written on `errors`; if `is_open` is false, a
-    // prefix of it.
+    // `outcome`: the result of the run. If it is `Ok`, the input is at its end, and the table was
+    // written. `is_open`: whether no write on `errors` failed.
     ensures { (outcome : Result Bool ListError) × (is_open : Bool)
         × ((exit_status result ≡ 0) ↔ (outcome ≡ Ok true))
         × ((exit_status result ≡ 1) ↔ ¬ (outcome ≡ Ok true))
@@ -194,10 +188,6 @@ fn report_outcome<E: Sink>(
     front: &str,
     outcome: &Result<bool, ListError>,
 )
-    // `Reports before after text`: this text was reported. `error_output ..`: the state of `errors`
-    // and `is_open`.
-    // E.held: the bytes written, if known. E.failed states that a write failed with an error.
-    // `closing_text front outcome`: the line, or nothing.
     ensures { Reports (error_output (E.held errors.old) (E.failed errors.old) is_open.old)
         (error_output (E.held errors.new) (E.failed errors.new) is_open.new)
         (closing_text front.now outcome.now) }

@@ -77,12 +77,8 @@ pub(crate) fn push_reply(
     message_type: u16,
     payload: &[u8],
 ) -> Result<Option<DecodeError>, AllocError>
-    // `payload_lines .. kind payload`: the lines of a payload of this kind. `response_kind payload
-    // message_type`: the kind of the reply (UNIX or internet), or the reason why the message is
-    // neither, such as another family.
     ensures lines { OnOk result (text.new.items ≡ text.old.items ++ payload_lines options list
         protocol (response_kind payload.now message_type) payload.now) }
-    // `payload_error kind payload`: the decode error of a payload of this kind, or None.
     ensures error { IfOk result (λ error.
         error ≡ payload_error (response_kind payload.now message_type) payload.now) }
 {
@@ -108,8 +104,6 @@ fn push_unix(
     list: u64,
     payload: &[u8],
 ) -> Result<Option<DecodeError>, AllocError>
-    // `reply_lines layout sockets lines payload`: the lines of a reply with this layout of its
-    // header: `lines` of the header and its attributes; none if the header is invalid.
     ensures lines { OnOk result (text.new.items ≡ text.old.items
         ++ reply_lines unix_response_header Unix (unix_output options list) payload.now) }
     ensures error { IfOk result (λ error. error ≡ reply_error unix_response_header payload.now) }
@@ -132,8 +126,6 @@ fn push_unix_socket(
     header: &UnixResponseHeader,
     bytes: &[u8],
 ) -> Result<Option<DecodeError>, AllocError>
-    // `unix_output ..`: what is written for the socket. `summary_of ..`: the first valid attribute
-    // of each kind, the unknown and the invalid ones, and the framing error.
     ensures lines { OnOk result (text.new.items ≡ text.old.items ++ unix_output options list
         header.now (summary_of Unix (pieces_in bytes.now))) }
     ensures error { IfOk result
@@ -157,7 +149,6 @@ fn push_unix_lines(
     header: &UnixResponseHeader,
     found: &Attributes<'_>,
 ) -> Result<(), AllocError>
-    // `socket_json list members ..`: the line of JSON, with these members of the header.
     ensures { OnOk result (text.new.items ≡ text.old.items
         ++ (if options.json
         then socket_json list (unix_header_members header.now) (collected found.now)
@@ -191,7 +182,6 @@ fn push_unix_columns(
 /// its send queue; for a listening socket these are numbers of connections. `uid` is the user id of
 /// its owner. Each is `None` if the reply does not have it.
 fn unix_cells(header: &UnixResponseHeader, queues: Option<(u32, u32)>, uid: Option<u32>) -> Cells
-    // `cells_model`: the cells, with the texts of `kind` and `state` as lists of bytes.
     ensures { cells_model result ≡ unix_first_columns header.now queues uid }
 {
     let (receive_queue, send_queue) = match queues {
@@ -210,8 +200,6 @@ fn unix_cells(header: &UnixResponseHeader, queues: Option<(u32, u32)>, uid: Opti
 
 /// Returns the name of a UNIX socket, if the reply has it.
 fn name_in<'a>(found: &Attributes<'a>) -> Option<NameView<'a>>
-    // `name_view_model`: a name, with the bytes that it borrows as a list. `unix_value kind ..`:
-    // the value of the first valid attribute of this kind, if there is one.
     ensures { option_map name_view_model result
         ≡ unix_value UNIX_DIAG_NAME (collected found.now) }
 {
@@ -224,7 +212,6 @@ fn name_in<'a>(found: &Attributes<'a>) -> Option<NameView<'a>>
 
 /// Returns the inode of the peer of a UNIX socket, if the reply has it.
 fn peer_in(found: &Attributes<'_>) -> Option<u32>
-    // `unix_value kind ..`: the value of the first valid attribute of this kind, if there is one.
     ensures { result
         ≡ unix_value UNIX_DIAG_PEER (collected found.now) }
 {
@@ -238,7 +225,6 @@ fn peer_in(found: &Attributes<'_>) -> Option<u32>
 /// Returns the lengths of the receive queue and the send queue of a UNIX socket, if the reply has
 /// them.
 fn queues_in(found: &Attributes<'_>) -> Option<(u32, u32)>
-    // `unix_value kind ..`: the value of the first valid attribute of this kind, if there is one.
     ensures { result
         ≡ unix_value UNIX_DIAG_RQLEN (collected found.now) }
 {
@@ -251,8 +237,6 @@ fn queues_in(found: &Attributes<'_>) -> Option<(u32, u32)>
 
 /// Returns the user id of the owner of a UNIX socket, if the reply has it.
 fn user_in(found: &Attributes<'_>) -> Option<u32>
-    // `user_id`: the number in the value of an attribute. `first_in kind ..`: the first valid
-    // attribute of this kind, if there is one.
     ensures { result ≡ option_and_then user_id (first_in UNIX_DIAG_UID (collected found.now)) }
 {
     parse_uid(found.first_of(UNIX_DIAG_UID)?.value())
@@ -280,9 +264,6 @@ fn push_inet(
     protocol: Option<u32>,
     payload: &[u8],
 ) -> Result<Option<DecodeError>, AllocError>
-    // `reply_lines layout sockets lines payload`: the lines of a reply with this layout of its
-    // header: `lines` of the header and its attributes; none if the header is invalid.
-    // `info_of_reply ..`: the meaning of `INET_DIAG_INFO`.
     ensures lines { OnOk result (text.new.items ≡ text.old.items
         ++ reply_lines inet_response_header
         (Inet (info_of_reply protocol (is_association_in protocol payload.now)))
@@ -316,9 +297,6 @@ fn push_inet_socket(
     socket: &InetSocket,
     bytes: &[u8],
 ) -> Result<Option<DecodeError>, AllocError>
-    // `inet_output ..`: what is written for the socket. `summary_of ..`: the first valid attribute
-    // of each kind, the unknown and the invalid ones, and the framing error. `info_of_reply ..`:
-    // the meaning of `INET_DIAG_INFO`.
     ensures lines { OnOk result (text.new.items ≡ text.old.items
         ++ inet_output options list socket.now (summary_of
         (Inet (info_of_reply socket.now.protocol socket.now.is_association))
@@ -345,7 +323,6 @@ fn push_inet_lines(
     socket: &InetSocket,
     found: &Attributes<'_>,
 ) -> Result<(), AllocError>
-    // `socket_json list members ..`: the line of JSON, with these members of the header.
     ensures { OnOk result (text.new.items ≡ text.old.items ++ (if options.json
         then socket_json list (inet_header_members socket.now) (collected found.now)
         else inet_lines options socket.now (collected found.now))) }
@@ -414,7 +391,6 @@ fn push_inet_columns(text: &mut Vec<u8>, socket: &InetSocket) -> Result<(), Allo
 
 /// Returns the first columns of an IPv4 or IPv6 socket.
 fn inet_cells(socket: &InetSocket) -> Cells
-    // `cells_model`: the cells, with the texts of `kind` and `state` as lists of bytes.
     ensures { cells_model result ≡ inet_first_columns socket.now }
 {
     let header = &socket.header;

@@ -108,15 +108,10 @@ pub fn list_packet(
     packet: &[u8],
     header: &PacketHeader,
 ) -> Result<bool, AllocError>
-    // `ListsCapturedPacket .. before after result`: the text `after` is `before` and the lines of
-    // the packet, and the result is as above. `captured_packet`: the packet with its header.
     ensures lists { IfOk result (ListsCapturedPacket options (past_requests requests.old)
         (captured_packet packet.now header.now) written.old.lines.items written.new.lines.items) }
-    // The request in the packet, if there is one, was added.
     ensures asked { OnOk result (past_requests requests.new
         ≡ requests_after_packet (past_requests requests.old) packet.now) }
-    // `DiagnosesPacket .. before after`: the text `after` is `before` and the diagnostics of the
-    // packet.
     ensures diagnosed { OnOk result (DiagnosesPacket written.old.front.now number
         (captured_packet packet.now header.now) written.old.diagnostics.items
         written.new.diagnostics.items) }
@@ -141,14 +136,10 @@ fn list_content(
     packet: &[u8],
     header: &PacketHeader,
 ) -> Result<bool, AllocError>
-    // `ListsPacket .. before after result`: the text `after` is `before` and the lines of the
-    // packet, and the result is as above. `captured_packet`: the packet with its header.
     ensures lists { IfOk result (ListsPacket options (past_requests requests.old)
         (captured_packet packet.now header.now) written.old.lines.items written.new.lines.items) }
-    // The request in the packet, if there is one, was added.
     ensures asked { OnOk result (past_requests requests.new
         ≡ requests_after_packet (past_requests requests.old) packet.now) }
-    // `DiagnosesContent .. before after`: the text `after` is `before` and the diagnostics.
     ensures diagnosed { OnOk result (DiagnosesContent written.old.front.now number is_whole
         packet.now written.old.diagnostics.items written.new.diagnostics.items) }
     ensures front { written.new.front ≡ written.old.front }
@@ -197,14 +188,10 @@ fn list_sock_diag(
     datagram: &[u8],
     header: &PacketHeader,
 ) -> Result<bool, AllocError>
-    // `ListsDatagram .. before after result`: the text `after` is `before` and the lines, and the
-    // result is as above.
     ensures lists { IfOk result (ListsDatagram options (past_requests requests.old) header.now
         datagram.now written.old.lines.items written.new.lines.items) }
-    // The request, if the datagram begins with one, was added.
     ensures asked { OnOk result (past_requests requests.new
         ≡ requests_after_datagram (past_requests requests.old) datagram.now) }
-    // `DiagnosesDatagram .. before after`: the text `after` is `before` and the diagnostics.
     ensures diagnosed { OnOk result (DiagnosesDatagram written.old.front.now number is_whole
         datagram.now written.old.diagnostics.items written.new.diagnostics.items) }
     ensures front { written.new.front ≡ written.old.front }
@@ -233,11 +220,8 @@ fn list_datagram(
     is_whole: bool,
     datagram: &[u8],
 ) -> Result<bool, AllocError>
-    // `ListsMessages .. before after result`: the text `after` is `before` and the lines, and the
-    // result is as above.
     ensures lists { IfOk result (ListsMessages options (past_requests requests.now) datagram.now
         written.old.lines.items written.new.lines.items) }
-    // `DiagnosesMessages .. before after`: the text `after` is `before` and the diagnostics.
     ensures diagnosed { OnOk result (DiagnosesMessages written.old.front.now number is_whole
         datagram.now written.old.diagnostics.items written.new.diagnostics.items) }
     ensures front { written.new.front ≡ written.old.front }
@@ -460,8 +444,6 @@ fn push_explained_diagnostic(
     message: &Message<'_>,
 ) -> Result<(), AllocError>
     ensures lines { OnOk result (written.new.lines.items ≡ written.old.lines.items) }
-    // `explained_line start diagnostic text`: the line of the diagnostic, which ends with this
-    // text. `explanation ..`: what the message explains.
     ensures diagnostics { OnOk result (written.new.diagnostics.items ≡ written.old.diagnostics.items
         ++ explained_line (line_start written.old.front.now position.packet position.message)
         diagnostic.now (explanation (message_parts message.now))) }
@@ -482,8 +464,6 @@ fn push_explained_line(
     explained: &Message<'_>,
 ) -> Result<(), AllocError>
     ensures lines { OnOk result (written.new.lines.items ≡ written.old.lines.items) }
-    // `explained_line start diagnostic text`: the line of the diagnostic, which ends with this
-    // text. `explanation ..`: what the message explains.
     ensures diagnostics { OnOk result (written.new.diagnostics.items ≡ written.old.diagnostics.items
         ++ explained_line (line_start written.old.front.now position.packet position.message)
         (Some diagnostic.now) (explanation (message_parts explained.now))) }

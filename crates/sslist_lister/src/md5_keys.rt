@@ -1,7 +1,6 @@
 //! The MD5 keys of a TCP socket (`INET_DIAG_MD5SIG`). A function of this module that appends to a
 //! text or to a writer may fail: then an allocation failed, and the content is not specified. The
-//! clauses `prefix` state that the bytes before the first token of the writer are unchanged. In the
-//! contracts, `members_tokens` and `json_tokens` are the tokens of members and of a value.
+//! clauses `prefix` state that the bytes before the first token of the writer are unchanged.
 
 ghost use Rattle.std.specs.Prelude.{◌≡◌, ◌≤◌, ◌++◌, OnOk, SomeIff, flat_map, length};
 ghost use Rattle.json.specs.Tree.{json_tokens};
@@ -31,7 +30,6 @@ pub(crate) fn has_md5_keys(value: &[u8]) -> bool
 /// Appends the keys in a value, as the table shows them.
 #[tactic(auto, unfolding(crate::specs::Md5Keys::md5_facts))]
 pub(crate) fn push_md5_keys(text: &mut Vec<u8>, value: &[u8]) -> Result<(), AllocError>
-    // `(md5_facts value).text`: what the table shows of the keys.
     ensures { OnOk result (text.new.items ≡ text.old.items ++ (md5_facts value.now).text) }
 {
     text.extend_from_slice(b" md5keys")?;
@@ -50,8 +48,7 @@ fn read_key(bytes: &[u8]) -> Option<Md5Signature>
 /// Appends a colon and the keys, separated by commas.
 #[tactic(auto, using(crate::proofs::Md5Keys::key_rules))]
 fn push_keys(text: &mut Vec<u8>, value: &[u8]) -> Result<(), AllocError>
-    // `md5_keys_text separator keys`: the keys, the first one after this separator; 58 is the
-    // colon. `md5_keys value`: the keys in the value.
+    // 58 is the colon.
     ensures { OnOk result (text.new.items ≡ text.old.items
         ++ md5_keys_text 58 (md5_keys value.now)) }
 {
@@ -121,7 +118,6 @@ pub(crate) fn write_md5_keys(
     value: &[u8],
 ) -> Result<(), AllocError>
     ensures prefix { KeepsPrefix result writer.old writer.new }
-    // `(md5_facts value).members`: the member with the keys.
     ensures members { OnOk result (writer.new.tokens ≡ writer.old.tokens
         ++ members_tokens (md5_facts value.now).members) }
 {
@@ -135,7 +131,6 @@ pub(crate) fn write_md5_keys(
 #[tactic(auto, using(crate::proofs::Md5Keys::key_rules))]
 fn write_keys(alloc: Global, writer: &mut Writer, value: &[u8]) -> Result<(), AllocError>
     ensures prefix { KeepsPrefix result writer.old writer.new }
-    // `md5_key_value key`: the object of a key. `md5_keys value`: the keys in the value.
     ensures tokens { OnOk result (writer.new.tokens ≡ writer.old.tokens
         ++ flat_map (λ key. json_tokens (md5_key_value key)) (md5_keys value.now)) }
 {

@@ -1,7 +1,9 @@
 //! Cells with the names of UNIX sockets. `utf8` is the option `--utf8`. If a function of this
 //! module fails, an allocation failed, and the content of the text is not specified. In the
 //! contracts, `name_cell utf8 name` is the text of the cell, and `name_view_model` is a name, with
-//! the bytes that it borrows as a list.
+//! the bytes that it borrows as a list. The clauses `unescapes` state that the name can be read
+//! back from the cell: `after` is the text that follows it. By the premise `after` begins with a
+//! space or is empty, so it does not continue the name.
 
 ghost use Rattle.std.specs.Prelude.{◌≡◌, ◌++◌, ◌≤◌, [], ℕ, List, OnOk, Some, drop};
 ghost use Rattle.std.specs.Prelude.{option_map, vec_len};
@@ -25,8 +27,6 @@ pub(crate) fn push_name_column(
     utf8: bool,
     name: Option<NameView<'_>>,
 ) -> Result<(), AllocError>
-    // `name_column utf8 width cell`: the cell and the spaces after it. `option_map name_view_model
-    // name.entry`: the name, or None.
     ensures { OnOk result (text.new.items ≡ text.old.items
         ++ name_column utf8 width
         (name_cell utf8 (option_map name_view_model name.entry))) }
@@ -38,7 +38,6 @@ pub(crate) fn push_name_column(
 
 /// Appends the name of a UNIX socket, or `*` for `None`.
 fn push_name(text: &mut Vec<u8>, utf8: bool, name: Option<NameView<'_>>) -> Result<(), AllocError>
-    // `option_map name_view_model name.entry`: the name, or None.
     ensures { OnOk result (text.new.items ≡ text.old.items
         ++ name_cell utf8 (option_map name_view_model name.entry)) }
 {
@@ -59,8 +58,6 @@ fn end_name_column(
     utf8: bool,
 ) -> Result<(), AllocError>
     requires { start ≤ vec_len text.old }
-    // `spaces_after utf8 width cell`: the spaces after a cell. `drop start text`: the cell, which
-    // is in the text already.
     ensures { OnOk result (text.new.items
         ≡ text.old.items ++ spaces_after utf8 width (drop start text.old.items)) }
 {
@@ -91,9 +88,6 @@ fn cell_width(utf8: bool, cell: &[u8]) -> usize
 fn push_abstract(text: &mut Vec<u8>, utf8: bool, address: &[u8]) -> Result<(), AllocError>
     ensures cell { OnOk result (text.new.items
         ≡ text.old.items ++ name_cell utf8 (Some (Abstract address.now))) }
-    // The name can be read back from the cell (`name_of_cell`). `after` is the text that follows
-    // the cell. By the premise it begins with a space or is empty, so it does not continue the
-    // name.
     ensures unescapes { (after : List ℕ) → unescaped_bytes 0 after ≡ []
         → name_of_cell (name_cell utf8 (Some (Abstract address.now)) ++ after)
         ≡ Some (Abstract address.now) }
@@ -107,9 +101,6 @@ fn push_abstract(text: &mut Vec<u8>, utf8: bool, address: &[u8]) -> Result<(), A
 fn push_path(text: &mut Vec<u8>, utf8: bool, path: &[u8]) -> Result<(), AllocError>
     ensures cell { OnOk result (text.new.items
         ≡ text.old.items ++ name_cell utf8 (Some (Pathname path.now))) }
-    // The name can be read back from the cell (`name_of_cell`). `after` is the text that follows
-    // the cell. By the premise it begins with a space or is empty, so it does not continue the
-    // name.
     ensures unescapes { (after : List ℕ) → unescaped_bytes 0 after ≡ []
         → name_of_cell (name_cell utf8 (Some (Pathname path.now)) ++ after)
         ≡ Some (Pathname path.now) }

@@ -119,11 +119,8 @@ pub(crate) fn push_other(
     number: u8,
     payload: &[u8],
 ) -> Result<Option<DecodeError>, AllocError>
-    // `family_lines options list family bytes`: the lines of a reply of this family.
-    // `family_numbered number`: the family, or `None` for an unknown one.
     ensures lines { OnOk result (text.new.items ≡ text.old.items
         ++ family_lines options list (family_numbered number) payload.now) }
-    // `family_error family bytes`: the decode error of a reply of this family, or None.
     ensures error { IfOk result
         (λ error. error ≡ family_error (family_numbered number) payload.now) }
 {
@@ -145,8 +142,6 @@ fn push_listed<H: Listed>(
     list: u64,
     payload: &[u8],
 ) -> Result<Option<DecodeError>, AllocError>
-    // `reply_lines layout sockets lines payload`: the lines of a reply with this layout of its
-    // header: `lines` of the header and its attributes; none if the header is invalid.
     ensures lines { OnOk result (text.new.items ≡ text.old.items
         ++ reply_lines H.layout (Other H.listed_family)
         (λ header summary. other_output options list (H.listed header summary)
@@ -168,9 +163,6 @@ fn push_socket<H: Listed>(
     header: &H,
     bytes: &[u8],
 ) -> Result<Option<DecodeError>, AllocError>
-    // `summary_of ..`: the first valid attribute of each kind, the unknown and the invalid ones,
-    // and the framing error. `pieces_in bytes`: each attribute, and then this error. `other_output
-    // ..`: what is written for a socket. `H.listed ..`: the values of the socket.
     ensures lines { let summary = summary_of (Other H.listed_family) (pieces_in bytes.now) in
         OnOk result (text.new.items ≡ text.old.items
         ++ other_output options list (H.listed header.now summary) (H.json_members header.now)
@@ -254,7 +246,6 @@ fn push_other_columns(
 /// Returns the first columns of a socket. The queues are in the attribute with its memory, and the
 /// user id is in an attribute too.
 fn other_cells(socket: &OtherSocket, found: &Attributes<'_>) -> Cells
-    // `cells_model`: the cells, with the texts of `kind` and `state` as lists of bytes.
     ensures { cells_model result ≡ other_first_columns socket.now (collected found.now) }
 {
     let memory = memory_kind(socket.family);
@@ -282,7 +273,6 @@ fn user_kind(family: Family) -> Option<u16>
 
 /// Appends the column of the local address.
 fn push_local(text: &mut Vec<u8>, address: Address) -> Result<(), AllocError>
-    // `column width text`: the text, padded with spaces to this width.
     ensures { OnOk result (text.new.items ≡ text.old.items
         ++ column LOCAL_WIDTH (address_text address)) }
 {

@@ -15,8 +15,6 @@ use netlink_core::{DecodeError, NlaBuffer, NlasIterator};
 pub(crate) fn next_piece<'a>(
     walk: &mut NlasIterator<'a>,
 ) -> Option<Result<NlaBuffer<'a>, DecodeError>>
-    // The result is the first attribute or error that was left in `walk`, or `None` if none was.
-    // The later ones are left.
     ensures { YieldsFirstPiece walk.old result walk.new }
 {
     walk.next()
@@ -25,8 +23,6 @@ pub(crate) fn next_piece<'a>(
 /// Returns the first attribute of this kind. Returns `None` if there is none before the end, or
 /// before bytes that are not an attribute.
 pub(crate) fn find_kind<'a>(bytes: &'a [u8], kind: u16) -> Option<NlaBuffer<'a>>
-    // `option_map buffered_attribute result`: the type and the value of the attribute, if there is
-    // one. `first_of_kind kind ..`: the first attribute of this kind, or None.
     ensures { option_map buffered_attribute result
         ≡ first_of_kind kind (pieces_in bytes.entry.now) }
 {
@@ -43,8 +39,6 @@ pub(crate) fn find_kind<'a>(bytes: &'a [u8], kind: u16) -> Option<NlaBuffer<'a>>
 /// Returns the last attribute of this kind. Returns `None` if there is none before the end, or
 /// before bytes that are not an attribute.
 pub(crate) fn find_last_of_kind<'a>(bytes: &'a [u8], kind: u16) -> Option<NlaBuffer<'a>>
-    // `option_map buffered_attribute result`: the type and the value of the attribute, if there is
-    // one. `last_of_kind kind ..`: the last attribute of this kind, or None.
     ensures { option_map buffered_attribute result
         ≡ last_of_kind kind (pieces_in bytes.entry.now) }
 {

@@ -63,7 +63,6 @@ pub(crate) fn push_request_note(
     unknown: &[u8],
     bytes: &[u8],
 ) -> Result<(), AllocError>
-    // `request_in bytes`: the request at the start of the bytes, or None.
     ensures { OnOk result (text.new.items ≡ text.old.items ++ request_note unknown.now
         (request_in bytes.now)) }
 {

@@ -203,8 +203,6 @@ fn query_of(request: &Message<'_>) -> Query
 /// if it has four bytes. Otherwise, or if there is no such attribute, returns `byte`, the protocol
 /// in the header.
 fn choose_protocol(byte: u8, attribute: Option<NlaBuffer<'_>>) -> u32
-    // `option_map buffered_attribute attribute.entry`: the type and the value of the attribute, if
-    // there is one.
     ensures { result ≡ protocol_by byte (option_map buffered_attribute attribute.entry) }
 {
     match attribute {

@@ -38,12 +38,6 @@ pub fn run<R: Source, W: Sink, E: Sink>(
     errors: &mut E,
     is_open: &mut bool,
 ) -> Result<bool, ListError>
-    // `ListingEnds run result`: the run that the record describes had this result, as stated above.
-    // R.left: the bytes that are left to read, if known. W.held and E.held: the bytes written, if
-    // known.
-    // R.failed and E.failed state that a read or a write failed with an error.
-    // `Reports before after text`: this text was reported. `error_output ..`: the state of `errors`
-    // and `is_open`.
     ensures ended { ListingEnds (record {
       options = options;
       heading = heading.now;
@@ -56,7 +50,6 @@ pub fn run<R: Source, W: Sink, E: Sink>(
       Reported = Reports (error_output (E.held errors.old) (E.failed errors.old) is_open.old)
           (error_output (E.held errors.new) (E.failed errors.new) is_open.new);
     }) result }
-    // W.flushed: the last call flushed the output.
     ensures flushed { OnOk result (W.flushed output.new) }
     // If the error of the run is a failed write (`Write`), then a write or a flush of the output
     // failed with this error (W.failed).

@@ -3,6 +3,8 @@
 //! the content of the sink is not specified. In the contracts, `AddsFacts old new facts` states
 //! that the sink shows these facts after what it showed before, and `AddsItems` states it of items.
 //! `S.content sink.old` and `S.content sink.new` are what the sink shows before and after the call.
+//! A function that returns rows has a definition of the same name, with the same rows. The
+//! definition names the fields of the struct instead of their offsets.
 
 ghost use Rattle.std.specs.Prelude.{◌≡◌, OnOk, flat_map, map, option_map};
 ghost use Rattle.sslist_lister.specs.Facts.{AddsFacts, AddsItems};
@@ -260,8 +262,6 @@ pub(crate) fn show_mptcp_info<S: FactSink>(sink: &mut S, bytes: &[u8]) -> Result
 /// Returns the rows of the first eight bytes of `struct tcp_info`.
 #[tactic(auto, unfolding(crate::specs::Tcp::tcp_state_rows))]
 fn tcp_state_rows() -> &'static [FieldRow]
-    // `field_row_of`: a row, with its texts as lists of bytes. The definition `tcp_state_rows` has
-    // the same rows. It names the fields of `struct tcp_info` instead of their offsets.
     ensures { map field_row_of result.now ≡ tcp_state_rows }
 {
     &TCP_STATE_ROWS
@@ -270,8 +270,6 @@ fn tcp_state_rows() -> &'static [FieldRow]
 /// Returns the rows of the times and metrics in `struct tcp_info`.
 #[tactic(auto, unfolding(crate::specs::Tcp::tcp_metric_rows))]
 fn tcp_metric_rows() -> &'static [FieldRow]
-    // `field_row_of`: a row, with its texts as lists of bytes. The definition `tcp_metric_rows` has
-    // the same rows. It names the fields of `struct tcp_info` instead of their offsets.
     ensures { map field_row_of result.now ≡ tcp_metric_rows }
 {
     &TCP_METRIC_ROWS
@@ -280,8 +278,6 @@ fn tcp_metric_rows() -> &'static [FieldRow]
 /// Returns the rows of the rates and counters in `struct tcp_info`.
 #[tactic(auto, unfolding(crate::specs::Tcp::tcp_rate_rows))]
 fn tcp_rate_rows() -> &'static [FieldRow]
-    // `field_row_of`: a row, with its texts as lists of bytes. The definition `tcp_rate_rows` has
-    // the same rows. It names the fields of `struct tcp_info` instead of their offsets.
     ensures { map field_row_of result.now ≡ tcp_rate_rows }
 {
     &TCP_RATE_ROWS
@@ -290,8 +286,6 @@ fn tcp_rate_rows() -> &'static [FieldRow]
 /// Returns the rows of `struct mptcp_info`.
 #[tactic(auto, unfolding(crate::specs::Tcp::mptcp_rows))]
 fn mptcp_rows() -> &'static [FieldRow]
-    // `field_row_of`: a row, with its texts as lists of bytes. The definition `mptcp_rows` has the
-    // same rows. It names the fields of `struct mptcp_info` instead of their offsets.
     ensures { map field_row_of result.now ≡ mptcp_rows }
 {
     &MPTCP_ROWS
@@ -299,8 +293,6 @@ fn mptcp_rows() -> &'static [FieldRow]
 
 /// Shows the facts of those of these rows whose number the bytes have, in the order of the rows.
 fn show_fields<S: FactSink>(sink: &mut S, bytes: &[u8], rows: &[FieldRow]) -> Result<(), AllocError>
-    // `field_facts bytes rows`: the facts of those rows whose number the bytes have.
-    // `field_row_of`: a row, with its texts as lists of bytes.
     ensures { OnOk result (AddsFacts (S.content sink.old) (S.content sink.new)
         (field_facts bytes.now (map field_row_of rows.now))) }
 {
@@ -310,8 +302,6 @@ fn show_fields<S: FactSink>(sink: &mut S, bytes: &[u8], rows: &[FieldRow]) -> Re
 /// Does what [`show_fields`] does. The contract states it of items, as the loop appends them.
 #[tactic(auto, unfolding(crate::specs::Tcp::row_facts))]
 fn show_rows<S: FactSink>(sink: &mut S, bytes: &[u8], rows: &[FieldRow]) -> Result<(), AllocError>
-    // For each row the items of its fact; none if the bytes do not have its number.
-    // `field_row_of`: the row, with its texts as lists of bytes.
     ensures { OnOk result (AddsItems (S.content sink.old) (S.content sink.new)
         (flat_map (λ row. S.items (row_facts bytes.now (field_row_of row))) rows.now)) }
 {
@@ -358,7 +348,6 @@ fn number_in(value: &[u8], offset: usize, part: FieldPart) -> Option<u64>
 /// Returns the bytes from an offset on. Returns `None` if there are fewer than `width`.
 #[inline(always)]
 fn bytes_from<'a>(value: &'a [u8], offset: usize, width: usize) -> Option<&'a [u8]>
-    // `rest.now`: the bytes that the result borrows.
     ensures { option_map (λ rest. rest.now) result ≡ bytes_from width offset value.entry.now }
 {
     match value.get(offset..) {
@@ -370,7 +359,6 @@ fn bytes_from<'a>(value: &'a [u8], offset: usize, width: usize) -> Option<&'a [u
 /// Returns the byte at an offset. Returns `None` if the value has no byte there.
 #[inline(always)]
 fn byte_at(value: &[u8], offset: usize) -> Option<u64>
-    // `field_in width offset bytes`: the number of `width` bytes at this offset.
     ensures { result ≡ field_in 1 offset value.now }
 {
     let bytes = bytes_from(value, offset, 1)?;

@@ -98,8 +98,6 @@ static SUBFLOW_ROWS: [UlpRow; 10] = [
 /// attribute. If the value has no valid name, shows nothing, and the status is the error of the
 /// name.
 pub(crate) fn show_ulp<S: FactSink>(sink: &mut S, value: &[u8]) -> Result<Status, AllocError>
-    // `AddsOutcome old new outcome`: the facts of the outcome, if it has any, were appended, and
-    // the result is its status. `ulp_outcome value`: what a value says.
     ensures { IfOk result (AddsOutcome (S.content sink.old) (S.content sink.new)
         (ulp_outcome value.now)) }
 {
@@ -115,8 +113,6 @@ pub(crate) fn show_ulp<S: FactSink>(sink: &mut S, value: &[u8]) -> Result<Status
 /// Shows the name of a protocol, and what the value has about TLS and MPTCP, as an object in JSON.
 /// The table has no text around them.
 fn show_ulp_info<S: FactSink>(sink: &mut S, name: &str, value: &[u8]) -> Result<(), AllocError>
-    // `json_group member facts`: the facts as this object in JSON. `ulp_parts ..`: the name, and
-    // the facts about TLS and MPTCP.
     ensures { OnOk result (AddsFacts (S.content sink.old) (S.content sink.new)
         (json_group (codes "ulp_info") (ulp_parts name.now value.now))) }
 {
@@ -137,9 +133,6 @@ fn show_ulp_parts<S: FactSink>(sink: &mut S, name: &str, value: &[u8]) -> Result
 
 /// Shows what TLS reports, if the value has it.
 fn show_tls<S: FactSink>(sink: &mut S, value: &[u8]) -> Result<(), AllocError>
-    // `nested_group member facts found`: `facts` of the attributes in `found`, as the object
-    // `member`; no facts for None. `nested_value kind value`: the value of the first attribute of
-    // this kind, if there is one.
     ensures { OnOk result (AddsFacts (S.content sink.old) (S.content sink.new)
         (nested_group (codes "tls") tls_facts (nested_value INET_ULP_INFO_TLS value.now))) }
 {
@@ -151,7 +144,6 @@ fn show_tls<S: FactSink>(sink: &mut S, value: &[u8]) -> Result<(), AllocError>
 
 /// Shows what TLS reports, as a group.
 fn show_tls_info<S: FactSink>(sink: &mut S, bytes: &[u8]) -> Result<(), AllocError>
-    // JSON has the object `tls` with these facts. The table has no text around them.
     ensures { OnOk result (AddsFacts (S.content sink.old) (S.content sink.new)
         (json_group (codes "tls") (tls_facts bytes.now))) }
 {
@@ -189,8 +181,6 @@ fn show_presence<S: FactSink>(
 
 /// Shows the numbers about TLS.
 fn show_tls_numbers<S: FactSink>(sink: &mut S, bytes: &[u8]) -> Result<(), AllocError>
-    // `facts_of_each (ulp_row bytes) rows`: for each row its fact, if the nested attributes have
-    // its number.
     ensures { OnOk result (AddsFacts (S.content sink.old) (S.content sink.new)
         (facts_of_each (ulp_row bytes.now) tls_rows)) }
 {
@@ -200,8 +190,6 @@ fn show_tls_numbers<S: FactSink>(sink: &mut S, bytes: &[u8]) -> Result<(), Alloc
 /// Returns the rows of the numbers about TLS.
 #[tactic(auto, unfolding(crate::specs::UlpInfo::tls_rows))]
 fn list_tls_rows() -> &'static [UlpRow]
-    // `ulp_row_of`: a row, with its texts as lists of bytes. The definition `tls_rows` has the same
-    // rows.
     ensures { map ulp_row_of result.now ≡ tls_rows }
 {
     &TLS_ROWS
@@ -209,9 +197,6 @@ fn list_tls_rows() -> &'static [UlpRow]
 
 /// Shows what MPTCP reports, if the value has it.
 fn show_subflow<S: FactSink>(sink: &mut S, value: &[u8]) -> Result<(), AllocError>
-    // `nested_group member facts found`: `facts` of the attributes in `found`, as the object
-    // `member`; no facts for None. `nested_value kind value`: the value of the first attribute of
-    // this kind, if there is one.
     ensures { OnOk result (AddsFacts (S.content sink.old) (S.content sink.new)
         (nested_group (codes "mptcp") subflow_facts (nested_value INET_ULP_INFO_MPTCP value.now))) }
 {
@@ -223,7 +208,6 @@ fn show_subflow<S: FactSink>(sink: &mut S, value: &[u8]) -> Result<(), AllocErro
 
 /// Shows what MPTCP reports, as a group.
 fn show_subflow_info<S: FactSink>(sink: &mut S, bytes: &[u8]) -> Result<(), AllocError>
-    // JSON has the object `mptcp` with these facts. The table has no text around them.
     ensures { OnOk result (AddsFacts (S.content sink.old) (S.content sink.new)
         (json_group (codes "mptcp") (subflow_facts bytes.now))) }
 {
@@ -245,8 +229,6 @@ fn show_subflow_parts<S: FactSink>(sink: &mut S, bytes: &[u8]) -> Result<(), All
 
 /// Shows the numbers of a subflow.
 fn show_subflow_numbers<S: FactSink>(sink: &mut S, bytes: &[u8]) -> Result<(), AllocError>
-    // `facts_of_each (ulp_row bytes) rows`: for each row its fact, if the nested attributes have
-    // its number.
     ensures { OnOk result (AddsFacts (S.content sink.old) (S.content sink.new)
         (facts_of_each (ulp_row bytes.now) subflow_rows)) }
 {
@@ -256,8 +238,6 @@ fn show_subflow_numbers<S: FactSink>(sink: &mut S, bytes: &[u8]) -> Result<(), A
 /// Returns the rows of the numbers of a subflow.
 #[tactic(auto, unfolding(crate::specs::UlpInfo::subflow_rows))]
 fn list_subflow_rows() -> &'static [UlpRow]
-    // `ulp_row_of`: a row, with its texts as lists of bytes. The definition `subflow_rows` has the
-    // same rows.
     ensures { map ulp_row_of result.now ≡ subflow_rows }
 {
     &SUBFLOW_ROWS
@@ -307,8 +287,6 @@ fn show_four<S: FactSink>(
 /// Shows the number of each row, if the nested attributes have its field. The contract states this
 /// of items, as the loop appends them.
 fn show_rows<S: FactSink>(sink: &mut S, bytes: &[u8], rows: &[UlpRow]) -> Result<(), AllocError>
-    // For each row the items of its fact; none if the nested attributes do not have its field.
-    // `ulp_row_of`: the row, with its texts as lists of bytes.
     ensures { OnOk result (AddsItems (S.content sink.old) (S.content sink.new)
         (flat_map (λ row. S.items (ulp_row bytes.now (ulp_row_of row))) rows.now)) }
 {
@@ -329,8 +307,6 @@ fn show_row<S: FactSink>(
     member: Option<&str>,
     field: UlpField,
 ) -> Result<(), AllocError>
-    // The tuple is the row. `option_map (λ m. m.now) member.entry`: the bytes of `member`, if there
-    // is one.
     ensures { OnOk result (AddsFacts (S.content sink.old) (S.content sink.new)
         (ulp_row bytes.now (format, text.now, option_map (λ m. m.now) member.entry, field))) }
 {
@@ -359,7 +335,6 @@ fn number_of(bytes: &[u8], field: UlpField) -> Option<u64>
 /// Returns the name of the protocol in a value, without its terminating NUL if it has one. Fails if
 /// there is no name, or if it is not valid UTF-8.
 fn name_of_protocol<'a>(value: &'a [u8]) -> Result<&'a str, DecodeError>
-    // `map_ok (λ name. name.now) result`: the bytes of the name, or the same error.
     ensures { map_ok (λ name. name.now) result ≡ ulp_name value.entry.now }
 {
     match find_value(value, INET_ULP_INFO_NAME) {
@@ -384,7 +359,6 @@ pub(crate) fn find_number(bytes: &[u8], kind: u16, width: usize) -> Option<u64>
 
 /// Returns the value of the first attribute of this kind in the bytes, if there is one.
 pub(crate) fn find_value<'a>(bytes: &'a [u8], kind: u16) -> Option<&'a [u8]>
-    // `value.now`: the bytes that the result borrows.
     ensures { option_map (λ value. value.now) result ≡ nested_value kind bytes.entry.now }
 {
     match find_kind(bytes, kind) {

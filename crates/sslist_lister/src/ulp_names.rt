@@ -10,7 +10,6 @@ use std::alloc::AllocError;
 /// Returns the name of a version of TLS, if it is known: `TLS_1_2_VERSION` or `TLS_1_3_VERSION` of
 /// linux/tls.h.
 pub(crate) fn name_of_version(number: u64) -> Option<&'static [u8]>
-    // `name.now`: the bytes of the name.
     ensures { option_map (λ name. name.now) result ≡ tls_version_name number }
 {
     match number {
@@ -23,7 +22,6 @@ pub(crate) fn name_of_version(number: u64) -> Option<&'static [u8]>
 /// Returns the name of a cipher of TLS, if ss(8) has one: `TLS_CIPHER_AES_GCM_128` and
 /// `TLS_CIPHER_AES_GCM_256` of linux/tls.h.
 pub(crate) fn name_of_cipher(number: u64) -> Option<&'static [u8]>
-    // `name.now`: the bytes of the name.
     ensures { option_map (λ name. name.now) result ≡ tls_cipher_name number }
 {
     match number {
@@ -37,7 +35,6 @@ pub(crate) fn name_of_cipher(number: u64) -> Option<&'static [u8]>
 /// the kernel), `TLS_CONF_SW`, `TLS_CONF_HW` or `TLS_CONF_HW_RECORD` (in hardware that also makes
 /// the records) of linux/tls.h.
 pub(crate) fn name_of_mode(number: u64) -> Option<&'static [u8]>
-    // `name.now`: the bytes of the name.
     ensures { option_map (λ name. name.now) result ≡ tls_mode_name number }
 {
     match number {
@@ -75,7 +72,6 @@ pub(crate) fn push_flag_letters(text: &mut Vec<u8>, flags: u64) -> Result<(), Al
 
 /// Appends the letter of each of these bits that is set in a number.
 fn push_letters(text: &mut Vec<u8>, number: u64, rows: &[(u64, u8)]) -> Result<(), AllocError>
-    // `flag_letter number row`: the letter `row.1` if the number has the bit `row.0`.
     ensures { OnOk result (text.new.items ≡ text.old.items
         ++ flat_map (flag_letter number) rows.now) }
 {

@@ -192,7 +192,6 @@ fn flag_argument(argument: &[u8]) -> Option<Argument>
 
 /// Returns the value in the first row with this name, or `None` if there is none.
 fn value_of<T: Copy>(rows: &[(&str, T)], name: &[u8]) -> Option<T>
-    // `named_row`: a row, with its name as a list of bytes.
     ensures { result ≡ value_of (map named_row rows.now) name.now }
 {
     for &(other, value) in rows {

@@ -54,7 +54,6 @@ pub enum Choice<'a> {
 /// are listed with the options of all arguments; but if the last one is letters that end in `f`,
 /// the name of a family is missing. Names of files are not considered.
 pub fn choose(arguments: &[String]) -> Choice<'_>
-    // `IsChoice arguments choice`: the arguments, as lists of bytes, request `choice`.
     ensures { IsChoice (map string_bytes arguments.entry.now) result }
 {
     let mut options = Options::default();

@@ -18,8 +18,6 @@ pub trait ListCapture {
     /// Lists the capture in the file of this name, or the one on standard input if there is no name
     /// (`None`). Returns the exit status.
     fn list_capture(&mut self, name: Option<&str>) -> ExitCode
-        // `AddsListing listed listed' one`: the capture `one` was listed after those that were
-        // listed before. `file.now`: the bytes of the name.
         ensures { AddsListing (listed self.old) (listed self.new) (record {
           name = option_map (λ file. file.now) name.entry;
           status = exit_status result;
@@ -30,10 +28,7 @@ pub trait ListCapture {
 /// if they name none. The name `-` is standard input. Returns the last status that is not 0, or
 /// else 0. `lister` must not have listed a capture before.
 pub fn list_captures<L: ListCapture>(arguments: &[String], lister: &mut L) -> ExitCode
-    // No capture (`[]`) was listed before.
     requires { L.listed lister.old [] }
-    // `ListsAll listed arguments status`: all captures that the arguments name were listed, in
-    // order, and `status` is the last of their statuses that is not 0, or else 0.
     ensures { ListsAll (L.listed lister.new) (map string_bytes arguments.now) (exit_status result) }
 {
     let mut status = ExitCode::SUCCESS;
@@ -57,7 +52,6 @@ pub fn list_captures<L: ListCapture>(arguments: &[String], lister: &mut L) -> Ex
 
 /// Returns whether the arguments name more than one capture.
 pub fn names_several(arguments: &[String]) -> bool
-    // `captures_in`: the captures that the arguments, as lists of bytes (`string_bytes`), name.
     ensures { IsTrue result ↔ (1 < length (captures_in (map string_bytes arguments.now))) }
 {
     let mut has_one = false;
@@ -77,7 +71,6 @@ pub fn names_several(arguments: &[String]) -> bool
 
 /// Returns the name of the file, or `None` for `-`, which is standard input.
 fn capture_named(name: &str) -> Option<&str>
-    // `file.now`: the bytes of the name.
     ensures { option_map (λ file. file.now) result ≡ capture_named name.entry.now }
 {
     if name == "-" { None } else { Some(name) }

@@ -79,7 +79,6 @@ pub(crate) fn push_hex(text: &mut Vec<u8>, number: u64) -> Result<(), AllocError
 /// and one more space. A longer column is not cut. `start` must be at most the length of the text.
 pub(crate) fn end_column(text: &mut Vec<u8>, start: usize, width: usize) -> Result<(), AllocError>
     requires { start ≤ vec_len text.old }
-    // `column_padding width used`: the spaces after the `used` bytes that the column has already.
     ensures { OnOk result (text.new.items
         ≡ text.old.items ++ column_padding width (vec_len text.old - start)) }
 {
@@ -142,7 +141,6 @@ pub struct Cells {
 /// Appends the columns before the two addresses, each as by [`push_column`]: Netid, State, and
 /// Recv-Q, Send-Q, Inode and Uid in decimal, or `-` for `None`.
 pub(crate) fn push_first_columns(text: &mut Vec<u8>, cells: &Cells) -> Result<(), AllocError>
-    // `cells_model`: the cells, with the texts of `kind` and `state` as lists of bytes.
     ensures { OnOk result (text.new.items ≡ text.old.items
         ++ first_columns (cells_model cells.now)) }
 {

@@ -43,7 +43,6 @@ pub(crate) fn write_text(writer: &mut Writer, name: &str, text: &str) -> Result<
 /// Writes members whose values are numbers: a name and a number for each row.
 pub(crate) fn write_numbers(writer: &mut Writer, rows: &[(&str, u64)]) -> Result<(), AllocError>
     ensures prefix { KeepsPrefix result writer.old writer.new }
-    // `number_members`: a member for each row, with the name `row.0` and the number `row.1`.
     ensures members { OnOk result (writer.new.tokens ≡ writer.old.tokens
         ++ members_tokens (number_members (map (λ row. (row.0.now, row.1)) rows.now))) }
 {
@@ -53,7 +52,6 @@ pub(crate) fn write_numbers(writer: &mut Writer, rows: &[(&str, u64)]) -> Result
 /// Writes the tokens of each row: a name and a number.
 fn write_rows(writer: &mut Writer, rows: &[(&str, u64)]) -> Result<(), AllocError>
     ensures prefix { KeepsPrefix result writer.old writer.new }
-    // For each row, the token of its name `row.0`, and that of its number `row.1` in decimal.
     ensures tokens { OnOk result (writer.new.tokens ≡ writer.old.tokens
         ++ flat_map (λ row. key row.0.now ∷ number (decimal row.1) ∷ []) rows.now) }
 {

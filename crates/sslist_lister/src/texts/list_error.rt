@@ -1,4 +1,7 @@
-//! The error of a run over a capture, and the steps that read its header and its packets.
+//! The error of a run over a capture, and the steps that read its header and its packets. In the
+//! contracts of the steps, `bytes` are the bytes that were read. If a step fails, `error` is the
+//! reason, and `part` are the bytes that were read until then: the reason is in these bytes, or the
+//! input ends after them, or a read failed.
 
 ghost use Rattle.std.specs.Prelude.{◌≡◌, ◌↔◌, ◌++◌, List, ℕ, IfErr, IfOk, IsTrue, MatchOption};
 ghost use Rattle.std.specs.Prelude.{Some};
@@ -39,9 +42,6 @@ pub enum ListError {
 impl ListError {
     /// Returns the text of the error, without the number of the packet.
     pub(crate) fn text(&self) -> ErrorText
-        // `packet_number_prefix`: `packet N: ` if the error is about a packet, or else nothing.
-        // With the bytes of the result after it (`error_text_bytes`), it is the text of the error
-        // (`list_error_text`).
         ensures { packet_number_prefix self.now ++ error_text_bytes result
             ≡ list_error_text self.now }
     {
@@ -90,7 +90,6 @@ impl fmt::Display for ListError {
 impl Error for ListError {}
 
 impl From<WriteError> for ListError {
-    // `e`: the result.
     ghost from_gives = { λ error e. e ≡ Write error };
 
     fn from(error: WriteError) -> ListError {
@@ -99,7 +98,6 @@ impl From<WriteError> for ListError {
 }
 
 impl From<AllocError> for ListError {
-    // `e`: the result.
     ghost from_gives = { λ _ e. e ≡ Memory };
 
     fn from(_e: AllocError) -> ListError {
@@ -113,14 +111,9 @@ pub(crate) fn read_header<R: Source>(
     alloc: Global,
     input: &mut R,
 ) -> Result<CaptureReader, ListError>
-    // `bytes`: the bytes that were read. A capture starts with them (`IsCaptureStart`), and
-    // `state_of reader` is the state of the reader after them. `Consumes left left' bytes`: they
-    // were read from the input, whose remaining bytes are `R.left`, if known.
+    // A capture starts with `bytes`, and the reader has the state after them.
     ensures read { IfOk result (λ reader. (bytes : List ℕ) × IsCaptureStart bytes (state_of reader)
         × Consumes (R.left input.old) (R.left input.new) bytes) }
-    // `error`: why no capture was opened. `part`: the bytes that were read until then.
-    // `IsCaptureStartStop`: the reason is in these bytes, or the input ends after them, or a read
-    // failed (`R.failed`).
     ensures stopped { IfErr result (λ e. (error : CaptureError) × (e ≡ ListError.Header error)
         × (part : List ℕ)
         × Consumes (R.left input.old) (R.left input.new) part
@@ -141,19 +134,14 @@ pub(crate) fn read_packet<R: Source>(
     number: u64,
     packet: &mut Vec<u8>,
 ) -> Result<Option<PacketHeader>, ListError>
-    // `bytes`: the bytes that were read from the input (`Consumes`), whose remaining bytes are
-    // `R.left`, if known. If no packet was found, they were the last ones (`IsAtEnd`), and have no
-    // packet (`IsCaptureEnd`). Else they lead the reader to its new state (`state_of`) over one
-    // packet (`ReadsPacket`), with the bytes in `packet` and this header.
+    // If no packet was found, `bytes` are the last ones, and have no packet. Else they lead the
+    // reader to its new state over one packet, with the bytes in `packet` and this header.
     ensures read { IfOk result (λ found. (bytes : List ℕ)
         × Consumes (R.left input.old) (R.left input.new) bytes
         × MatchOption found
         (IsAtEnd (R.left input.new) × IsCaptureEnd (state_of reader.old) bytes)
         (λ header. ReadsPacket (state_of reader.old) bytes
         (captured_packet packet.new.items header) (state_of reader.new))) }
-    // `error`: why no packet was read. `part`: the bytes that were read until then.
-    // `IsCaptureStop`: the reason is in these bytes, or the input ends after them, or a read failed
-    // (`R.failed`).
     ensures stopped { IfErr result (λ e. (error : CaptureError)
         × (e ≡ ListError.Packet number error) × (part : List ℕ)
         × Consumes (R.left input.old) (R.left input.new) part

@@ -36,7 +36,6 @@ pub(crate) fn push_shown(text: &mut Vec<u8>, utf8: bool, bytes: &[u8]) -> Result
     ensures unescapes { (later : List ℕ)
         → (unescaped_bytes 0 (shown_name utf8 bytes.now ++ later)
         ≡ bytes.now ++ unescaped_bytes 0 later) }
-    // What is shown has neither a space nor a character that controls a terminal.
     ensures visible { IsVisibleText (shown_name utf8 bytes.now) }
 {
     if !utf8 {

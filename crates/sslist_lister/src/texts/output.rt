@@ -30,7 +30,6 @@ pub(crate) fn push_truncation(
 ) -> Result<bool, AllocError>
     ensures whole { IfOk result (λ is_whole. IsTrue is_whole ↔ (whole_length ≤ length packet.now)) }
     ensures lines { OnOk result (written.new.lines.items ≡ written.old.lines.items) }
-    // `truncation_line`: the line, or nothing if the packet was not truncated.
     ensures diagnostics { OnOk result (written.new.diagnostics.items ≡ written.old.diagnostics.items
         ++ truncation_line written.old.front.now number (length packet.now) whole_length) }
     ensures front { written.new.front ≡ written.old.front }
@@ -51,7 +50,6 @@ fn push_truncation_line(
     whole_length: u32,
 ) -> Result<(), AllocError>
     ensures lines { OnOk result (written.new.lines.items ≡ written.old.lines.items) }
-    // `packet_line`: the line about this packet with the text `truncation_text`.
     ensures diagnostics { OnOk result (written.new.diagnostics.items ≡ written.old.diagnostics.items
         ++ packet_line written.old.front.now number (truncation_text length whole_length)) }
     ensures front { written.new.front ≡ written.old.front }

@@ -19,7 +19,6 @@ use program_streams::{ErrorText, Sink, hex_digits, send};
 /// Writes a text on `errors` if `is_open` is set. If a write fails, clears `is_open`, so that
 /// nothing more is written there. Then a prefix of the text was written.
 pub(crate) fn report<E: Sink>(errors: &mut E, is_open: &mut bool, text: &[u8])
-    // If some texts were reported before the call, these texts and `text` are reported after it.
     ensures { Reports (error_output (E.held errors.old) (E.failed errors.old) is_open.old)
         (error_output (E.held errors.new) (E.failed errors.new) is_open.new) text.now }
 {
@@ -39,7 +38,6 @@ pub(crate) fn report_failure<E: Sink>(
     front: &str,
     failure: &ListError,
 )
-    // `closing_line front failure`: the line, or nothing for a closed output pipe.
     ensures { Reports (error_output (E.held errors.old) (E.failed errors.old) is_open.old)
         (error_output (E.held errors.new) (E.failed errors.new) is_open.new)
         (closing_line front.now failure.now) }
@@ -118,7 +116,6 @@ fn report_number<E: Sink>(errors: &mut E, is_open: &mut bool, number: u64)
 
 /// Writes a number in eight hexadecimal digits, by [`report`].
 fn report_hex<E: Sink>(errors: &mut E, is_open: &mut bool, number: u32)
-    // The four bytes of the number, big-endian, in lowercase digits.
     ensures { Reports (error_output (E.held errors.old) (E.failed errors.old) is_open.old)
         (error_output (E.held errors.new) (E.failed errors.new) is_open.new)
         (encode_lower (big_bytes 4 number)) }

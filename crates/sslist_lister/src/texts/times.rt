@@ -41,8 +41,6 @@ fn nanoseconds(header: &PacketHeader) -> u64
 
 /// Returns the text of the time that is this number of nanoseconds after the start of 1970, UTC.
 fn utc_text(nanoseconds: u64) -> ArrayString<33>
-    // `utc_text`: the text, computed from days and seconds. `IsUtcText`: it is also the text that
-    // jiff defines for this instant.
     ensures text { result.bytes ≡ utc_text nanoseconds }
     ensures iso { IsUtcText nanoseconds result.bytes }
 {
