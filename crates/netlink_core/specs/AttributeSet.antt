@@ -37,7 +37,8 @@ AttributeValue (spec ∷ others) = spec.value.Value ⊎ AttributeValue others
 
 -- `decode_attribute set a`: decodes the attribute `a` by the first type of its kind, or returns the
 -- error of its value; an attribute whose kind is not in the set decodes to itself; the two flag
--- bits are not considered
+-- bits are not considered. The empty set `[]` has no kind, so every value is accepted, and only the
+-- framing of attributes can be invalid.
 abbrev pub decode_attribute : (set : AttributeSet) → Attribute
     → Result (AttributeValue set) DecodeError
 decode_attribute [] a = Ok a

@@ -276,7 +276,6 @@ pub fn padded_messages_are_complete()
         → 16 ≤ length message → message_length_in message ≡ length message → IsCompleteSplit later
         → IsCompleteSplit
         ((message ++ replicate (padding_length (length message)) 0) ∷ later) }
-    // `AreSplitsOfSameBytes datagrams others`: both are such splits of the same bytes.
     ensures whole { (datagrams : List (List ℕ)) → IsCompleteSplit datagrams
         → AreSplitsOfSameBytes datagrams (concat datagrams ∷ []) }
     ensures example { (message : List ℕ)
@@ -290,7 +289,6 @@ pub fn padded_messages_are_complete()
 /// (`reader`) and for a `LossyDump` (`lossy`). So the laws about lists with the same items are
 /// about different splits, too.
 pub fn splits_have_same_items()
-    // `AreSplitsOfSameBytes datagrams others`: both are such splits of the same bytes.
     // `HaveSameItems item_is datagrams others`: the items of all datagrams of a list, concatenated
     // in order, are the same for both lists.
     ensures reader { (datagrams others : List (List ℕ)) → AreSplitsOfSameBytes datagrams others

@@ -234,8 +234,6 @@ impl Wire for SockDiagMessage {
         }
     }
 
-    // `Emitable` defines `bytes`, `writable` and `in_range` by the codec, so the three hold by
-    // definition.
     ghost bytes_by_codec = { λ v. refl };
 
     ghost writable_by_codec = { λ v. (λ h. h, λ h. h) };

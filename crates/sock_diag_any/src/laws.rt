@@ -28,7 +28,6 @@ pub fn equal_raw_reply_views<H: FamilyHeader>(
     left: &RawReplyView<'_, H>,
     right: &RawReplyView<'_, H>,
 ) -> bool
-    // `view_model`: the header, and the raw attributes in order.
     ensures { IsTrue result ↔ (view_model left.now ≡ view_model right.now) }
 {
     left == right
@@ -40,7 +39,6 @@ pub fn equal_raw_reply_views<H: FamilyHeader>(
 /// their type fields and bytes for the other families.
 #[tactic(auto, using(crate::proofs::EqualAny::any_equal))]
 pub fn equal_any_views(left: &AnySockDiagView<'_>, right: &AnySockDiagView<'_>) -> bool
-    // `any_view_model`: the family, and the header and the attributes of the reply.
     ensures { IsTrue result ↔ (any_view_model left.now ≡ any_view_model right.now) }
 {
     left == right
@@ -51,7 +49,6 @@ pub fn equal_any_views(left: &AnySockDiagView<'_>, right: &AnySockDiagView<'_>) 
 pub fn copied_raw_reply_view<'a, H: FamilyHeader>(
     view: &RawReplyView<'a, H>,
 ) -> Result<RawReplyView<'a, H>, AllocError>
-    // `view_model`: the header, and the raw attributes in order.
     ensures ok { IsOk result }
     ensures same { IfOk result (λ copy. view_model copy ≡ view_model view.now) }
 {
@@ -61,7 +58,6 @@ pub fn copied_raw_reply_view<'a, H: FamilyHeader>(
 /// Copies a borrowed reply of any family by `clone`, which never fails and returns a reply of the
 /// same family with the same header and the same attributes.
 pub fn copied_any_view<'a>(view: &AnySockDiagView<'a>) -> Result<AnySockDiagView<'a>, AllocError>
-    // `any_view_model`: the family, and the header and the attributes of the reply.
     ensures ok { IsOk result }
     ensures same { IfOk result (λ copy. any_view_model copy ≡ any_view_model view.now) }
 {

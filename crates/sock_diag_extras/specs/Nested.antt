@@ -8,8 +8,7 @@ use Rattle.attribute_lists.specs.AttributesIn.{decoded_in}
 use Rattle.sock_diag_families.specs.AttributeGetters.{first_value_of_kind, parse_if_present}
 
 -- `attributes_in bytes`: the attributes that the bytes consist of, in order. Only meaningful for
--- bytes without a framing error. `decode_attribute []`: no attribute type is known, so that each
--- attribute decodes as itself.
+-- bytes without a framing error.
 abbrev pub attributes_in : List ℕ → List Attribute
 attributes_in = decoded_in (decode_attribute [])
 

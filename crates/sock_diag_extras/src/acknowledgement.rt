@@ -135,8 +135,6 @@ impl<'a> AckView<'a> {
     /// Returns the attributes `NLMSGERR_ATTR_..`, or their first framing error.
     pub fn attributes(&self) -> Result<AckAttributes<'a>, DecodeError>
         ensures kept { IfOk result (λ parsed. nested_bytes parsed.0 ≡ ack_attributes self.now) }
-        // `decode_attribute []` knows no attribute type, so every value is accepted, and only the
-        // framing can be invalid.
         ensures error { IfErr result (HasAttributeError (decode_attribute [])
             (ack_attributes self.now)) }
     {

@@ -1,6 +1,5 @@
 //! Attributes that are nested in the value of another attribute or follow a header, with getters by
-//! kind. `decode_attribute []` in the contracts knows no attribute type, so every value is
-//! accepted, and only the framing can be invalid.
+//! kind.
 
 ghost use Rattle.std.specs.Prelude.{◌≡◌, ◌≤◌, ℕ, List, [], IfErr, IfOk, Some, option_copied};
 ghost use Rattle.std.specs.Prelude.{option_map};

@@ -28,8 +28,6 @@ impl<'a> BpfStorage<'a> {
             (attribute_kind (buffered_attribute nla.now) ≢ SK_DIAG_BPF_STORAGE)
             (λ storage. (attribute_kind (buffered_attribute nla.now) ≡ SK_DIAG_BPF_STORAGE)
             × (nested_bytes storage.0 ≡ (buffered_attribute nla.now).value))) }
-        // `decode_attribute []` knows no attribute type, so every value is accepted, and only the
-        // framing can be invalid.
         ensures error { IfErr result (λ e.
             (attribute_kind (buffered_attribute nla.now) ≡ SK_DIAG_BPF_STORAGE)
             × HasAttributeError (decode_attribute []) (buffered_attribute nla.now).value e) }

@@ -1,6 +1,4 @@
-//! The upper layer protocol of a TCP connection: INET_DIAG_ULP_INFO. `decode_attribute []` in the
-//! contracts knows no attribute type, so every value is accepted, and only the framing can be
-//! invalid.
+//! The upper layer protocol of a TCP connection: INET_DIAG_ULP_INFO.
 
 ghost use Rattle.std.specs.Prelude.{◌≡◌, ◌↔◌, ℕ, List, [], IfErr, IfOk, IsSome, IsTrue, Some};
 ghost use Rattle.std.specs.Prelude.{option_copied, option_map};

@@ -39,7 +39,7 @@ decode_request_attribute a =
     then map_ok protocol_content (number_of_width None 4 a.value)
     else Ok other_content
 
--- The content of a `RequestAttribute`.
+-- The content of a `RequestAttribute`: the bytes of a program, or a protocol.
 abbrev pub request_attribute_content : RequestAttribute → RequestContent
 request_attribute_content (Program program) = program_content program.now
 request_attribute_content (Protocol protocol) = protocol_content protocol

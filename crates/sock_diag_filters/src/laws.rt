@@ -165,7 +165,6 @@ pub fn equal_request_attributes(
     attribute: &RequestAttribute<'_>,
     other: &RequestAttribute<'_>,
 ) -> bool
-    // `request_attribute_content`: a program as a list of bytes, or a protocol.
     ensures { IsTrue result
         ↔ (request_attribute_content attribute.now ≡ request_attribute_content other.now) }
 {
@@ -178,7 +177,6 @@ pub fn copied_request_attribute<'a>(
     attribute: &RequestAttribute<'a>,
 ) -> Result<RequestAttribute<'a>, AllocError>
     ensures ok { IsOk result }
-    // `request_attribute_content`: a program as a list of bytes, or a protocol.
     ensures same { IfOk result (λ copy. request_attribute_content copy
         ≡ request_attribute_content attribute.now) }
 {

@@ -305,8 +305,6 @@ impl<H: ReplyOwned> Wire for Reply<H, H::Nla> {
         Ok(write_reply(alloc, &header, attributes, len)?)
     }
 
-    // `Emitable` defines `bytes`, `writable` and `in_range` by the codec, so the three hold by
-    // definition.
     ghost bytes_by_codec = { λ _. refl };
 
     ghost writable_by_codec = { λ _. (λ h. h, λ h. h) };
