@@ -15,7 +15,7 @@ use Rattle.netlink_core.specs.NetlinkMessage.{Payload}
 use Rattle.netlink_core.specs.Items.{IsItemOf, AreItemsOf}
 use Rattle.netlink_core.proofs.Items.{FoundItemsSoFar, error_is_only_item, items_of}
 use Rattle.netlink_core.proofs.Items.{items_with_next, next_item_found, no_items, no_items_yet}
-use Rattle.netlink_core.proofs.Items.{one_list, zip_append}
+use Rattle.netlink_core.proofs.Items.{one_list, one_result_of_message, zip_append}
 use Rattle.netlink_packet_sock_diag.specs.declared.dump.DumpState.{DumpState}
 use Rattle.netlink_packet_sock_diag.specs.declared.dump.DumpState.TheVariants.{Reading, Done, Error}
 use Rattle.netlink_packet_sock_diag.specs.declared.dump.DumpState.TheVariants.{Overrun, Failed}
@@ -38,11 +38,8 @@ use Rattle.sock_diag_lines.specs.private.ReadDump.{AnswersDump, FeedsOneDatagram
 use Rattle.sock_diag_lines.specs.private.ReadDump.{IsReadDump}
 use Rattle.sock_diag_lines.specs.private.ReadDump.{shown_end, state_or_error, texts_in}
 use Rattle.sock_diag_lines.proofs.Deciding.{each_or_not, message_fits_or_not}
-use Rattle.sock_diag_lines.proofs.MessageLaws.{netlink_message_answer_laws}
 use Rattle.sock_diag_lines.proofs.FieldLaws.{IsBytes-field}
-use Rattle.sock_diag_lines.specs.Answer.{name_entry}
-use Rattle.sock_diag_lines.specs.declared.answers.Name.TheVariants.{NetlinkMessage}
-use Rattle.sock_diag_lines.proofs.AnswerTexts.{bytes_have_one_value, one_answer_to_value}
+use Rattle.sock_diag_lines.proofs.AnswerTexts.{one_answer_to_value}
 use Rattle.sock_diag_lines.proofs.AnswerTexts.{value_has_answer}
 
 -- each datagram has items
@@ -54,9 +51,7 @@ each_datagram_has_items = items_of message_codec message_laws.is_total
 -- each datagram has at most one list of items
 one_items : (b : List ℕ) → IsBytes b → (xs ys : List (Result (Payload Message) DecodeError))
     → AreItemsOf (IsItemOf message_codec) b xs → AreItemsOf (IsItemOf message_codec) b ys → xs ≡ ys
-one_items = one_list message_codec
-    (bytes_have_one_value (name_entry NetlinkMessage).1 netlink_message_answer_laws)
-    netlink_message_answer_laws.is_exclusive netlink_message_answer_laws.error_is_unique
+one_items = one_list message_codec (one_result_of_message message_codec message_laws)
 
 -- datagrams have at most one dump
 one_dump_outcome : (datagrams : List (List ℕ)) → AllByRecursion IsBytes datagrams
