@@ -66,6 +66,13 @@ class Source:
                     return at
         raise SyntaxError(f"line {self.line(index)}: the bracket is not closed")
 
+    def before_attributes(self, index):
+        """Returns the index of the first attribute of an item, or the index without any."""
+        while self.at(index - 1, "]"):
+            hashes = (it for it in range(index, -1, -1) if self.at(it, "#", "["))
+            index = next(it for it in hashes if self.closing(it + 1) == index - 1)
+        return index
+
     def end_of_item(self, index, ends):
         """Returns the index of the first of these tokens outside brackets, or that of the last token
         before a bracket that closes what contains the item."""

@@ -2,9 +2,8 @@
 //! more is not.
 #![cfg(not(feature = "alloc"))]
 
-use sockdiag_erased::kit::std::alloc::Global;
-use sockdiag_erased::netlink_core::{DecodeError, Parseable};
-use sockdiag_erased::netlink_packet_sock_diag::unix::UnixResponse;
+use sockdiag::unix::UnixResponse;
+use sockdiag::{DecodeError, Parseable};
 
 /// The header of a reply about a listening UNIX socket.
 const HEADER: [u8; 16] = [1, 1, 10, 0, 14, 79, 0, 0, 160, 2, 0, 0, 0, 0, 0, 0];
@@ -15,7 +14,7 @@ const SHUTDOWN: [u8; 8] = [5, 0, 6, 0, 2, 0, 0, 0];
 /// Returns how many attributes the reply with this number of attributes is parsed to.
 fn parsed(count: usize) -> Result<usize, DecodeError> {
     let bytes = [&HEADER[..], &SHUTDOWN.repeat(count)].concat();
-    UnixResponse::parse(Global, bytes.as_slice()).map(|reply| reply.nlas.len())
+    UnixResponse::parse(bytes.as_slice()).map(|reply| reply.nlas.len())
 }
 
 #[test]

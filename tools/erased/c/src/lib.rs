@@ -1,8 +1,8 @@
-//! The C library: the functions of `sockdiag_erased`, and what a library without `std` needs. It
+//! The C library: the functions of `sockdiag`, and what a library without `std` needs. It
 //! does not allocate.
 #![no_std]
 
-extern crate sockdiag_erased;
+extern crate sockdiag;
 
 #[link(name = "c")]
 extern "C" {

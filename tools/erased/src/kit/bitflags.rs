@@ -1,6 +1,6 @@
 //! Sets of named bits, as in the crate bitflags.
 
-use core::ops::{BitAnd, BitOr, Not};
+use core::ops::{BitAnd, BitOr, BitXor, Not};
 
 /// A named set of bits.
 pub struct Flag<F> {
@@ -15,6 +15,7 @@ pub trait Flags: Sized + 'static {
         + Default
         + BitAnd<Output = Self::Bits>
         + BitOr<Output = Self::Bits>
+        + BitXor<Output = Self::Bits>
         + Not<Output = Self::Bits>;
 
     fn flags<'a>() -> &'a [Flag<Self>];

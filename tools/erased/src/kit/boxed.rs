@@ -1,44 +1,50 @@
-//! `Box` with allocations that may fail, unlike those of Rust's stable `Box`.
+//! `Box` and `String` with allocations that may fail.
 
-use super::heap;
-use super::memory::{AllocFailed, Global};
-use core::ops::{Deref, DerefMut};
+#[cfg(feature = "alloc")]
+use super::heap::Box;
+use super::heap::String;
+use super::memory::{AllocError, AllocFailed};
 
-/// A value on the heap: a vector with one item.
-#[derive(PartialEq, Eq)]
-pub struct Box<T>(heap::Vec<T>);
+/// The functions of Rattle's `Box` that allocate or take the value out.
+pub trait TryBox<T>: Sized {
+    /// Returns a box with the value. If its allocation fails, Rust ends the process: it has no
+    /// stable function that returns the error.
+    fn try_box(value: T) -> Result<Self, AllocFailed<T>>;
 
-impl<T> Box<T> {
-    pub fn new(_alloc: Global, value: T) -> Result<Self, AllocFailed<T>> {
-        let mut vec = heap::Vec::new();
-        if vec.try_reserve_exact(1).is_err() {
-            return Err(AllocFailed { value });
-        }
-        vec.push(value);
-        Ok(Box(vec))
+    /// Returns the value in a box.
+    fn unbox(boxed: Self) -> T;
+}
+
+#[cfg(feature = "alloc")]
+impl<T> TryBox<T> for Box<T> {
+    fn try_box(value: T) -> Result<Self, AllocFailed<T>> {
+        Ok(Box::new(value))
     }
 
-    pub fn into_inner(mut self) -> T {
-        self.0.pop().unwrap()
+    fn unbox(boxed: Self) -> T {
+        *boxed
     }
 }
 
-impl<T: core::fmt::Debug> core::fmt::Debug for Box<T> {
-    fn fmt(&self, f: &mut core::fmt::Formatter<'_>) -> core::fmt::Result {
-        (**self).fmt(f)
-    }
+/// The functions of Rattle's `String` that allocate.
+pub trait TryString: Sized {
+    /// Returns a copy of the text. An empty one needs no memory.
+    fn try_from_str(text: &str) -> Result<Self, AllocError>;
+
+    /// Appends a text. If this fails, it changes nothing.
+    fn try_push_str(&mut self, text: &str) -> Result<(), AllocError>;
 }
 
-impl<T> Deref for Box<T> {
-    type Target = T;
-
-    fn deref(&self) -> &T {
-        &self.0[0]
+impl TryString for String {
+    fn try_from_str(text: &str) -> Result<Self, AllocError> {
+        let mut string = String::new();
+        string.try_push_str(text)?;
+        Ok(string)
     }
-}
 
-impl<T> DerefMut for Box<T> {
-    fn deref_mut(&mut self) -> &mut T {
-        &mut self.0[0]
+    fn try_push_str(&mut self, text: &str) -> Result<(), AllocError> {
+        self.try_reserve_exact(text.len())?;
+        self.push_str(text);
+        Ok(())
     }
 }

@@ -1,7 +1,6 @@
 //! Hexadecimal digits, as in the crate hex.
 
-use super::memory::Global;
-use super::prelude::{String, Vec};
+use super::prelude::{String, TryString, TryVec, Vec};
 
 /// Why digits are not decoded, or bytes are not encoded.
 #[derive(Debug, PartialEq, Eq)]
@@ -45,19 +44,19 @@ pub fn encode_to_slice(bytes: &[u8], digits: &mut [u8]) -> Result<(), FromHexErr
     Ok(())
 }
 
-pub fn decode(alloc: Global, digits: &str) -> Result<Vec<u8>, FromHexError> {
-    let Ok(mut bytes) = Vec::filled(alloc, 0, digits.len() / 2) else {
+pub fn decode(digits: &str) -> Result<Vec<u8>, FromHexError> {
+    let Ok(mut bytes) = Vec::filled(0, digits.len() / 2) else {
         return Err(FromHexError::OutOfMemory);
     };
     decode_to_slice(digits.as_bytes(), &mut bytes)?;
     Ok(bytes)
 }
 
-pub fn encode(alloc: Global, bytes: &[u8]) -> Result<String, FromHexError> {
-    let Ok(mut digits) = Vec::filled(alloc, 0, 2 * bytes.len()) else {
+pub fn encode(bytes: &[u8]) -> Result<String, FromHexError> {
+    let Ok(mut digits) = Vec::filled(0, 2 * bytes.len()) else {
         return Err(FromHexError::OutOfMemory);
     };
     encode_to_slice(bytes, &mut digits)?;
     let text = core::str::from_utf8(&digits).expect("digits are UTF-8");
-    String::from_str(alloc, text).map_err(|_| FromHexError::OutOfMemory)
+    String::try_from_str(text).map_err(|_| FromHexError::OutOfMemory)
 }

@@ -1,14 +1,19 @@
-//! The allocator and its errors.
+//! Allocations that may fail.
 
 use super::heap::TryReserveError;
-
-/// Rust's global allocator.
-#[derive(Clone, Copy, Debug)]
-pub struct Global;
+use crate::netlink_core::DecodeError;
 
 /// An allocation failed.
 #[derive(Clone, Copy, Debug, PartialEq, Eq)]
 pub struct AllocError;
+
+impl core::fmt::Display for AllocError {
+    fn fmt(&self, f: &mut core::fmt::Formatter<'_>) -> core::fmt::Result {
+        f.write_str("out of memory")
+    }
+}
+
+impl core::error::Error for AllocError {}
 
 /// An allocation failed. The value that it was for is returned.
 pub struct AllocFailed<T> {
@@ -24,5 +29,11 @@ impl From<TryReserveError> for AllocError {
 impl<T> From<AllocFailed<T>> for AllocError {
     fn from(_: AllocFailed<T>) -> Self {
         AllocError
+    }
+}
+
+impl From<TryReserveError> for DecodeError {
+    fn from(_: TryReserveError) -> Self {
+        DecodeError::Memory
     }
 }

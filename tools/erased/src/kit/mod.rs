@@ -8,17 +8,17 @@ pub mod hex;
 pub mod memchr;
 #[cfg(not(feature = "alloc"))]
 mod no_heap;
-mod memory;
+pub mod memory;
 pub mod smallvec;
 pub mod std;
-mod string;
 #[cfg(all(test, feature = "alloc"))]
 pub mod testing;
 mod vec;
 
-/// Memory on the heap, which `Vec`, `String` and `Box` are made of.
+/// The types that own memory.
 #[cfg(feature = "alloc")]
 mod heap {
+    pub use alloc::boxed::Box;
     pub use alloc::collections::TryReserveError;
     pub use alloc::string::String;
     pub use alloc::vec::{IntoIter, Vec};
@@ -26,12 +26,12 @@ mod heap {
 #[cfg(not(feature = "alloc"))]
 use no_heap as heap;
 
-/// The types that replace those of Rust with the same name.
+/// The types of the kit with the names of Rust's, and their functions that may fail.
 pub mod prelude {
-    pub use super::boxed::Box;
+    pub use super::boxed::{TryBox, TryString};
+    pub use super::heap::{Box, String, Vec};
     #[cfg(all(test, feature = "alloc"))]
-    pub(crate) use super::testing::{format, ConcatIn, HostRuntime, RepeatIn};
-    pub use super::string::String;
-    pub(crate) use super::vec::vec;
-    pub use super::vec::Vec;
+    pub(crate) use super::testing::{try_format, ConcatIn, HostRuntime, RepeatIn};
+    pub(crate) use super::vec::try_vec;
+    pub use super::vec::TryVec;
 }

@@ -1,12 +1,14 @@
-//! `Vec` and `String` without a heap: they are always empty, and each allocation fails.
+//! `Vec`, `String` and `Box` without a heap: the first two are always empty, there is no value of
+//! the last one, and each allocation fails.
 
 use core::marker::PhantomData;
+use core::ops::{Deref, DerefMut};
 
 /// There is no memory.
 pub struct TryReserveError;
 
 /// An empty vector.
-#[derive(PartialEq, Eq)]
+#[derive(Clone, Debug, PartialEq, Eq)]
 pub struct Vec<T>(PhantomData<T>);
 
 impl<T> Vec<T> {
@@ -29,19 +31,29 @@ impl<T> Vec<T> {
         0
     }
 
+    pub fn as_slice(&self) -> &[T] {
+        &[]
+    }
+
     /// Panics: there is no capacity for the item.
     pub fn push(&mut self, _: T) {
         unreachable!();
     }
 
-    pub fn pop(&mut self) -> Option<T> {
-        None
+    /// Panics if there are items: there is no capacity for them.
+    pub fn extend_from_slice(&mut self, items: &[T]) {
+        assert!(items.is_empty());
+    }
+
+    /// Panics if the count is not 0: there is no capacity for the items.
+    pub fn resize(&mut self, count: usize, _: T) {
+        assert!(count == 0);
     }
 
     pub fn clear(&mut self) {}
 }
 
-impl<T> core::ops::Deref for Vec<T> {
+impl<T> Deref for Vec<T> {
     type Target = [T];
 
     fn deref(&self) -> &[T] {
@@ -49,7 +61,7 @@ impl<T> core::ops::Deref for Vec<T> {
     }
 }
 
-impl<T> core::ops::DerefMut for Vec<T> {
+impl<T> DerefMut for Vec<T> {
     fn deref_mut(&mut self) -> &mut [T] {
         &mut []
     }
@@ -68,7 +80,7 @@ impl<T> IntoIterator for Vec<T> {
 }
 
 /// An empty text.
-#[derive(PartialEq, Eq)]
+#[derive(Clone, Debug, PartialEq, Eq)]
 pub struct String;
 
 impl String {
@@ -80,16 +92,52 @@ impl String {
         Vec::<u8>::new().try_reserve(count)
     }
 
+    pub fn as_str(&self) -> &str {
+        ""
+    }
+
     /// Panics if the text is not empty: there is no capacity for it.
     pub fn push_str(&mut self, text: &str) {
         assert!(text.is_empty());
     }
 }
 
-impl core::ops::Deref for String {
+impl Deref for String {
     type Target = str;
 
     fn deref(&self) -> &str {
         ""
+    }
+}
+
+/// A type without values.
+#[derive(Clone, Debug, PartialEq, Eq)]
+enum Never {}
+
+/// A box, of which there is none.
+#[derive(Clone, Debug, PartialEq, Eq)]
+pub struct Box<T>(Never, PhantomData<T>);
+
+impl<T> super::boxed::TryBox<T> for Box<T> {
+    fn try_box(value: T) -> Result<Self, super::memory::AllocFailed<T>> {
+        Err(super::memory::AllocFailed { value })
+    }
+
+    fn unbox(boxed: Self) -> T {
+        match boxed.0 {}
+    }
+}
+
+impl<T> Deref for Box<T> {
+    type Target = T;
+
+    fn deref(&self) -> &T {
+        match self.0 {}
+    }
+}
+
+impl<T> DerefMut for Box<T> {
+    fn deref_mut(&mut self) -> &mut T {
+        match self.0 {}
     }
 }

@@ -1,7 +1,8 @@
 //! `SmallVec`, which stores up to `N` items without an allocation.
 
-use super::memory::{AllocError, Global};
-use super::prelude::Vec;
+use super::heap;
+use super::memory::AllocError;
+use super::prelude::{TryVec, Vec};
 use super::std::default::MadeWith;
 use core::mem::replace;
 use core::ops::{Deref, DerefMut};
@@ -17,31 +18,30 @@ enum Data<T, const N: usize> {
 }
 use Data::{Heap, Inline};
 
-impl<T: MadeWith<Global>, const N: usize> SmallVec<T, N> {
+impl<T: MadeWith, const N: usize> SmallVec<T, N> {
     /// Returns an empty vector, without an allocation.
-    pub fn new(alloc: Global) -> Self {
-        SmallVec(Inline(core::array::from_fn(|_| T::made_with(alloc)), 0))
+    pub fn new() -> Self {
+        SmallVec(Inline(core::array::from_fn(|_| T::made_with()), 0))
     }
 
     /// Returns an empty vector with this capacity. Allocates only if it is above `N`.
-    pub fn with_capacity(alloc: Global, capacity: usize) -> Result<Self, AllocError> {
-        let mut vec = Self::new(alloc);
-        vec.reserve_exact(capacity)?;
+    pub fn with_reserved(capacity: usize) -> Result<Self, AllocError> {
+        let mut vec = Self::new();
+        vec.try_reserve_exact(capacity)?;
         Ok(vec)
     }
 
     /// Reserves capacity for `count` more items. An allocation that fails changes nothing.
-    pub fn reserve_exact(&mut self, count: usize) -> Result<(), AllocError> {
+    pub fn try_reserve_exact(&mut self, count: usize) -> Result<(), AllocError> {
         if self.capacity() - self.len() >= count {
             return Ok(());
         }
         match &mut self.0 {
-            Heap(items) => items.reserve_exact(count),
+            Heap(items) => Ok(items.try_reserve_exact(count)?),
             Inline(slots, used) => {
-                let mut items = Vec::new(Global);
-                items.reserve_exact(used.checked_add(count).ok_or(AllocError)?)?;
+                let mut items = Vec::with_reserved(used.checked_add(count).ok_or(AllocError)?)?;
                 for slot in &mut slots[..*used] {
-                    items.push_reserved(replace(slot, T::made_with(Global)));
+                    items.push_reserved(replace(slot, T::made_with()));
                 }
                 self.0 = Heap(items);
                 Ok(())
@@ -54,10 +54,17 @@ impl<T: MadeWith<Global>, const N: usize> SmallVec<T, N> {
         match &mut self.0 {
             Heap(items) => items.clear(),
             Inline(slots, used) => {
-                slots[..*used].fill_with(|| T::made_with(Global));
+                slots[..*used].fill_with(T::made_with);
                 *used = 0;
             }
         }
+    }
+
+    /// Appends an item. Panics if an allocation fails.
+    pub fn push(&mut self, item: T) {
+        let more = if self.len() == self.capacity() { self.len() } else { 0 };
+        self.try_reserve_exact(more).expect("out of memory");
+        self.push_reserved(item);
     }
 }
 
@@ -93,6 +100,12 @@ impl<T, const N: usize> SmallVec<T, N> {
     }
 }
 
+impl<T: MadeWith, const N: usize> Default for SmallVec<T, N> {
+    fn default() -> Self {
+        SmallVec::new()
+    }
+}
+
 impl<T: PartialEq, const N: usize> PartialEq for SmallVec<T, N> {
     fn eq(&self, other: &Self) -> bool {
         self.as_slice() == other.as_slice()
@@ -100,6 +113,12 @@ impl<T: PartialEq, const N: usize> PartialEq for SmallVec<T, N> {
 }
 
 impl<T: Eq, const N: usize> Eq for SmallVec<T, N> {}
+
+impl<T: MadeWith + Clone, const N: usize> Clone for SmallVec<T, N> {
+    fn clone(&self) -> Self {
+        self.iter().cloned().collect()
+    }
+}
 
 impl<T: core::fmt::Debug, const N: usize> core::fmt::Debug for SmallVec<T, N> {
     fn fmt(&self, f: &mut core::fmt::Formatter<'_>) -> core::fmt::Result {
@@ -122,4 +141,87 @@ impl<T, const N: usize> DerefMut for SmallVec<T, N> {
             Inline(slots, used) => &mut slots[..*used],
         }
     }
+}
+
+impl<T: MadeWith, const N: usize> Extend<T> for SmallVec<T, N> {
+    fn extend<I: IntoIterator<Item = T>>(&mut self, items: I) {
+        for item in items {
+            self.push(item);
+        }
+    }
+}
+
+impl<T: MadeWith, const N: usize> FromIterator<T> for SmallVec<T, N> {
+    fn from_iter<I: IntoIterator<Item = T>>(items: I) -> Self {
+        let mut vec = SmallVec::new();
+        vec.extend(items);
+        vec
+    }
+}
+
+impl<T: MadeWith, const N: usize, const M: usize> From<[T; M]> for SmallVec<T, N> {
+    fn from(items: [T; M]) -> Self {
+        items.into_iter().collect()
+    }
+}
+
+impl<T: MadeWith, const N: usize> From<Vec<T>> for SmallVec<T, N> {
+    fn from(items: Vec<T>) -> Self {
+        items.into_iter().collect()
+    }
+}
+
+/// The items of a [`SmallVec`], by value.
+pub enum IntoIter<T, const N: usize> {
+    Inline(core::iter::Take<core::array::IntoIter<T, N>>),
+    Heap(heap::IntoIter<T>),
+}
+
+impl<T, const N: usize> Iterator for IntoIter<T, N> {
+    type Item = T;
+
+    fn next(&mut self) -> Option<T> {
+        match self {
+            IntoIter::Inline(items) => items.next(),
+            IntoIter::Heap(items) => items.next(),
+        }
+    }
+}
+
+impl<T, const N: usize> IntoIterator for SmallVec<T, N> {
+    type Item = T;
+    type IntoIter = IntoIter<T, N>;
+
+    fn into_iter(self) -> IntoIter<T, N> {
+        match self.0 {
+            Inline(slots, used) => IntoIter::Inline(slots.into_iter().take(used)),
+            Heap(items) => IntoIter::Heap(items.into_iter()),
+        }
+    }
+}
+
+impl<'a, T, const N: usize> IntoIterator for &'a SmallVec<T, N> {
+    type Item = &'a T;
+    type IntoIter = core::slice::Iter<'a, T>;
+
+    fn into_iter(self) -> Self::IntoIter {
+        self.iter()
+    }
+}
+
+impl<'a, T, const N: usize> IntoIterator for &'a mut SmallVec<T, N> {
+    type Item = &'a mut T;
+    type IntoIter = core::slice::IterMut<'a, T>;
+
+    fn into_iter(self) -> Self::IntoIter {
+        self.iter_mut()
+    }
+}
+
+/// Returns a [`SmallVec`] with these items.
+#[macro_export]
+macro_rules! smallvec {
+    ($($item:expr),* $(,)?) => {
+        $crate::SmallVec::from([$($item),*])
+    };
 }

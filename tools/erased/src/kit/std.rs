@@ -3,7 +3,7 @@
 pub use core::{fmt, mem, net, ops, str, time};
 
 pub mod alloc {
-    pub use crate::kit::memory::{AllocError, AllocFailed, Global};
+    pub use crate::kit::memory::{AllocError, AllocFailed};
 }
 
 pub mod convert {
@@ -27,14 +27,14 @@ pub mod convert {
 
 pub mod default {
     /// A type with a value for slots that are not used.
-    pub trait MadeWith<A> {
-        fn made_with(alloc: A) -> Self;
+    pub trait MadeWith {
+        fn made_with() -> Self;
     }
 }
 
 pub mod io {
     use crate::kit::memory::AllocError;
-    use crate::kit::prelude::Vec;
+    use crate::kit::prelude::{TryVec, Vec};
     use core::fmt;
 
     /// Appends formatted text to a vector, by `write!`.
@@ -46,7 +46,7 @@ pub mod io {
 
     impl fmt::Write for Text<'_> {
         fn write_str(&mut self, text: &str) -> fmt::Result {
-            self.0.extend_from_slice(text.as_bytes()).map_err(|_| fmt::Error)
+            self.0.try_extend_from_slice(text.as_bytes()).map_err(|_| fmt::Error)
         }
     }
 
