@@ -50,6 +50,30 @@ CHANGES = [
     (r"fn clone \( & self \) ->", "Result < Self , AllocError >", "Self"),
     (r"AllocError > \{", r"Ok \(", ""),
     ("", r"\)(?= \})", ""),
+    # Rust has one allocator, which no argument, parameter, field or import names.
+    (r"[({,]", r"_?alloc (?:: (?:Global|_) )?,|\$ alloc ,", ""),
+    ("", r", _?alloc(?: : Global)?(?= \))", ""),
+    (r"\(", r"_?alloc(?: : Global)?(?= \))|\$ alloc(?= \))", ""),
+    (r"\( \$", r"alloc (?:: expr )?, \$", ""),
+    (r"\(", r"self \. alloc ,", ""),
+    (r"vec ! \[|format ! \(", "in alloc ;", ""),
+    ("MadeWith", "< Global >", ""),
+    ("", "use std :: alloc :: Global ;", ""),
+    ("std ::", "alloc :: Global ; use std ::", ""),
+    ("std :: alloc ::", r"\{ AllocError , Global \}", "AllocError"),
+    # Functions that allocate, and may fail unlike those of Rust with the same name.
+    (r"\.", "push", "try_push"),
+    (r"\.", "push_str", "try_push_str"),
+    (r"\.", "extend_from_slice", "try_extend_from_slice"),
+    (r"\.", "resize", "try_resize"),
+    (r"\.", "reserve", "try_reserve"),
+    (r"\.", "reserve_exact", "try_reserve_exact"),
+    ("(?:Vec|SmallVec) ::", "with_capacity", "with_reserved"),
+    ("String ::", "from_str", "try_from_str"),
+    ("Box ::", "new", "try_box"),
+    ("Box ::", "into_inner", "unbox"),
+    ("", "(?:vec|format)(?= ! )", "try_(?:vec|format)"),
+    (r"fn|\.|::", r"clone(?= \( (?:\w+ , )?(?:& self , )?(?:alloc|rt \. alloc))", "try_clone"),
     # Texts of errors.
     ("", "use thiserror :: Error ;", ""),
     (r"derive \([\w ,]*", ", Error", ""),
@@ -67,8 +91,14 @@ CHANGES_OF_TESTS = [
     (r"clone \( \)", r"\. expect \( (?:& )?rt , \S+ \)", ""),
     (r"\.", "repeat", "repeat_in"),
     (r"\.", "concat", "concat_in"),
+    (r"[({,]", r"rt \. alloc \( \) ,", ""),
+    ("", r", rt \. alloc \( \)(?= \))", ""),
+    (r"\(", r"rt \. alloc \( \)(?= \))", ""),
+    (r"vec ! \[|format ! \(", r"in rt \. alloc \( \) ;", ""),
+    (r"\{ let", r"alloc = rt \. alloc \( \) ;", "rt = HostRuntime ;"),
     ("mod", "any ; mod", ""),
 ]
+REMOVED_IMPL = re.compile(f"Drop for|Clone for (?:{'|'.join(eraser.COPIES)})")
 # What tools/erase adds: the heads of files, and what thiserror derives.
 ADDED = re.compile(
     r"""^\#!\[forbid\(unsafe_code\)\]$
@@ -101,6 +131,8 @@ REFUSED = [
     "fn f(v: &[A]) -> A { A { ..v[7] } }",
     "fn f() { prove!(true) }",
     "fn f() -> Drop {}",
+    "fn f(other: Global) {}",
+    "fn f(alloc: Global) { let a = alloc; }",
 ]
 
 
@@ -115,7 +147,8 @@ def end_of(tokens, at):
 
 
 def pruned(tokens):
-    """Returns the tokens without ghost items, clauses, attributes, `mod laws` and `impl Drop`."""
+    """Returns the tokens without ghost items, clauses, attributes, `mod laws`, `impl Drop`, `impl
+    Clone` of the types that are `Copy`, and the tests that are left out."""
     kept, at = [], 0
     while at < len(tokens):
         if tokens[at] == "ghost":
@@ -133,7 +166,10 @@ def pruned(tokens):
             if kept[-1:] == ["pub"]:
                 kept.pop()
             at += 3
-        elif tokens[at] == "impl" and "Drop for" in " ".join(tokens[at : tokens.index("{", at)]):
+        elif tokens[at] == "impl" and REMOVED_IMPL.search(
+                " ".join(tokens[at : tokens.index("{", at)])):
+            at = end_of(tokens, tokens.index("{", at))
+        elif tokens[at : at + 4] == ["#", "[", "test", "]"] and tokens[at + 5] in eraser.OF_RATTLE:
             at = end_of(tokens, tokens.index("{", at))
         else:
             kept.append(tokens[at])
@@ -143,6 +179,27 @@ def pruned(tokens):
 
 def tokens_of(text):
     return [token for token in TOKEN.findall(text) if not token.startswith("//")]
+
+
+def laws_in(tokens):
+    """Yields the names of the functions without code, whose contracts are properties."""
+    for at in range(len(tokens)):
+        if tokens[at : at + 2] == ["pub", "fn"] and tokens[at + 3 : at + 7] == ["(", ")", "{", "}"]:
+            yield tokens[at + 2]
+
+
+def without(tokens, laws):
+    """Returns the tokens without these functions, and without their names in imports."""
+    kept, at = [], 0
+    while at < len(tokens):
+        if tokens[at : at + 2] == ["pub", "fn"] and tokens[at + 2] in laws:
+            at += 7
+        elif tokens[at] in laws or tokens[at] == "," and tokens[at + 1] in laws:
+            at += 2
+        else:
+            kept.append(tokens[at])
+            at += 1
+    return kept
 
 
 def change_at(before, source, erased, changes):
@@ -189,9 +246,11 @@ def main():
         written, again = run(Path(work, "one")), run(Path(work, "two"))
     if written != again:
         wrong.append("tools/erase writes other files the second time")
-    for crate, path, text in eraser.sources():
+    sources = [(crate, path, pruned(tokens_of(text))) for crate, path, text in eraser.sources()]
+    laws = {law for _, _, tokens in sources for law in laws_in(tokens)}
+    for crate, path, tokens in sources:
         erased = written[eraser.place_of(crate, path)].decode()
-        sides = pruned(tokens_of(text)), tokens_of(ADDED.sub("", erased))
+        sides = without(tokens, laws), tokens_of(ADDED.sub("", erased))
         wrong += differences(path.relative_to(TOP), crate, *sides, counts)
     for text in REFUSED:
         try:
