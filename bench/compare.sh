@@ -10,8 +10,8 @@
 # Needs the kit's rt, cargo of Rust 1.85 or later, cc, and crates.io. Takes two minutes if the
 # repository's crates are proved, and about 15 more if they are not.
 set -eu
-original=${BENCH_ORIGINAL:+$(cd "$BENCH_ORIGINAL" && pwd)}
-cd "$(dirname "$0")/.."
+original=${BENCH_ORIGINAL:+$(CDPATH='' cd -- "$BENCH_ORIGINAL" && pwd)}
+CDPATH='' cd -- "$(dirname -- "$0")/.."
 top=$PWD
 . bench/library.sh
 

@@ -3,7 +3,7 @@
 # allocations that parsing makes. Needs the kit's rt and cc, and proves what is not proved yet
 # (library.sh).
 set -eu
-cd "$(dirname "$0")/.."
+CDPATH='' cd -- "$(dirname -- "$0")/.."
 . bench/library.sh
 # The driver counts allocations: with --wrap the linker redirects the calls of these functions to
 # it.

@@ -493,7 +493,7 @@ struct sockdiag_unix_header {
 struct sockdiag_inet_header {
     uint8_t family;                  /* AF_INET or AF_INET6 (idiag_family, at 0). */
     uint8_t state;                   /* State, one of TCP_ESTABLISHED to TCP_CLOSING
-                                        (idiag_state, at 1). A reply does not contain the
+                                        (idiag_state, at 1). Most replies do not contain the
                                         protocol: states are of TCP, UDP or another protocol, the
                                         one that was requested. */
     uint8_t timer;                   /* Timer (idiag_timer, at 2): 1 retransmission, 2 keepalive,

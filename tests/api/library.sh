@@ -8,7 +8,7 @@
 # is quick.
 set -eu
 trap '[ $? = 0 ] || echo "$0: failed" >&2' EXIT
-cd "$(dirname -- "$0")/../.."
+CDPATH='' cd -- "$(dirname -- "$0")/../.."
 crate=crates/sockdiag_c
 library=$crate/out/libsockdiag_c.a
 

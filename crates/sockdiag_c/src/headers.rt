@@ -33,7 +33,7 @@ const _: () = prove!(std::mem::size_of::<UnixHeader>() == 16);
 pub struct InetHeader {
     /// `AF_INET` or `AF_INET6` (`idiag_family`, at 0).
     pub family: u8,
-    /// State, one of `TCP_ESTABLISHED` to `TCP_CLOSING` (`idiag_state`, at 1). A reply does not
+    /// State, one of `TCP_ESTABLISHED` to `TCP_CLOSING` (`idiag_state`, at 1). Most replies do not
     /// contain the protocol: states are of TCP, UDP or another protocol, the one that was
     /// requested.
     pub state: u8,
