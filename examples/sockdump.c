@@ -153,8 +153,8 @@ static size_t fill_xdp(struct request *request, const struct kind *kind) {
     return sizeof request->body.xdp;
 }
 
-/* A reply about a TCP or UDP socket does not contain the protocol. sslist takes it from the request,
- * which it finds among the last 16. */
+/* A reply about a TCP or UDP socket does not contain the protocol. sslist takes it from the
+ * request, which it finds among the last 16. */
 static const struct kind kinds[] = {
     {"unix", AF_UNIX, 0, fill_unix},
     {"tcp", AF_INET, IPPROTO_TCP, fill_inet},
