@@ -158,7 +158,7 @@ EDIT = (
      "file: src/error.rt\nold: fn planted() -> u8 {\nnew: fn planted() -> u16 {\n"),
 )
 C_API, RUST_API = "tests/api/c_api.sh", "tests/api/rust_api.sh"
-# What they run after the calls from C, or after those from Rust.
+# What the first one runs after the calls from C.
 LATER = tuple((it, None, PROGRAM) for it in (
     "tools/install", "tests/api/kernels.py", "tests/api/sockdump.py"))
 # An eraser that writes only a library and a program, which cargo would build.
@@ -174,7 +174,8 @@ END
 chmod +x examples/answer_lines
 : >sockdiag_c.o
 ar rcs libsockdiag_c.a sockdiag_c.o
-"""), ("tests/api/c_api.sh", None, PROGRAM), ("tests/api/compare_libraries.py", None, PROGRAM))
+"""), *((f"tests/api/{it}", None, PROGRAM)
+        for it in ("c_api.sh", "compare_libraries.py", "kernels.py")))
 # Makes two libraries whose functions return 0, except the version of the second one.
 LIBRARIES = ("libraries.sh", None, """set -eu
 sed -n 's/^[a-z0-9_]* \\(sockdiag_[a-z0-9_]*\\)(.*/long \\1(void) { return 0; }/p' \\
@@ -336,9 +337,8 @@ ROWS = [
         (LIBRARY,), ""),
     Row("tests/api/compare_replies.sh 1", ("planted: cargo test",), (LIBRARY, COMPARED),
         "cargo test * beside_reader"),
-    *(Row(RUST_API, (f"planted: {it.removesuffix(' *')}",), (LIBRARY, *LATER), it)
-      for it in ("cargo test --offline --test changed_bytes", "cargo test --offline",
-                 "cargo build *", "kernels.py *")),
+    *(Row(RUST_API, (f"planted: {it}",), (LIBRARY,), it)
+      for it in ("cargo test --offline --test changed_bytes", "cargo test --offline")),
     Row(RUST_API, ("a library of another version was linked",), (LIBRARY,), "version", "ar"),
     Row("python3 tests/erased.py", ("crates/netlink_core/src/nla.rt: = MAX_VALUE_LEN",
                                     "tools/erase accepts impl<T> A for &T {}"), (
@@ -351,7 +351,7 @@ ROWS = [
         (("crates/netlink_core/src/lib.rt", "", "\n#[must_use]\npub fn planted() {}\n"),)),
     *(Row("tests/api/erased.sh", (f"planted: {it.split(' *')[0]}",), (LIBRARY, *ERASER), it, "ar")
       for it in ("cargo build *", "cargo test --offline", "cargo test * --features alloc *",
-                 "cargo clippy --offline *", "c_api.sh", "compare_libraries.py *")),
+                 "cargo clippy --offline *", "kernels.py *", "c_api.sh", "compare_libraries.py *")),
     Row("tests/api/erased.sh", ("sockdiag/stdin differ",), ERASER, "answer_lines", "ar"),
     Row("sh libraries.sh tests/api/compare_libraries.py",
         ("sockdiag_version: the first difference at call 1: 0 and 1", ": 1 differ"), (LIBRARIES,),

@@ -51,6 +51,16 @@ else
     echo "erased: skipped: comparison with the program: no $program"
 fi
 
+# The example requests sockets by the module `kernel`.
+quiet cargo build --release --offline --example list_sockets
+"$top/tests/api/kernels.py" "$built/examples/list_sockets"
+if "$built/examples/list_sockets" >"$work/sockets" 2>"$work/errors"; then
+    echo "erased: list_sockets: $(wc -l <"$work/sockets") sockets, beginning with:"
+    head -n 5 "$work/sockets"
+else
+    echo "erased: list_sockets failed: $(cat "$work/errors")"
+fi
+
 # Cargo adds objects of Rust's own library, of which the one of the library needs nothing.
 mkdir "$work/object" "$work/library"
 (cd "$work/object" && ar x "$built/libsockdiag_c.a" &&

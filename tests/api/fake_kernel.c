@@ -465,15 +465,6 @@ ssize_t recv(int fd, void *buffer, size_t capacity, int flags) {
     return (ssize_t)end;
 }
 
-/* The example lister in Rust uses read and write. */
-ssize_t read(int fd, void *buffer, size_t capacity) {
-    return fd == kernel ? recv(fd, buffer, capacity, 0) : syscall(SYS_read, fd, buffer, capacity);
-}
-
-ssize_t write(int fd, const void *bytes, size_t length) {
-    return fd == kernel ? send(fd, bytes, length, 0) : syscall(SYS_write, fd, bytes, length);
-}
-
 int clock_gettime(clockid_t clock, struct timespec *time) {
     const char *text = getenv("FAKE_KERNEL_TIME");
     if (clock != CLOCK_REALTIME || text == NULL)

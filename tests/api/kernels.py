@@ -1,6 +1,6 @@
 #!/usr/bin/env python3
 """Runs example listers with the replies of other kernels, and compares what they print. c_api.sh
-and rust_api.sh run this script.
+and erased.sh run this script.
 
     tests/api/kernels.py LISTER..
 

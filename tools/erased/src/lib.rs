@@ -19,6 +19,8 @@ compile_error!("the kernel's messages have the byte order of the machine, here l
 mod c_memory;
 mod errors;
 mod flags;
+#[cfg(feature = "std")]
+pub mod kernel;
 #[forbid(unsafe_code)]
 mod kit;
 mod owned;
