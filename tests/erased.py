@@ -61,6 +61,7 @@ CHANGES = [
     ("", "use std :: alloc :: Global ;", ""),
     ("std ::", "alloc :: Global ; use std ::", ""),
     ("std :: alloc ::", r"\{ AllocError , Global \}", "AllocError"),
+    (r"std :: alloc :: \{ AllocError , AllocFailed", ", Global", ""),
     # Functions that allocate, and may fail unlike those of Rust with the same name.
     (r"\.", "push", "try_push"),
     (r"\.", "push_str", "try_push_str"),
@@ -83,21 +84,28 @@ CHANGES = [
     ("=", "prove(?= ! )", "assert"),
     ("Ipv[46]Addr ::", "from_octets|from_segments", "from"),
 ]
-# The changes of tests: the runtime, the allocator of `repeat` and `concat`, and a module.
-CHANGES_OF_TESTS = [
-    (r"(?:assert|panic) ! \(|expect \(", "(?:& )?rt [,;]", ""),
+# The changes of programs and tests: the runtime, and its allocator.
+CHANGES_OF_PROGRAMS = [
+    ("", "", "pub(?= fn main )"),
     (r"fn \w+ \(", "rt : HostRuntime", ""),
     (r"\{(?: let)?", "", "(?:let )?rt = HostRuntime ;(?: let)?"),
-    (r"clone \( \)", r"\. expect \( (?:& )?rt , \S+ \)", ""),
-    (r"\.", "repeat", "repeat_in"),
-    (r"\.", "concat", "concat_in"),
+    (r"\.", "collect", "collect_in"),
     (r"[({,]", r"rt \. alloc \( \) ,", ""),
     ("", r", rt \. alloc \( \)(?= \))", ""),
     (r"\(", r"rt \. alloc \( \)(?= \))", ""),
+]
+PROGRAMS = {"sockdiag"}
+# The changes of tests alone.
+CHANGES_OF_TESTS = [
+    (r"(?:assert|panic) ! \(|expect \(", "(?:& )?rt [,;]", ""),
+    (r"clone \( \)", r"\. expect \( (?:& )?rt , \S+ \)", ""),
+    (r"\.", "repeat", "repeat_in"),
+    (r"\.", "concat", "concat_in"),
     (r"vec ! \[|format ! \(", r"in rt \. alloc \( \) ;", ""),
     (r"\{ let", r"alloc = rt \. alloc \( \) ;", "rt = HostRuntime ;"),
     ("mod", "any ; mod", ""),
 ]
+ALL_CHANGES = [*CHANGES, *CHANGES_OF_PROGRAMS, *CHANGES_OF_TESTS]
 REMOVED_IMPL = re.compile(f"Drop for|Clone for (?:{'|'.join(eraser.COPIES)})")
 # What tools/erase adds: the heads of files, and what thiserror derives.
 ADDED = re.compile(
@@ -132,6 +140,8 @@ REFUSED = [
     "fn f() { prove!(true) }",
     "fn f() -> Drop {}",
     "fn f(other: Global) {}",
+    "fn f(rt: HostRuntime) { print!(rt; \"\") }",
+    "fn f(i: I) -> Result<Vec<u8>, E> { i.collect(alloc) }",
     "fn f(alloc: Global) { let a = alloc; }",
 ]
 
@@ -219,7 +229,11 @@ def change_at(before, source, erased, changes):
 
 def differences(name, crate, source, erased, counts):
     """Yields where an erased file is not its source by the changes, and counts these."""
-    changes = [*CHANGES, *(CHANGES_OF_TESTS if crate == eraser.TESTS else [])]
+    changes = CHANGES
+    if crate in PROGRAMS:
+        changes = CHANGES + CHANGES_OF_PROGRAMS
+    elif crate == eraser.TESTS:
+        changes = ALL_CHANGES
     changes = [tuple(it.replace("OWN", crate) for it in change) for change in changes]
     i = j = 0
     while i < len(source) or j < len(erased):
@@ -258,7 +272,7 @@ def main():
             wrong.append(f"tools/erase accepts {text}")
         except SyntaxError:
             pass
-    for name, (_, old, new) in enumerate([*CHANGES, *CHANGES_OF_TESTS]):
+    for name, (_, old, new) in enumerate(ALL_CHANGES):
         print(f"{counts[name]:4} times {old or 'nothing':.40} became {new or 'nothing':.40}")
     print(*wrong, f"tests/erased.py: {len(wrong)} errors", sep="\n")
     return 1 if wrong else 0

@@ -164,14 +164,14 @@ LATER = tuple((it, None, PROGRAM) for it in (
 # An eraser that writes only a library and a program, which cargo would build.
 ERASER = (("tools/erase", None, """#!/bin/sh
 top=$PWD
-mkdir -p "$1/target/release/examples"
+mkdir -p "$1/target/release"
 cd "$1/target/release"
-cat >examples/answer_lines <<END
+cat >sockdiag <<END
 #!/bin/sh
-[ "\$FAILS" != answer_lines ] || echo planted
+[ "\$FAILS" != sockdiag ] || echo planted
 exec cat $top/crates/sockdiag/stdout
 END
-chmod +x examples/answer_lines
+chmod +x sockdiag
 : >sockdiag_c.o
 ar rcs libsockdiag_c.a sockdiag_c.o
 """), *((f"tests/api/{it}", None, PROGRAM)
@@ -352,7 +352,7 @@ ROWS = [
     *(Row("tests/api/erased.sh", (f"planted: {it.split(' *')[0]}",), (LIBRARY, *ERASER), it, "ar")
       for it in ("cargo build *", "cargo test --offline", "cargo test * --features alloc *",
                  "cargo clippy --offline *", "kernels.py *", "c_api.sh", "compare_libraries.py *")),
-    Row("tests/api/erased.sh", ("sockdiag/stdin differ",), ERASER, "answer_lines", "ar"),
+    Row("tests/api/erased.sh", ("sockdiag/stdin differ",), ERASER, "sockdiag", "ar"),
     Row("sh libraries.sh tests/api/compare_libraries.py",
         ("sockdiag_version: the first difference at call 1: 0 and 1", ": 1 differ"), (LIBRARIES,),
         needs="cc"),

@@ -92,6 +92,10 @@ class Source:
         """Replaces what is between two tokens, comments too."""
         self.edits.append((self.tokens[first].end, self.tokens[last].start, text))
 
+    def insert_before(self, index, text):
+        """Inserts text before a token."""
+        self.edits.append((self.tokens[index].start, self.tokens[index].start, text))
+
     def insert_after(self, index, text):
         """Inserts text after a token."""
         self.edits.append((self.tokens[index].end, self.tokens[index].end, text))

@@ -17,13 +17,13 @@ quiet() {
 "$top/tools/erase" "$work/erased"
 cd "$work/erased"
 unset CARGO_TARGET_DIR
+quiet cargo build --release --offline
 quiet cargo build --release --offline --package sockdiag_c
 built=$work/erased/target/release
 quiet cargo test --offline --no-default-features
 quiet cargo test --offline
 sed -n 's/^test result: ok. \([0-9]* passed\).*/erased: \1/p' "$work/log" | sed -n 1p
-quiet cargo build --release --offline --example answer_lines
-answer=$built/examples/answer_lines
+answer=$built/sockdiag
 
 # The package uses no function of Rust's library that is newer than its `rust-version`.
 if cargo clippy --version >/dev/null 2>&1; then

@@ -29,12 +29,14 @@ mod attribute_lists;
 mod exact_values;
 mod netlink_core;
 mod netlink_packet_sock_diag;
+#[cfg(feature = "std")]
+mod program_streams;
 mod sock_diag_any;
 mod sock_diag_attributes;
 mod sock_diag_extras;
 mod sock_diag_families;
 mod sock_diag_filters;
-#[cfg(feature = "alloc")]
+#[cfg(feature = "std")]
 mod sock_diag_lines;
 mod sock_diag_records;
 mod sock_diag_replies;
@@ -42,6 +44,8 @@ mod sock_diag_replies;
 #[allow(unused)]
 mod sock_diag_tests;
 mod sock_diag_values;
+#[cfg(feature = "std")]
+mod sockdiag;
 #[cfg(feature = "c")]
 #[doc(hidden)]
 pub mod sockdiag_c;
@@ -77,8 +81,9 @@ pub mod lenient {
     pub use crate::sock_diag_replies::lenient::*;
 }
 
-#[cfg(feature = "alloc")]
+/// The programs of the package.
+#[cfg(feature = "std")]
 #[doc(hidden)]
-pub mod lines {
-    pub use crate::sock_diag_lines::answer;
+pub mod programs {
+    pub use crate::sockdiag::main as sockdiag;
 }

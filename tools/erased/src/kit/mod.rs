@@ -5,6 +5,9 @@ mod boxed;
 pub mod byteorder;
 pub mod c;
 pub mod hex;
+mod host;
+#[cfg(feature = "std")]
+pub mod io;
 pub mod memchr;
 #[cfg(not(feature = "alloc"))]
 mod no_heap;
@@ -30,8 +33,11 @@ use no_heap as heap;
 pub mod prelude {
     pub use super::boxed::{TryBox, TryString};
     pub use super::heap::{Box, String, Vec};
+    pub use super::host::HostRuntime;
+    #[cfg(feature = "std")]
+    pub(crate) use super::host::{println, CollectIn, Eprint};
     #[cfg(all(test, feature = "alloc"))]
-    pub(crate) use super::testing::{try_format, ConcatIn, HostRuntime, RepeatIn};
+    pub(crate) use super::testing::{try_format, ConcatIn, RepeatIn};
     pub(crate) use super::vec::try_vec;
     pub use super::vec::TryVec;
 }

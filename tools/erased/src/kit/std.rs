@@ -32,39 +32,46 @@ pub mod default {
     }
 }
 
-pub mod io {
+pub mod error {
+    pub use core::error::Error;
+}
+
+#[cfg(feature = "std")]
+pub mod env {
+    use super::io::{Error, ErrorKind, Result};
+    use crate::kit::host::HostRuntime;
     use crate::kit::memory::AllocError;
-    use crate::kit::prelude::{TryVec, Vec};
-    use core::fmt;
+    use crate::kit::prelude::{String, TryVec, Vec};
 
-    /// Appends formatted text to a vector, by `write!`.
-    pub trait Write {
-        fn write_fmt(&mut self, arguments: fmt::Arguments<'_>) -> Result<(), AllocError>;
-    }
-
-    struct Text<'a>(&'a mut Vec<u8>);
-
-    impl fmt::Write for Text<'_> {
-        fn write_str(&mut self, text: &str) -> fmt::Result {
-            self.0.try_extend_from_slice(text.as_bytes()).map_err(|_| fmt::Error)
+    /// Returns the arguments of the process, or an error if one is not valid UTF-8.
+    pub fn args(_: &HostRuntime) -> Result<alloc::vec::IntoIter<String>> {
+        let mut arguments = Vec::new();
+        for argument in ::std::env::args_os() {
+            let argument = argument.into_string();
+            let argument = argument.map_err(|_| Error::Kind(ErrorKind::InvalidData))?;
+            arguments.try_push(argument).map_err(AllocError::from)?;
         }
-    }
-
-    impl Write for Vec<u8> {
-        fn write_fmt(&mut self, arguments: fmt::Arguments<'_>) -> Result<(), AllocError> {
-            fmt::Write::write_fmt(&mut Text(self), arguments).map_err(|_| AllocError)
-        }
+        Ok(arguments.into_iter())
     }
 }
 
+#[cfg(feature = "std")]
+pub use super::io;
+
 pub mod marker {
     pub use core::marker::PhantomData;
+
+    /// A type for contracts only.
+    pub enum Brand {}
 
     /// States what contracts see of a value, so nothing here.
     pub trait Model {}
 }
 
-#[cfg(all(test, feature = "alloc"))]
+#[cfg(feature = "alloc")]
 pub mod process {
+    #[cfg(test)]
     pub use crate::kit::testing::Abort;
+    #[cfg(feature = "std")]
+    pub use ::std::process::ExitCode;
 }

@@ -1,14 +1,12 @@
 //! What only the tests use of the kit, and a Rust program has otherwise.
 
+use super::host::HostRuntime;
 use super::memory::{AllocError, AllocFailed};
 use super::prelude::{String, TryString, TryVec, Vec};
 use core::fmt;
 
 /// Permits a test to end the process.
 pub trait Abort {}
-
-/// What a test gets of the machine that runs it.
-pub struct HostRuntime;
 
 impl Abort for HostRuntime {}
 
