@@ -1,7 +1,33 @@
 //! The methods and operators of the flags, as the crate bitflags has them.
 
-use crate::kit::bitflags::Flags;
+use crate::kit::bitflags::{Flag, Flags};
+use core::fmt;
+use core::hash::{Hash, Hasher};
 use core::ops::{BitAnd, BitAndAssign, BitOrAssign, BitXor, BitXorAssign, Not, Sub, SubAssign};
+
+/// The flags of a set, one after the other: those that have a name, and then the other bits as one
+/// item.
+pub struct Iter<F: Flags> {
+    flags: core::slice::Iter<'static, Flag<F>>,
+    remaining: F::Bits,
+}
+
+impl<F: Flags> Iterator for Iter<F> {
+    type Item = F;
+
+    fn next(&mut self) -> Option<F> {
+        let none = F::Bits::default();
+        for flag in self.flags.by_ref() {
+            let bits = flag.value.bits();
+            if self.remaining & bits == bits {
+                self.remaining = self.remaining & !bits;
+                return Some(F::from_bits_retain(bits));
+            }
+        }
+        let others = core::mem::replace(&mut self.remaining, none);
+        (others != none).then(|| F::from_bits_retain(others))
+    }
+}
 
 /// Implements methods and operators of sets of flags.
 macro_rules! flag_methods {
@@ -82,19 +108,38 @@ macro_rules! flag_methods {
                 Self::from_bits_truncate(!self.bits())
             }
 
+            /// Returns an iterator over the flags of the set, and then over all bits without a name
+            /// as one item.
+            pub fn iter(&self) -> Iter<Self> {
+                Iter { flags: Self::flags().iter(), remaining: self.bits() }
+            }
+
+            /// Returns an iterator over the names and values of the flags of the set.
+            pub fn iter_names(&self) -> impl Iterator<Item = (&'static str, Self)> {
+                let set = *self;
+                let named = Self::flags().iter().map(|flag| (flag.name, flag.value));
+                named.filter(move |(_, flag)| set.contains(*flag))
+            }
+
+            /// Returns the flag with this name.
+            pub fn from_name(name: &str) -> Option<Self> {
+                let flag = Self::flags().iter().find(|flag| flag.name == name)?;
+                Some(flag.value)
+            }
+
             /// Adds the bits of the other set.
             pub fn insert(&mut self, other: Self) {
-                *self = self.clone().union(other);
+                *self = self.union(other);
             }
 
             /// Removes the bits of the other set.
             pub fn remove(&mut self, other: Self) {
-                *self = self.clone().difference(other);
+                *self = self.difference(other);
             }
 
             /// Adds the bits of the other set that this one lacks, and removes the other ones.
             pub fn toggle(&mut self, other: Self) {
-                *self = self.clone().symmetric_difference(other);
+                *self = self.symmetric_difference(other);
             }
 
             /// Adds the bits of the other set if `value` is true, and else removes them.
@@ -162,6 +207,50 @@ macro_rules! flag_methods {
 
             fn not(self) -> Self {
                 self.complement()
+            }
+        }
+
+        impl Hash for $flags {
+            fn hash<H: Hasher>(&self, state: &mut H) {
+                self.bits().hash(state);
+            }
+        }
+
+        impl Extend<$flags> for $flags {
+            fn extend<I: IntoIterator<Item = Self>>(&mut self, sets: I) {
+                for set in sets {
+                    self.insert(set);
+                }
+            }
+        }
+
+        impl FromIterator<$flags> for $flags {
+            fn from_iter<I: IntoIterator<Item = Self>>(sets: I) -> Self {
+                let mut all = Self::empty();
+                all.extend(sets);
+                all
+            }
+        }
+
+        impl IntoIterator for $flags {
+            type Item = Self;
+            type IntoIter = Iter<Self>;
+
+            fn into_iter(self) -> Iter<Self> {
+                self.iter()
+            }
+        }
+
+        number_format!($flags: Binary, Octal, LowerHex, UpperHex);
+    )*};
+}
+
+/// Implements formats of numbers, which write the bits.
+macro_rules! number_format {
+    ($flags:path: $($format:ident),*) => {$(
+        impl fmt::$format for $flags {
+            fn fmt(&self, f: &mut fmt::Formatter<'_>) -> fmt::Result {
+                fmt::$format::fmt(&self.bits(), f)
             }
         }
     )*};

@@ -1,11 +1,12 @@
-//! `Clone` and `Default` of values that own memory, as Rust programs expect them. A clone
-//! panics if an allocation fails; `try_clone` returns the error.
+//! `Clone` and `Default` of values that own memory, and `Copy` and `Hash`, as Rust programs expect
+//! them. A clone panics if an allocation fails; `try_clone` returns the error.
 
-use crate::inet::InetResponse;
-use crate::netlink_core::{DefaultNla, NetlinkMessage, NetlinkPayload};
+use crate::inet::{InetResponse, SocketId};
+use crate::netlink_core::{DefaultNla, NetlinkHeader, NetlinkMessage, NetlinkPayload};
 use crate::sock_diag_attributes::unix::nlas::SocketName;
 use crate::unix::UnixResponse;
 use crate::{DumpReader, LossyDump, SockDiagDestroy, SockDiagMessage};
+use core::hash::{Hash, Hasher};
 
 impl<B: Clone> Clone for SocketName<B> {
     fn clone(&self) -> Self {
@@ -28,9 +29,11 @@ impl<I: Clone, B: Clone> Clone for NetlinkPayload<I, B> {
     }
 }
 
+impl Copy for NetlinkHeader {}
+
 impl<I: Clone> Clone for NetlinkMessage<I> {
     fn clone(&self) -> Self {
-        NetlinkMessage { header: self.header.clone(), payload: self.payload.clone() }
+        NetlinkMessage { header: self.header, payload: self.payload.clone() }
     }
 }
 
@@ -56,5 +59,24 @@ impl Default for DumpReader {
 impl Default for LossyDump {
     fn default() -> Self {
         LossyDump::new()
+    }
+}
+
+/// Implements `Hash` by these fields, which have to be all fields that `==` compares.
+macro_rules! hash_fields {
+    ($($owned:ident { $($field:ident),* })*) => {$(
+        impl Hash for $owned {
+            fn hash<H: Hasher>(&self, state: &mut H) {
+                let $owned { $($field),* } = self;
+                $($field.hash(state);)*
+            }
+        }
+    )*};
+}
+
+hash_fields! {
+    NetlinkHeader { length, message_type, flags, sequence_number, port_number }
+    SocketId {
+        source_port, destination_port, source_address, destination_address, interface_id, cookie
     }
 }

@@ -62,9 +62,64 @@ impl<T: MadeWith, const N: usize> SmallVec<T, N> {
 
     /// Appends an item. Panics if an allocation fails.
     pub fn push(&mut self, item: T) {
-        let more = if self.len() == self.capacity() { self.len() } else { 0 };
+        let more = if self.len() == self.capacity() { self.len().max(1) } else { 0 };
         self.try_reserve_exact(more).expect("out of memory");
         self.push_reserved(item);
+    }
+}
+
+#[cfg(feature = "alloc")]
+impl<T: MadeWith, const N: usize> SmallVec<T, N> {
+    /// Inserts an item before the one at `index`. Panics if the index is above the number of items,
+    /// or if an allocation fails.
+    pub fn insert(&mut self, index: usize, item: T) {
+        assert!(index <= self.len());
+        self.push(item);
+        self[index..].rotate_right(1);
+    }
+
+    /// Removes the last item.
+    pub fn pop(&mut self) -> Option<T> {
+        match &mut self.0 {
+            Heap(items) => items.pop(),
+            Inline(slots, used) => {
+                *used = used.checked_sub(1)?;
+                Some(replace(&mut slots[*used], T::made_with()))
+            }
+        }
+    }
+
+    /// Removes the item at `index`. Panics if there is none.
+    pub fn remove(&mut self, index: usize) -> T {
+        self[index..].rotate_left(1);
+        self.pop().unwrap()
+    }
+
+    /// Drops the items after the first `count`.
+    pub fn truncate(&mut self, count: usize) {
+        while self.len() > count {
+            self.pop();
+        }
+    }
+
+    /// Keeps the items for which the function returns `true`.
+    pub fn retain<F: FnMut(&mut T) -> bool>(&mut self, mut is_kept: F) {
+        let mut kept = 0;
+        for index in 0..self.len() {
+            if is_kept(&mut self[index]) {
+                self.swap(kept, index);
+                kept += 1;
+            }
+        }
+        self.truncate(kept);
+    }
+
+    /// Returns the items as a vector, which needs an allocation if they are inline.
+    pub fn into_vec(self) -> Vec<T> {
+        match self.0 {
+            Heap(items) => items,
+            inline => SmallVec(inline).into_iter().collect(),
+        }
     }
 }
 
@@ -80,6 +135,7 @@ impl<T, const N: usize> SmallVec<T, N> {
         }
     }
 
+    /// Returns the number of items for which no allocation is needed.
     pub fn capacity(&self) -> usize {
         match &self.0 {
             Heap(items) => items.capacity(),
@@ -92,6 +148,7 @@ impl<T, const N: usize> SmallVec<T, N> {
         matches!(self.0, Heap(_))
     }
 
+    /// Returns the items.
     pub fn as_slice(&self) -> &[T] {
         match &self.0 {
             Heap(items) => items,
@@ -186,7 +243,25 @@ impl<T, const N: usize> Iterator for IntoIter<T, N> {
             IntoIter::Heap(items) => items.next(),
         }
     }
+
+    fn size_hint(&self) -> (usize, Option<usize>) {
+        match self {
+            IntoIter::Inline(items) => items.size_hint(),
+            IntoIter::Heap(items) => items.size_hint(),
+        }
+    }
 }
+
+impl<T, const N: usize> DoubleEndedIterator for IntoIter<T, N> {
+    fn next_back(&mut self) -> Option<T> {
+        match self {
+            IntoIter::Inline(items) => items.next_back(),
+            IntoIter::Heap(items) => items.next_back(),
+        }
+    }
+}
+
+impl<T, const N: usize> ExactSizeIterator for IntoIter<T, N> {}
 
 impl<T, const N: usize> IntoIterator for SmallVec<T, N> {
     type Item = T;
@@ -223,5 +298,8 @@ impl<'a, T, const N: usize> IntoIterator for &'a mut SmallVec<T, N> {
 macro_rules! smallvec {
     ($($item:expr),* $(,)?) => {
         $crate::SmallVec::from([$($item),*])
+    };
+    ($item:expr; $count:expr) => {
+        ::core::iter::repeat($item).take($count).collect::<$crate::SmallVec<_, 8>>()
     };
 }
