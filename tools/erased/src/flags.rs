@@ -262,3 +262,18 @@ flag_methods!(
     crate::unix::StateFlags: u32,
     crate::unix::ShowFlags: u32
 );
+
+/// Implements the set of all states. `all` lacks those that the crate has no name for, such as
+/// `TCP_BOUND_INACTIVE` and, for UNIX sockets, `TCP_CLOSE`.
+macro_rules! every_state {
+    ($($flags:path),*) => {$(
+        impl $flags {
+            /// Returns the set of all states, also those that have no flag.
+            pub fn every_state() -> Self {
+                Self::from_bits_retain(u32::MAX)
+            }
+        }
+    )*};
+}
+
+every_state!(crate::inet::StateFlags, crate::unix::StateFlags);

@@ -1,4 +1,39 @@
 //! Messages of sock_diag(7): the proved sources of sockdiag without their contracts.
+//!
+//! # Preconditions
+//!
+//! The proofs show that every function returns, for all inputs that it permits. Most functions
+//! permit all inputs. Those in the table do not, and rustc does not check their conditions. If a
+//! caller breaks a condition, the function panics, or returns or writes a wrong number. The
+//! behaviour is never undefined: the package has no unsafe code except in the functions for C.
+//!
+//! | function | condition | test, or function without the condition | if it is broken |
+//! |---|---|---|---|
+//! | [`Emitable::buffer_len`], [`NetlinkSerializable::buffer_len`], [`NetlinkMessage::buffer_len`] | the value is writable | `is_writable`; [`Emitable::writable_len`] | returns a length that a length field cannot hold |
+//! | [`Emitable::emit`], [`NetlinkSerializable::serialize`], [`NetlinkMessage::serialize`] | the value is writable | `is_writable`; [`write_new`] | writes a length field that is too small |
+//! | the same | the buffer has at least `buffer_len()` bytes | [`write_new`] | panics, and may have written a part |
+//! | [`NetlinkMessage::finalize`] | the message is writable | [`NetlinkMessage::is_writable`] | sets a length that is too small |
+//! | [`Nla::emit_value`], [`nla_len`], [`emit_nla`] | the value has at most 65,531 bytes | [`Nla::value_fits`] | writes a length field that is too small |
+//! | [`nlas_len`], [`emit_nlas`] | each value has at most 65,531 bytes, and all attributes at most 4,294,967,295 | [`nlas_writable`], [`nlas_len_within`] | the same |
+//! | [`Nla::emit_value`], [`emit_nla`], [`emit_nlas`] | the buffer has at least as many bytes as are written | [`Nla::value_len`], [`nla_len`], [`nlas_len`] | panics |
+//! | [`emit_u32`] | the buffer has at least 4 bytes | `len` of the buffer | panics |
+//! | [`padded`] | the length is below 2<sup>32</sup> | | returns the right length up to `usize::MAX - 3`; above it an overflow |
+//! | [`NlaBuffer::new`], [`NlasIterator::next_accepted`] | the bytes begin with an attribute | [`NlaBuffer::new_checked`], `next` of [`NlasIterator`] | panics |
+//! | [`unix::nlas::NameView::new`], [`unix::nlas::NlaView::new`], [`inet::nlas::NlaView::new`], [`FamilyView::read_accepted`], [`FamilyNla::own_accepted`] | the parser accepts the bytes or the attribute | `parse` of the same type; [`FamilyView::read_view`] | panics, or returns a value that the parser rejects |
+//! | [`same_views`], [`ReplyHeader::is_same`], [`ReplyHeader::len_with`], [`ReplyHeader::emit_with`] | the bytes have no decode error | [`ReplyHeader::check`]; `==`, `writable_len` and `emit` of a [`ReplyView`] | panics, or returns or writes a wrong value |
+//! | [`ReplyHeader::emit_with`] | the reply is writable, and the buffer has its length | [`ReplyHeader::check_len`] | as `emit` |
+//! | [`Record::from_fields`], [`extras::AttributeRecord::from_fields`] | there are as many bytes as the record needs | [`read_record`], [`extras::read_attribute_record`] | panics |
+//! | [`Record::write_fields`], [`extras::AttributeRecord::write_fields`] | the buffer has exactly the length of the record | [`Record::size`], [`extras::AttributeRecord::size`] | panics |
+//! | [`extras::write_attribute_record`] | the buffer is at least as long as the record | [`extras::AttributeRecord::size`] | panics |
+//! | [`extras::NestedNlas::number_of`] | the width is 1 to 8 | | 0 for a width of 0; panics above 8 if there is a value of this length |
+//! | the functions of [`fields`] | the bytes or the buffer have the length that the function names | `len` | panics |
+//! | [`SmallVec::push_reserved`] | there is capacity | [`SmallVec::push`] | panics |
+//!
+//! "An overflow" panics if overflow checks are on, and else returns a wrong number. The profiles of
+//! this package turn them on. If your program depends on it, the profile of your program decides.
+//!
+//! `clone` and `push` panic if an allocation fails; `try_clone` and `try_reserve_exact` return the
+//! error.
 #![no_std]
 #![deny(unsafe_code)]
 // What only contracts, proofs, other crates or the C library use is left.
@@ -54,6 +89,10 @@ pub use kit::memory::{AllocError, AllocFailed};
 pub use kit::smallvec::SmallVec;
 pub use netlink_core::*;
 pub use netlink_packet_sock_diag::*;
+// The types that `inet::nlas::Nla`, `unix::nlas::Nla`, `unix::nlas::UnixDiagName` and their views
+// are names for. Without a public path the documentation shows no variants.
+pub use sock_diag_attributes::inet::nlas::InetNla;
+pub use sock_diag_attributes::unix::nlas::{SocketName, UnixNla};
 
 /// Replies about sockets of any family.
 pub mod any {
