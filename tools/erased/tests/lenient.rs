@@ -79,8 +79,12 @@ macro_rules! assert_row {
 
 #[test]
 fn one_rejected_attribute_of_each_kind() {
-    UNIX_ROWS.map(|row| assert_row!(row, UNIX, LenientUnixReply, UnixResponseView));
-    INET_ROWS.map(|row| assert_row!(row, INET, LenientInetReply, InetResponseView));
+    for row in UNIX_ROWS {
+        assert_row!(row, UNIX, LenientUnixReply, UnixResponseView);
+    }
+    for row in INET_ROWS {
+        assert_row!(row, INET, LenientInetReply, InetResponseView);
+    }
 }
 
 #[test]
