@@ -4,11 +4,11 @@ the commands in the text of the pages. The arguments are the paths of both built
 them only copies of code and commands in the text are checked.
 
 - Copies of code. A `rust` block has to occur, as consecutive whole lines, in a file under
-  crates/*/src, an `antt` block in one under crates/*/proofs or crates/*/specs, a `c` block in an
-  example, and a `rust,ignore` block in an example under bench/original. Indentation and blank lines
-  are ignored. In a README.md a block may omit the contracts, and a `rust` block may also occur in
-  an example of rust/sockdiag. A `text` block in a CALLING.md quotes contracts below a line that
-  names the file. Each quoted line has to occur in that file, in the notation of these pages.
+  crates/*/src, or in an example or a test of the package in tools/erased, an `antt` block in one
+  under crates/*/proofs or crates/*/specs, a `c` block in an example, and a `rust,ignore` block in
+  an example under bench/original. Indentation and blank lines are ignored. In a README.md a block
+  may omit the contracts. A `text` block in a CALLING.md quotes contracts below a line that names
+  the file. Each quoted line has to occur in that file, in the notation of these pages.
 - Shell commands are run in a folder with what the page assumes: the programs, the stored capture as
   FILE, a library whose functions return 0. Each command has to end with status 0. If a command
   follows `$ `, standard output has to be the lines that follow it.
@@ -40,16 +40,14 @@ import tables
 import tidy
 
 TOP = tidy.TOP
-DOCUMENTS = ["*.md", "crates/*.md", "crates/*/*.md", "docs/*.md", "rust/*/*.md"]
-# The files that a block of each language may be a copy of, and the examples that a block in a
-# README.md may be a copy of too.
+DOCUMENTS = ["*.md", "crates/*.md", "crates/*/*.md", "docs/*.md"]
+# The files that a block of each language may be a copy of.
 SOURCES = {
-    "rust": ["crates/*/src/**/*.rt"],
+    "rust": ["crates/*/src/**/*.rt", "tools/erased/examples/*.rs", "tools/erased/tests/*.rs"],
     "rust,ignore": ["bench/original/examples/*.rs"],
     "antt": ["crates/*/proofs/**/*.antt", "crates/*/specs/**/*.antt"],
     "c": ["examples/*.[ch]"],
 }
-EXAMPLES = {"rust": ["rust/sockdiag/examples/*.rs"]}
 FENCE = "```"
 # The language of a block that is indented and has no fence.
 INDENTED = "indented"
@@ -74,7 +72,7 @@ NOT_RUN = {
     r"tools/erase ": "tests/erased.py runs it",
     r"tools/vendor ": "it copies results of proofs; tests/vendor.sh runs it",
     r"examples/list_(sockets|rtt)": "it needs the built library; tests/api/c_api.sh runs it",
-    r"(SOCKDIAG_\w+=\S+ )?cargo ": "it needs the built library; tests/api/rust_api.sh runs cargo",
+    r"cargo ": "it takes minutes; tests/api/erased.sh runs cargo",
     r"cc .*tests/api/fuzz_c\.c|out/fuzz_c": "it needs the library; tests/api/c_api.sh runs both",
     r"tests/api/\w+\.sh": "it needs the library; the gate runs it later",
     r"tests/(captures|pages|programs|tables)\.py": "the gate runs them",
@@ -92,7 +90,7 @@ ANSWER = re.compile(r"(ok|refused|unwritable|bad line)\b")
 KERNEL = re.compile(r"sockdump: socket: |dump interrupted")
 # A path in the repository.
 PATH = re.compile(r"(?:\./)?"
-    r"((?:\.ci|bench|crates|docs|examples|include|rust|tests|tools)/[\w./*-]+)")
+    r"((?:\.ci|bench|crates|docs|examples|include|tests|tools)/[\w./*-]+)")
 # A command in the text of a page.
 INLINE = re.compile(r"(\./|\.ci/|bench/|bin/|examples/|tests/|tools/|python3 |rt |make |cargo "
     r"|sslist |sockdiag )")
@@ -194,10 +192,9 @@ def lines_of(patterns, change=lambda text: text):
 def likely_files(language, page):
     """Returns the lines of the files that a block of a page with this name may be a copy of."""
     patterns = SOURCES[language]
-    if page != "README.md":
-        return lines_of(patterns)
-    examples = lines_of(EXAMPLES.get(language, []))
-    return lines_of(patterns) + lines_of(patterns, without_contracts) + examples
+    if page == "README.md":
+        return lines_of(patterns) + lines_of(patterns, without_contracts)
+    return lines_of(patterns)
 
 
 def simple_commands(text):
@@ -315,8 +312,8 @@ def wrong_options(program, rest):
         yield from (f"make has no target {it}" for it in rest[2:] if f"\n{it}:" not in text)
     elif program == "cargo" and "--example" in rest:
         name = rest[rest.index("--example") + 1]
-        if not (TOP / f"rust/sockdiag/examples/{name}.rs").is_file():
-            yield f"rust/sockdiag has no example {name}"
+        if not (TOP / f"tools/erased/examples/{name}.rs").is_file():
+            yield f"tools/erased has no example {name}"
     elif program == "rt" and rest and rt_guides():
         yield from wrong_rt(*rest)
 
@@ -371,7 +368,7 @@ class Folder:
         for name in ("bin", "lib", "out"):
             (self.tree / name).mkdir(parents=True)
         (self.work / "mine/crates/try_it/src").mkdir(parents=True)
-        for name in ("crates", "crates.txt", "include", "man", "rust", "tests", "VERSION"):
+        for name in ("crates", "crates.txt", "include", "man", "tests", "VERSION"):
             (self.tree / name).symlink_to(TOP / name)
         shutil.copytree(TOP / "tools", self.tree / "tools")
         shutil.copytree(TOP / "examples", self.tree / "examples",
@@ -535,15 +532,15 @@ class Checker:
                 yield f"no test prints: {line}"
 
     def check_dependency(self, page, number, lines):
-        """Checks the path of the Cargo crate, in a folder with this repository or a release. It may
-        be a dependency only for the target for which the crate compiles."""
-        path = re.fullmatch(r'sockdiag = \{ path = "(?:\.\./sockdiag|sockdiag-VERSION-x86_64-linux)'
-                            r'/([\w/]+)" \}', lines[-1])
-        manifest = TOP / path[1] / "Cargo.toml" if path else None
-        if not manifest or not manifest.is_file():
-            yield f"no crate at {lines[-1]}"
-        if lines[:-1] not in (["[dependencies]"], [f"[target.'cfg({TARGET})'.dependencies]"]):
-            yield f"not a section of dependencies: {lines[0]}"
+        """Checks that a release has a package at the path of a dependency, or that a command of the
+        page writes one there. Other lines may have overflow checked."""
+        packed = (TOP / "tests/release.txt").read_text("utf-8")
+        path = re.fullmatch(r'sockdiag = \{ path = "(\S+)" \}', "".join(lines[1:2]))
+        is_written = path and f"tools/erase {path[1]}\n" in page.read_text("utf-8")
+        if not path or not is_written and f" {path[1]}/Cargo.toml\n" not in packed:
+            yield f"no crate at {''.join(lines[1:2])}"
+        if lines[2:] not in ([], ["", "[profile.release]", "overflow-checks = true"]):
+            yield f"other lines after the dependency: {lines[2:]}"
 
     def check_names(self, page, number, lines):
         """Checks that public modules and items have the names in a list of imports."""
@@ -584,9 +581,8 @@ class Checker:
                 yield page, number, f"no command prints or writes: {lines[0]}"
 
 
-# The first line of a section of dependencies, and the target of the Cargo crate as a condition.
-DEPENDENCIES = r"\[(target\..*\.)?dependencies\]$"
-TARGET = 'all(target_os = "linux", target_arch = "x86_64")'
+# The first line of a section of dependencies.
+DEPENDENCIES = r"\[dependencies\]$"
 # How the first line of a block of each form begins, and how the block is checked.
 FORMS = {
     INDENTED: {

@@ -1,9 +1,9 @@
 #!/usr/bin/env python3
-"""Compares the public items with three lists in tests/, one for each kind of user:
+"""Compares the public items with two lists in tests/:
 
-    surface.txt         the libraries of crates.txt, for users of Rattle
+    surface.txt         the libraries of crates.txt, for users of Rattle, and of the package that
+                        tools/erase makes of them
     surface_c.txt       include/sockdiag.h
-    surface_rust.txt    the Cargo crate rust/sockdiag
 
     tests/surface.py             prints the differences, and exits with status 1 if there are any
     tests/surface.py --write     writes new lists
@@ -19,7 +19,7 @@ The lists have
   crate declares and no path reaches;
 - constants with their values, and modules;
 - macro calls that declare items, and these macros, with their full text;
-- each `cfg` with the item that it applies to, and `no_std`;
+- each `cfg` with the item that it applies to;
 - of the header also the position of each field in its struct.
 
 A line ends with the names of the clauses, ghost members and invariants, and with a sum of their
@@ -61,9 +61,9 @@ GOES_ON = re.compile(
 )
 # An import, also one in an impl.
 USE = re.compile(r"\buse ([^;]*);")
-# A macro cfg, an attribute cfg and the item that it applies to, or that a crate needs no std.
+# A macro cfg, or an attribute cfg and the item that it applies to.
 OVER = rf"(?: ?#\[.*?\])* (?:{PUB}use [^;]*|[^{{;,=]*)"
-CFG = re.compile(rf"\bcfg!\([^{{;]*|#!?\[cfg(?:_attr)?\b.*?\]{OVER}|#!\[no_std\]")
+CFG = re.compile(rf"\bcfg!\([^{{;]*|#!?\[cfg(?:_attr)?\b.*?\]{OVER}")
 # Attributes that do not concern a caller, or are listed in another way.
 QUIET = re.compile(r"#!?\[(?:tactic|inline|cold|doc|allow|expect|cfg|derive)\b.*")
 # An attribute that exports a function under its name.
@@ -201,7 +201,7 @@ def sum_of(contract, module):
 class Module:
     """A module: its items and imports by name, the modules in it, and its impls."""
 
-    def __init__(self, path, folder, tokens, suffix, parent=None):
+    def __init__(self, path, folder, tokens, parent=None):
         self.path, self.parent = path, parent
         self.root = parent.root if parent else self
         self.items, self.uses, self.globs, self.modules = {}, {}, [], {}
@@ -213,10 +213,10 @@ class Module:
             for path, name in re.findall(r"([^\s,{}]+) as (\w+)", whole)]
         for item in items(tokens, self):
             if item.kind == "mod":
-                inner, file = folder / item.name, folder / f"{item.name}{suffix}"
-                file = file if file.exists() else inner / f"mod{suffix}"
+                inner, file = folder / item.name, folder / f"{item.name}.rt"
+                file = file if file.exists() else inner / "mod.rt"
                 body = [*tokens_of(file)] if item.body is None else item.body
-                child = Module(f"{path}::{item.name}", inner, body, suffix, self)
+                child = Module(f"{path}::{item.name}", inner, body, self)
                 self.modules[item.name] = item.public, child
             elif item.kind == "use":
                 for name, whole in names_of_use(item.head[item.head.index("use") + 1 :]):
@@ -228,7 +228,7 @@ class Module:
                 self.impls.append(item)
             elif item.kind == "macro_rules!":
                 self.macros.append(item)
-            elif item.kind not in ("extern", "ghost", "compile_error!"):
+            elif item.kind not in ("extern", "ghost"):
                 self.items[item.name] = item
 
     def all(self):
@@ -279,11 +279,11 @@ class Module:
 
 
 class Surface:
-    """The lines of one crate, in Rattle or in Rust (`.rs`)."""
+    """The lines of one crate."""
 
-    def __init__(self, folder, suffix=".rt"):
+    def __init__(self, folder):
         source, self.name, self.lines, self.paths = folder / "src", folder.name, [], {}
-        self.root = Module(self.name, source, [*tokens_of(source / f"lib{suffix}")], suffix)
+        self.root = Module(self.name, source, [*tokens_of(source / "lib.rt")])
         for path, found in sorted(self.root.reached(self.name), key=lambda it: order(it[0])):
             self.paths.setdefault(found, []).append(path)
         self.paths = {**self.behind_aliases(), **self.paths}
@@ -445,7 +445,6 @@ def main():
     lists = {
         "surface.txt": [*definition_lines(), *(line for crate in crates for line in crate.lines)],
         "surface_c.txt": header_lines(header, contracts),
-        "surface_rust.txt": Surface(TOP / "rust/sockdiag", ".rs").lines,
     }
     outdated = sum(not is_current(name, lines, writes) for name, lines in lists.items())
     if outdated:

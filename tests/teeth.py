@@ -25,8 +25,7 @@ from pathlib import Path
 from typing import NamedTuple
 
 TOP = Path(__file__).resolve().parent.parent
-# Scripts that others run, which need no row, and scripts that only c_api.sh, rust_api.sh and
-# erased.sh run.
+# Scripts that others run, which need no row, and scripts that only c_api.sh and erased.sh run.
 CALLED = {"tests/over_gate.sh", "tests/stand_in.sh", "tests/api/reply_reader.py"}
 OF_C_API = {"tests/api/compare_libraries.py", "tests/api/compare_replies.sh",
             "tests/api/kernels.py", "tests/api/sockdump.py"}
@@ -50,7 +49,7 @@ if "reply_reader.py make 100000 1" == f"{os.environ['FAILS']} {' '.join(sys.argv
 # The stand-ins, which precede all programs in PATH. The compiler writes stand-ins. Without a
 # library it links only programs without the check of the header.
 STAND_INS = {
-    **dict.fromkeys(("program", "diff", "make", "pkg-config", "rt"), PROGRAM),
+    **dict.fromkeys(("cargo", "diff", "make", "pkg-config", "program", "rt"), PROGRAM),
     "gate/python3": PASSED,
     "cc": """#!/bin/sh
 output= before=
@@ -63,18 +62,6 @@ case "$output $* $FAILS" in
     */alone*) echo sockdiag_abi_ >&2; exit 1 ;;
     *.o\\ *) cat >"$output" ;;
     /*) cp "${0%/*}/program" "$output" ;;
-esac
-""",
-    # Fails to link a library of another version.
-    "cargo": f"""{PROGRAM}
-case "$FAILS $*" in
-    'version '*) ;;
-    'package metadata'*) echo '{{"packages": [{{"links": "other"}}]}}' ;;
-    *' --test version')
-        if grep -q sockdiag_abi_0_0 "$SOCKDIAG_LIB_DIR/libsockdiag.a"; then
-            cat ../../include/sockdiag.h
-            exit 1
-        fi ;;
 esac
 """,
     "nm": '#!/bin/sh\necho "$FAILS"\n', "groff": '#!/bin/sh\necho "$FAILS" >&2\n',
@@ -157,8 +144,8 @@ EDIT = (
     ("tests/edits/netlink_core/planted.edit", None,
      "file: src/error.rt\nold: fn planted() -> u8 {\nnew: fn planted() -> u16 {\n"),
 )
-C_API, RUST_API = "tests/api/c_api.sh", "tests/api/rust_api.sh"
-# What the first one runs after the calls from C.
+C_API, ERASED = "tests/api/c_api.sh", "tests/api/erased.sh"
+# What c_api.sh runs after the calls from C.
 LATER = tuple((it, None, PROGRAM) for it in (
     "tools/install", "tests/api/kernels.py", "tests/api/sockdump.py"))
 # An eraser that writes only a library and a program, which cargo would build.
@@ -193,11 +180,10 @@ STUBS = tuple((it, None, PASSED) for it in (
 CALLS = ("python3 tests/pages.py crates/sockdiag", "python3 tests/tables.py crates/sslist",
          "pictures --check", "bindings --check", "usage --check",
          *(f"python3 {it}" if it.endswith(".py") else Path(it).name
-           for it in SCRIPTS if it not in {RUST_API, *CALLED, *OF_C_API}))
+           for it in SCRIPTS if it not in {ERASED, *CALLED, *OF_C_API}))
 COMPARED = ("tests/api/reply_reader.py", None, READER)
 ROWS = [
-    Row(GATE, ("ci: failed: tests/api/rust_api.sh", *(f"passed: {it}" for it in CALLS)), STUBS,
-        "rust_api.sh"),
+    Row(GATE, (f"ci: failed: {ERASED}", *(f"passed: {it}" for it in CALLS)), STUBS, "erased.sh"),
     Row(GATE, ("ci: failed: rt ci",), STUBS, "rt ci"),
     Row(GATE, ("ci: failed: python3 tests/tidy.py",), STUBS, "python3 tests/tidy.py"),
     Row(GATE, ("ci: failed: tests/edits.py",), STUBS, "python3 tests/edits.py -"),
@@ -205,12 +191,12 @@ ROWS = [
         "planted.edit: occurs 0 times", "docs/PLANTED.md: nowhere.md does not exist",
         "docs/PLANTED.md: tests/nowhere.py does not exist", "tests/planted.py:22: 101 columns",
         "tests/planted.py:1: more than 20 lines as at tests/planted.sh:1",
-        "include/sockdiag.h: 9", "man/sslist.1: .Dd 9", "not the text of LICENSE-MIT",
+        "include/sockdiag.h: 9", "man/sslist.1: .Dd 9",
     ), (
         EDIT[1], ("docs/PLANTED.md", None, "[a](nowhere.md) `tests/nowhere.py`\n"),
         ("tests/planted.py", None, LINES + 101 * "x"), ("tests/planted.sh", None, LINES),
         ("include/sockdiag.h", '#define SOCKDIAG_VERSION "', '#define SOCKDIAG_VERSION "9'),
-        ("man/sslist.1", ".Dd ", ".Dd 9"), ("rust/sockdiag/LICENSE-MIT", "", "planted\n"),
+        ("man/sslist.1", ".Dd ", ".Dd 9"),
     )),
     Row("python3 tests/pages.py $STAND_INS/sockdiag $STAND_INS/sslist", (
         "tests/tidy.py has no option --planted", "rust block is not in any file",
@@ -237,13 +223,11 @@ ROWS = [
     ), "planted::it"),
     Row("python3 tests/surface.py", (
         "+netlink_core::planted: pub fn planted() -> u8; ensures planted; ",
-        "+SOCKDIAG_PLANTED: 1, #define", "+sockdiag::PLANTED: pub const PLANTED: u8 = 1",
-        "3 lists are out of date",
+        "+SOCKDIAG_PLANTED: 1, #define", "2 lists are out of date",
     ), (
         ("crates/netlink_core/src/lib.rt", "",
          "\npub fn planted() -> u8\n    ensures planted { result ≡ 1 }\n{\n    1\n}\n"),
         ("include/sockdiag.h", "", "#define SOCKDIAG_PLANTED 1\n"),
-        ("rust/sockdiag/src/lib.rs", "", "pub const PLANTED: u8 = 1;\n"),
     )),
     Row("python3 tests/imports.py", (
         "crates.txt: netlink_core uses planted",
@@ -286,7 +270,7 @@ ROWS = [
         (("tools/install", "usage: tools/install PREFIX", "planted"),), needs="cc make pkg-config"),
     Row("tools/pictures --check", ("docs/pictures/crates.svg is not up to date",),
         (("docs/pictures/crates.svg", "", "planted\n"),)),
-    Row("tools/bindings --check", ("-planted", "a generated file is out of date"),
+    Row("tools/bindings --check", ("-planted", "include/sockdiag.h is out of date"),
         (("include/sockdiag.h", "", "planted\n"),)),
     Row("tools/usage --check", ("tests/help/sslist is out of date",),
         (("tests/help/sslist", "", "planted\n"),)),
@@ -298,17 +282,6 @@ ROWS = [
         (("crates/sockdiag_c/src/version.rt", "/// Returns the version", "/// Planted"),)),
     Row("python3 tests/bindings.py", ("tests/bindings.py: failed", "planted"),
         (("examples/list_rtt.c", "", "planted;\n"),), needs="cc"),
-    Row("python3 tests/bindings.py", ("planted: cargo check --examples",), (), "cargo check *"),
-    Row("python3 tests/bindings.py", ("planted: cargo doc",), (), "cargo doc *"),
-    Row("python3 tests/bindings.py", (
-        "the package does not name the library", "the package lacks build.rs", "links []",
-        "another module than sys may have unsafe code", "the crate may allocate",
-        "a buffer that C writes is not mutable",
-    ), (
-        ("rust/sockdiag/src/lib.rs", "\n#![deny(unsafe_code)]", "\n#![warn(unsafe_code)]"),
-        ("rust/sockdiag/src/lib.rs", "#![no_std]", ""),
-        ("rust/sockdiag/src/sys.rs", "", "// *mut u8\n"),
-    ), "package"),
     *(Row("python3 tests/edits.py tests/edits/netlink_core/planted.edit",
           (f"planted.edit: not rejected: error::planted, status {status}",),
           (*EDIT, ("tests/over_gate.sh", None, f"#!/bin/sh\necho '{said}'\nexit {status}\n")), "")
@@ -335,11 +308,6 @@ ROWS = [
     Row(C_API, ("planted: reply_reader.py make 100000 1",), (LIBRARY, COMPARED), "reply_reader.py"),
     Row("tests/api/compare_replies.sh 1", ("the reader's lines (<) and those of the library (>)",),
         (LIBRARY,), ""),
-    Row("tests/api/compare_replies.sh 1", ("planted: cargo test",), (LIBRARY, COMPARED),
-        "cargo test * beside_reader"),
-    *(Row(RUST_API, (f"planted: {it}",), (LIBRARY,), it)
-      for it in ("cargo test --offline --test changed_bytes", "cargo test --offline")),
-    Row(RUST_API, ("a library of another version was linked",), (LIBRARY,), "version", "ar"),
     Row("python3 tests/erased.py", ("crates/netlink_core/src/nla.rt: = MAX_VALUE_LEN",
                                     "tools/erase accepts impl<T> A for &T {}"), (
         ("tools/erase", "    return documentation + head_of(s)",
@@ -349,10 +317,10 @@ ROWS = [
     )),
     Row("python3 tests/erased.py", ("the attribute must_use is not known",),
         (("crates/netlink_core/src/lib.rt", "", "\n#[must_use]\npub fn planted() {}\n"),)),
-    *(Row("tests/api/erased.sh", (f"planted: {it.split(' *')[0]}",), (LIBRARY, *ERASER), it, "ar")
+    *(Row(ERASED, (f"planted: {it.split(' *')[0]}",), (LIBRARY, *ERASER), it, "ar")
       for it in ("cargo build *", "cargo test --offline", "cargo test * --features alloc *",
                  "cargo clippy --offline *", "kernels.py *", "c_api.sh", "compare_libraries.py *")),
-    Row("tests/api/erased.sh", ("sockdiag/stdin differ",), ERASER, "sockdiag", "ar"),
+    Row(ERASED, ("sockdiag/stdin differ",), ERASER, "sockdiag", "ar"),
     Row("sh libraries.sh tests/api/compare_libraries.py",
         ("sockdiag_version: the first difference at call 1: 0 and 1", ": 1 differ"), (LIBRARIES,),
         needs="cc"),

@@ -17,7 +17,8 @@ CODE = {".rt", ".antt", ".py", ".sh", ".c", ".h"}
 # Allowed number of consecutive equal lines of two files.
 MOST_EQUAL = 20
 # The pages of a release in which a path in code marks may be one of the sources.
-ABOUT_SOURCES = {"CHANGELOG.md", "docs/GLOSSARY.md", "docs/MIGRATING.md", "docs/PROMISES.md"}
+ABOUT_SOURCES = {"CHANGELOG.md", "docs/ERASED.md", "docs/GLOSSARY.md", "docs/MIGRATING.md",
+                 "docs/PROMISES.md"}
 COLUMNS = 100
 LINK = re.compile(r"\[[^\]]*\]\(([^)\s]+)\)")
 # A path from the top of the repository, or from the page's folder, in code marks. NAME, CRATE and
@@ -35,7 +36,6 @@ VERSIONS = {
     "crates/sock_diag_lines/src/lib.rt": r'(?m)^pub const VERSION: &str = "([^"]*)";$',
     "examples/sockdump.c": r'(?m)^#define VERSION "([^"]*)"$',
     "include/sockdiag.h": r'(?m)^#define SOCKDIAG_VERSION "([^"]*)"$',
-    "rust/sockdiag/Cargo.toml": r'(?m)^version = "([^"]*)"$',
     "tools/erased/Cargo.toml": r'(?m)^version = "([^"]*)"$',
     "tools/erased/c/Cargo.toml": r'(?m)^version = "([^"]*)"$',
 }
@@ -112,15 +112,12 @@ def broken_links(top, files):
 
 
 def wrong_versions(files):
-    """Yields the files that have another version than VERSION, or another licence."""
+    """Yields the files that have another version than VERSION."""
     version = (TOP / "VERSION").read_text(encoding="utf-8").strip()
     for name, pattern in VERSIONS.items():
         found = re.search(pattern, files[name])
         if not found or found[1] != version:
             yield f"{name}: {found[1] if found else 'no version'}, expected {version}"
-    # Cargo packs the files below rust/sockdiag only, so the crate has the licence once more.
-    if (TOP / "rust/sockdiag/LICENSE-MIT").read_bytes() != (TOP / "LICENSE-MIT").read_bytes():
-        yield "rust/sockdiag/LICENSE-MIT: not the text of LICENSE-MIT"
 
 
 def wrong_dates(files):

@@ -1,7 +1,7 @@
 """The declarations of the C library, as crates/sockdiag_c and the crates below it have them.
 
-tools/bindings writes the header and the Rust declarations from these. Doc comments are copied as
-documentation; no name, number or type is taken from a comment.
+tools/bindings writes the header from these. Doc comments are copied as documentation; no name,
+number or type is taken from a comment.
 """
 
 import re
@@ -10,14 +10,14 @@ from pathlib import Path
 from typing import NamedTuple
 
 CRATES = Path(__file__).resolve().parent.parent / "crates"
-# Records that C gets as byte arrays: by the length of the array, the struct of the bindings, the
+# Records that C gets as byte arrays: by the length of the array, the struct of the header, the
 # record with its fields, and the struct whose comments document the fields.
 RECORDS = {
     "TCP_INFO_LEN": ("TcpInfo", "inet/tcp_info.rt", "TcpInfo"),
     "MEM_INFO_LEN": ("InetMemory", "inet/mem_info.rt", "Memory"),
 }
 # Structs with the fields of an enum, which C gets as byte arrays too: by the length of the array,
-# the struct of the bindings, its documentation, the enum, and the struct with its first fields.
+# the struct of the header, its documentation, the enum, and the struct with its first fields.
 FIELD_STRUCTS = {
     "LONG_TCP_INFO_LEN": (
         "LongTcpInfo",
@@ -38,19 +38,6 @@ FIELD_FILES = {"TcpField": "tcp_info.rt", "MptcpField": "mptcp_info.rt"}
 TYPES = {1: "u8", 2: "u16", 4: "u32", 8: "u64"}
 # Variants of `DecodeError` that no call returns.
 NOT_RETURNED = {"Memory"}
-# The fields of `DecodeError` and of `RecordName`, which have no comments: their documentation, and
-# the value that `ErrorDetails` has for them, without its type.
-ERROR_FIELDS = {
-    "which": ("Record that has too few bytes.", "RecordName::from_details(details)?"),
-    "family": ("Address family.", "details.family"),
-    "kind": ("Kind of the attribute.", "details.kind"),
-    "got": ("Number of bytes that were found.", "details.got"),
-    "need": ("Number of bytes that are needed.", "details.need"),
-    "message_type": ("Message type (`nlmsg_type`).", "details.message_type"),
-    "left": ("Number of bytes that are left.", "details.got"),
-    "length": ("Length field, in bytes.", "details.length"),
-    "index": ("Index of the first NUL.", "details.index"),
-}
 # The parts of `#[error]` texts that need other words if their values are left out.
 WITHOUT_VALUES = {
     "{which}: ": "",
@@ -63,15 +50,15 @@ WITHOUT_VALUES = {
     " at {index}": "",
 }
 DOC = r"((?:^ *///[^\n]*\n)*)"
-STRUCT = re.compile(DOC + r"((?:^#\[.*\]\n)*)^pub struct (\w+)(<'a>)? \{\n((?s:.*?))^\}", re.M)
+STRUCT = re.compile(DOC + r"((?:^#\[.*\]\n)*)^pub struct (\w+)(?:<'a>)? \{\n((?s:.*?))^\}", re.M)
 FIELD = re.compile(DOC + r"^    pub (\w+): (.*),$", re.M)
 FUNCTION = re.compile(
-    DOC + r'((?:^#\[.*\]\n)*)^pub extern "C" fn (\w+)(<\'a>)?\(((?s:.*?))\)(?: -> (\w+))?\s*\n',
+    DOC + r'((?:^#\[.*\]\n)*)^pub extern "C" fn (\w+)(?:<\'a>)?\(((?s:.*?))\)(?: -> (\w+))?\s*\n',
     re.M,
 )
-CONSTANT = re.compile(DOC + r"^pub(?:\(crate\))? const (\w+): (\w+) = (\S+);$", re.M)
-VARIANT = re.compile(DOC + r'^    #\[error\("(.*)"\)\]\s+(\w+)(?: \{((?s:.*?))\})?,', re.M)
-PLAIN_VARIANT = re.compile(DOC + r"^    (\w+)(?: \{(.*?)\})?,$", re.M)
+CONSTANT = re.compile(DOC + r"^pub(?:\(crate\))? const (\w+): \w+ = (\S+);$", re.M)
+VARIANT = re.compile(DOC + r'^    #\[error\("(.*)"\)\]\s+(\w+)(?: \{(?s:.*?)\})?,', re.M)
+PLAIN_VARIANT = re.compile(DOC + r"^    (\w+)(?: \{.*?\})?,$", re.M)
 SPAN = re.compile(r"\w+Field::(\w+) => \((\d+), (\d+)\),")
 BITS = re.compile(r"\w+Field::(\w+) => Some\(\((\d+), (\w+)\)\),")
 BIT = re.compile(r"SocketOption::(\w+) => (\d+),")
@@ -96,12 +83,10 @@ class Field(NamedTuple):
 
 
 class Struct(NamedTuple):
-    """A struct. It is public if it is one of another crate, which users of both know."""
+    """A struct with the layout of C."""
 
     name: str
-    lifetime: str
     fields: list
-    is_public: bool
     doc: list
 
 
@@ -109,7 +94,6 @@ class Function(NamedTuple):
     """An exported function, with its parameters as the source has them."""
 
     name: str
-    lifetime: str
     parameters: list
     answer: str
     doc: list
@@ -119,27 +103,23 @@ class Constant(NamedTuple):
     """A constant, with its value as it is written."""
 
     name: str
-    kind: str
     value: str
     doc: list
 
 
 class Variant(NamedTuple):
-    """A variant of an enum, with its number: a code, a bit, or an offset."""
+    """A variant of an enum, with its number: a code or a bit."""
 
     name: str
     number: str
-    fields: list
     doc: list
 
 
 class DecodeError(NamedTuple):
-    """A decode error, with its code, its text as a format string, and its text without values."""
+    """A decode error, with its code and its text without values."""
 
     name: str
     code: str
-    fields: list
-    shown: str
     text: str
     doc: list
 
@@ -180,26 +160,24 @@ def parameters_of(text):
 
 
 def passed(parameters):
-    """Yields the parameters of a function in C, each with its value in Rust. A slice is a pointer
-    and a length. The length of the first one is `length`, of a later one `NAME_length`."""
+    """Yields the parameters of a function in C. A slice is a pointer and a length. The length of
+    the first one is `length`, of a later one `NAME_length`."""
     slices = 0
     for it in parameters:
         part = re.fullmatch(r"&(?:'a )?(mut )?\[u8\]", it.kind)
         if part:
-            call = "as_mut_ptr" if part[1] else "as_ptr"
-            yield Field(it.name, f"&{part[1] or ''}u8"), f"{it.name}.{call}()"
-            length = f"{it.name}_length" if slices else "length"
-            yield Field(length, "usize"), f"{it.name}.len()"
+            yield Field(it.name, f"&{part[1] or ''}u8")
+            yield Field(f"{it.name}_length" if slices else "length", "usize")
             slices += 1
         else:
-            yield it, it.name
+            yield it
 
 
-def structs_in(text, is_public):
+def structs_in(text):
     """Yields each struct that has the layout of C."""
-    for comment, attributes, name, lifetime, body in STRUCT.findall(text):
+    for comment, attributes, name, body in STRUCT.findall(text):
         if "#[repr(C)]" in attributes:
-            yield Struct(name, lifetime, [*fields_of(body)], is_public, doc_of(comment))
+            yield Struct(name, [*fields_of(body)], doc_of(comment))
 
 
 def constants_in(text):
@@ -211,20 +189,14 @@ def snake(name):
     return re.sub(r"(?<=[a-z0-9])(?=[A-Z])", "_", name).lower()
 
 
-def variant_fields(body):
-    """Returns the fields of a variant, with the documentation of ERROR_FIELDS."""
-    found = re.findall(r"(\w+): ([^,{}]+?)\s*(?:,|$)", body.strip())
-    return [Field(name, kind, [ERROR_FIELDS[name][0]]) for name, kind in found]
-
-
 def decode_errors():
     """Yields each decode error that a call returns."""
     text = text_of(CRATES / "netlink_core/src/error.rt")
     codes = dict(CODE.findall(code_of(text)))
-    for comment, shown, name, body in VARIANT.findall(text):
+    for comment, shown, name in VARIANT.findall(text):
         if name not in NOT_RETURNED:
-            doc, fields = summary(doc_of(comment)), variant_fields(body)
-            yield DecodeError(name, codes[name], fields, shown, without_values(shown), doc)
+            doc = summary(doc_of(comment))
+            yield DecodeError(name, codes[name], without_values(shown), doc)
 
 
 def enum_in(text, name):
@@ -236,28 +208,26 @@ def record_names():
     """Yields the records of decode errors, with their numbers in C."""
     numbers = dict(RECORD.findall(text_of(CRATES / "sockdiag_c/src/error_details.rt")))
     text = enum_in(text_of(CRATES / "netlink_core/src/error.rt"), "RecordName")
-    for comment, name, body in PLAIN_VARIANT.findall(text):
-        yield Variant(name, numbers[name], variant_fields(body), doc_of(comment))
+    for comment, name in PLAIN_VARIANT.findall(text):
+        yield Variant(name, numbers[name], doc_of(comment))
 
 
 def socket_options():
     """Yields the options of a socket, with their bits."""
     text = text_of(CRATES / "sock_diag_extras/src/options.rt")
     bits = dict(BIT.findall(code_of(text)))
-    for comment, name, _ in PLAIN_VARIANT.findall(enum_in(text, "SocketOption")):
-        yield Variant(name, bits[name], [], doc_of(comment))
+    for comment, name in PLAIN_VARIANT.findall(enum_in(text, "SocketOption")):
+        yield Variant(name, bits[name], doc_of(comment))
 
 
 def struct_fields(enum):
-    """Yields the fields of a struct of the kernel, the variants of an enum, with their offsets. The
-    only field of each is its type."""
+    """Yields the fields of a struct of the kernel, the variants of an enum, with their offsets."""
     text = text_of(CRATES / "sock_diag_extras/src" / FIELD_FILES[enum])
     spans = {it[0]: it[1:] for it in SPAN.findall(code_of(text))}
     bits = {it[0]: it[1:] for it in BITS.findall(code_of(text))}
-    for comment, name, _ in PLAIN_VARIANT.findall(enum_in(text, enum)):
-        offset, width = spans[name]
-        field = Field(snake(name), TYPES[int(width)], bits=bits.get(name, ()))
-        yield Variant(name, offset, [field], doc_of(comment))
+    for comment, name in PLAIN_VARIANT.findall(enum_in(text, enum)):
+        offset, width = map(int, spans[name])
+        yield Field(snake(name), TYPES[width], doc_of(comment), bits.get(name, ())), offset
 
 
 def without_values(text):
@@ -280,9 +250,7 @@ class Library:
         headers = text_of(records / "inet/response.rt", records / "unix/response.rt")
         self.code = code_of(text)
         self.constants = constants_in(text + shared + headers)
-        self.structs = {it.name: it for it in structs_in(text, False)}
-        self.structs |= {it.name: it for it in structs_in(shared, True)}
-        self.structs = {name: self.with_lengths(it) for name, it in self.structs.items()}
+        self.structs = {it.name: self.with_lengths(it) for it in structs_in(text + shared)}
         self.sizes = dict(SIZE.findall(self.code))
         for length, (name, path, documented) in RECORDS.items():
             self.structs[name] = self.record(length, name, path, documented)
@@ -310,34 +278,33 @@ class Library:
         self.sizes[name] = self.constants[length].value
         fields = [*self.structs[first].fields] if first else []
         found = [*struct_fields(enum)]
-        fields += [it.fields[0]._replace(doc=it.doc) for it in found[len(fields):]]
+        fields += [field for field, _ in found[len(fields):]]
         offsets = self.layout(fields)
-        for field, it in zip(fields, found, strict=True):
-            own = (field.name, field.kind, str(offsets[field.name]))
-            if own != (*it.fields[0][:2], it.number):
+        for field, (it, offset) in zip(fields, found, strict=True):
+            if (field.name, field.kind, offsets[field.name]) != (it.name, it.kind, offset):
                 sys.exit(f"{field.name} of {name} is not {it.name} of {enum}")
-        return Struct(name, "", fields, False, [doc])
+        return Struct(name, fields, [doc])
 
     def record(self, length, name, path, documented):
         """Returns the struct of a record that C gets as a byte array. Each byte of the array belongs
         to a field, so a field that may be absent is a number here."""
         text = re.sub(r"Option<(\w+)>", r"\1", text_of(CRATES / "sock_diag_values/src" / path))
         self.sizes[name] = constants_in(text)[length].value
-        comment, _, own, _, body = STRUCT.search(text).groups()
+        comment, _, own, body = STRUCT.search(text).groups()
         fields = [*fields_of(body)]
         if documented != own:
             docs = {field.name: field.doc for field in self.structs[documented].fields}
             fields = [field._replace(doc=docs[field.name]) for field in fields]
-        return Struct(name, "", fields, documented == own, doc_of(comment))
+        return Struct(name, fields, doc_of(comment))
 
-    def function(self, comment, attributes, name, lifetime, inside, answer):
+    def function(self, comment, attributes, name, inside, answer):
         if "#[unsafe(no_mangle)]" not in attributes:
             sys.exit(f"{name} is not exported")
         parameters = [*parameters_of(inside)]
-        kinds = [it.kind for it, _ in passed(parameters)]
+        kinds = [it.kind for it in passed(parameters)]
         for kind in [*kinds, *([answer] if answer else [])]:
             self.size_and_align(re.sub(r"^&(mut )?", "", kind))
-        return Function(name, lifetime, parameters, answer, doc_of(comment))
+        return Function(name, parameters, answer, doc_of(comment))
 
     def number(self, name):
         """Returns the value of a constant, or the number of bytes that a function writes, or the
@@ -361,7 +328,7 @@ class Library:
             return offsets["the end"], offsets["the alignment"]
         number = re.fullmatch(r"[iu](8|16|32|64)", kind)
         if not number and kind not in ("usize", "&u8"):
-            sys.exit(f"the bindings have no type for {kind}")
+            sys.exit(f"the header has no type for {kind}")
         size = int(number[1]) // 8 if number else 8
         return size, size
 

@@ -71,7 +71,7 @@ def parameter(it, counts):
 def call(library, at, function):
     """Returns the C function that makes a call, and its row in the table."""
     counts, found = {"inputs": 0, "structs": 0, "is_buffer": False}, []
-    for it, _ in passed(function.parameters):
+    for it in passed(function.parameters):
         found.append(parameter(it, counts))
         counts["is_buffer"] = it.kind == "&mut u8"
     types, values = (", ".join(it[part] for it in found) for part in (0, 1))

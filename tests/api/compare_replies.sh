@@ -2,9 +2,8 @@
 # compare_replies.sh [COUNT [SEED]]: compares what the strict and the lenient calls of the C library
 # return, and the errors with their fields, with what reply_reader.py reads from the same replies:
 # a reply for each row of the table "Odd replies" of docs/C.md and each family, COUNT replies that
-# it makes (100000 by default), and every prefix of each stored reply. Then compares rust/sockdiag
-# with the reader, if cargo is installed. Prints a line for each comparison, or the first lines that
-# differ. c_api.sh runs it.
+# it makes (100000 by default), and every prefix of each stored reply. Prints a line about the
+# comparison, or the first lines that differ. c_api.sh runs it.
 #
 # The library is libsockdiag.a or libsockdiag_c.a of the folder SOCKDIAG_LIB_DIR, or the one that
 # crates/sockdiag_c has built. CFLAGS are flags for the compiler, -fsanitize=address,undefined by
@@ -47,10 +46,3 @@ total=$(wc -l <"$work/replies")
 echo "compare_replies: $odd odd replies, $count with seed $seed and" \
     "$((total - odd - count)) prefixes of stored ones, all equal: $whole accepted," \
     "$rejected without a header, $((total - whole - rejected)) with rejected attributes"
-
-command -v cargo >/dev/null || exit 0
-cd "$top/rust/sockdiag"
-export SOCKDIAG_LIB_DIR="$folder" SOCKDIAG_REPLIES="$work/replies"
-SOCKDIAG_ANSWERS="$work/expected" cargo test --offline --quiet --test beside_reader >"$work/log" \
-    2>&1 || { tail -n 20 "$work/log"; exit 1; }
-echo "compare_replies: the same with rust/sockdiag"

@@ -20,8 +20,8 @@ of `struct sockdiag_error_details` in the order of the header, separated by slas
 
 The tables are written from sock_diag(7), linux/unix_diag.h, linux/inet_diag.h, linux/sock_diag.h,
 linux/netlink_diag.h, linux/packet_diag.h, linux/vm_sockets_diag.h, linux/xdp_diag.h and the pages
-in docs. The reader shares no code with the crates. compare_replies.sh compares its
-answers with those of tests/api/print_replies.c and of rust/sockdiag.
+in docs. The reader shares no code with the crates. compare_replies.sh compares its answers with
+those of tests/api/print_replies.c.
 """
 
 import random
