@@ -9,8 +9,9 @@
 #   path of an archive is replaced. CDPATH has no effect.
 # - The command of INSTALL.md unpacks the archive of proof results over the sources, and changes no
 #   file of them.
-# - The archive for users and the packages have no broken link. The archive's examples in C and Rust
-#   can be built, but not with a library of another version, and its Rust crate can be packaged.
+# - The archive for users and the packages have no broken link. The archive's examples in C can be
+#   built, but not with a library of another version. Its package for Rust can be compiled, and so
+#   can a program that depends on it as INSTALL.md says.
 # - lintian reports no error and no warning for the packages, with and without a maintainer.
 # - The packages can be installed into another root and removed from it (skipped without root).
 # - tools/pack fails, and leaves no file, if a file or the date of the version is missing, or the
@@ -61,12 +62,12 @@ objcopy --redefine-sym "$abi=sockdiag_abi_0_0" built/libsockdiag_c.a other/libso
 # has two names. An archive has it twice.
 for copy in one 'elsewhere/a tree'; do
     mkdir -p "$copy"
-    (cd "$top" && tar -c --exclude=target --exclude=Cargo.lock --exclude=__pycache__ docs examples \
-        include man rust tools CHANGELOG.md INSTALL.md LICENSE-MIT LICENSE-PORTED \
+    (cd "$top" && tar -c --exclude=target --exclude=Cargo.lock --exclude=__pycache__ crates/*/src \
+        docs examples include man tools CHANGELOG.md INSTALL.md LICENSE-MIT LICENSE-PORTED \
         LICENSE-UNICODE LICENSES.md README.md SECURITY.md VERSION) |
         tar -x -C "$copy"
-    mkdir -p "$copy/rust/sockdiag/target/debug"
-    for file in rust/sockdiag/target/debug/it rust/sockdiag/Cargo.lock docs/NOTES.md; do
+    mkdir -p "$copy/tools/erased/target/debug"
+    for file in tools/erased/target/debug/it tools/erased/Cargo.lock docs/NOTES.md; do
         echo 'not packed' >"$copy/$file"
     done
     for crate in netlink_core program_streams; do
@@ -103,6 +104,8 @@ ln -s "$work/unchanged" "second/$users.tar.gz"
 diff -r first second || fail "two trees are not packed to the same bytes"
 [ "$(cat unchanged)" = unchanged ] || fail "the file of a link is changed"
 (cd first && cat ./*.sha256 | sha256sum -c --quiet) || fail "a sum is wrong"
+# The package for Rust takes some seconds to write. From here on it has one file.
+printf '#!/bin/sh\nmkdir "$1" && touch "$1/Cargo.toml"\n' >one/tools/erase
 
 # The sources, with an archive and without proof results.
 proofs=sockdiag-$version-proofs.tar.gz
@@ -184,11 +187,18 @@ if has make; then
     ! has pkg-config || PKG_CONFIG_PATH=$work/prefix/lib/pkgconfig make -s -C "$work/examples"
 fi
 if has cargo; then
-    (cd rust/sockdiag && unset SOCKDIAG_LIB_DIR && export CARGO_TARGET_DIR="$work/target" &&
-        cargo build --offline --quiet --example list_sockets &&
-        SOCKDIAG_LIB_DIR="$unpacked/lib" cargo package --offline --quiet &&
-        not_linked Rust env SOCKDIAG_LIB_DIR="$work/other" \
-            cargo build --offline --quiet --release --example list_sockets)
+    export CARGO_TARGET_DIR="$work/target"
+    (cd rust && cargo check --offline --quiet --all-targets &&
+        cargo check --offline --quiet --package sockdiag_c)
+    cd ..
+    mkdir src
+    echo 'fn main() { println!("{}", sockdiag::DecodeError::Memory); }' >src/main.rs
+    {
+        printf '[package]\nname = "program"\nedition = "2021"\n'
+        sed -n "/^\`\`\`toml$/,/^\`\`\`$/ { /^\`/d; s/VERSION/$version/; p; }" "$top/INSTALL.md"
+    } >Cargo.toml
+    grep -q rust Cargo.toml || fail "INSTALL.md has no dependency"
+    cargo check --offline --quiet
 fi
 cd "$work"
 
@@ -322,6 +332,9 @@ packs_nothing() {
 SOURCE_DATE_EPOCH=x packs_nothing 'with a wrong time' 2
 ! has dpkg-deb || DEBEMAIL='a
 b' packs_nothing 'with a wrong address' 2
+printf '#!/bin/sh\nexit 1\n' >one/tools/erase
+packs_nothing 'without the package for Rust' 1
+printf '#!/bin/sh\nmkdir "$1"\n' >one/tools/erase
 mv one/docs/LINES.md one/docs/OTHER.md
 packs_nothing 'without a page' 1
 mv one/docs/OTHER.md one/docs/LINES.md
