@@ -430,7 +430,7 @@ fn requests_that_are_not_writable() {
     let socket_id = SocketId::new_v4();
     let request = InetRequest { family: 2, protocol: 6, extensions, states, socket_id };
     let attributes = &[RequestAttribute::Program(&[0; 65_532])];
-    assert_not_writable(&RequestWithAttributes { header: header.clone(), request, attributes });
+    assert_not_writable(&RequestWithAttributes { header, request, attributes });
     // The name has 65,531 bytes without its terminating NUL.
     let name = unix::nlas::UnixDiagName::Pathname(vec![1; 65_531]);
     let nlas = [unix::nlas::Nla::Name(name)].into();

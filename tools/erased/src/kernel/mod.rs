@@ -119,7 +119,8 @@ impl<C: Connection, O: FnMut() -> io::Result<C>> Kernel<O> {
 
     /// Requests all sockets that the request selects, and returns the replies when the dump has
     /// ended. Sets the sequence number of the request, and its flags `NLM_F_REQUEST`, `NLM_F_DUMP`
-    /// and `NLM_F_ACK`. The kernel acknowledges no dump, but `SOCK_DESTROY`, which has no end.
+    /// and `NLM_F_ACK`. The kernel does not acknowledge a dump. It acknowledges `SOCK_DESTROY`, to
+    /// which no other answer would be received.
     ///
     /// A dump that was interrupted, or of which data was lost, is requested again, each time on
     /// another socket: the rest of the answer is not received there. Sockets that open or close

@@ -47,7 +47,7 @@ impl<I: NetlinkSerializable> Request for NetlinkMessage<I> {
         let header = NetlinkHeader {
             length: bytes.len() as u32,
             message_type: self.payload.message_type(),
-            ..self.header.clone()
+            ..self.header
         };
         header.write_fields(&mut bytes[..NETLINK_HEADER_LEN]);
         Ok(bytes)
