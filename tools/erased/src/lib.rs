@@ -1,5 +1,46 @@
 //! Messages of sock_diag(7): the proved sources of sockdiag without their contracts.
 //!
+//! The crate works on bytes: it serializes requests, and parses what the kernel answers.
+//!
+//! ```
+//! use sockdiag::unix::{ShowFlags, StateFlags, UnixRequest};
+//! use sockdiag::{DumpViews, NLM_F_DUMP, NLM_F_REQUEST, NetlinkHeader, NetlinkMessage};
+//! use sockdiag::{PayloadView, SockDiagMessage, SockDiagView};
+//!
+//! // A request for the names of all UNIX sockets.
+//! let request = UnixRequest {
+//!     state_flags: StateFlags::every_state(),
+//!     inode: 0,
+//!     show_flags: ShowFlags::NAME,
+//!     cookie: [0xff; 8],
+//! };
+//! let header = NetlinkHeader { flags: NLM_F_REQUEST | NLM_F_DUMP, ..Default::default() };
+//! let mut message = NetlinkMessage::new(header, SockDiagMessage::UnixRequest(request).into());
+//! message.finalize();
+//! let mut bytes = vec![0; message.buffer_len()];
+//! message.serialize(&mut bytes);
+//! assert_eq!(bytes.len(), 40);
+//!
+//! // A datagram of the answer, with one socket.
+//! let datagram = b"\x28\0\0\0\x14\0\x02\0\0\0\0\0\0\0\0\0\
+//!     \x01\x01\x0a\0\x4e\0\0\0\x01\0\0\0\0\0\0\0\x07\0\0\0/a\0\0";
+//! for payload in DumpViews::new(datagram) {
+//!     match payload? {
+//!         PayloadView::InnerMessage(SockDiagView::UnixResponse(reply)) => {
+//!             println!("{} {:?}", reply.header().inode, reply.name());
+//!         }
+//!         PayloadView::Done(_) => break,
+//!         _ => {}
+//!     }
+//! }
+//! # Ok::<(), sockdiag::DecodeError>(())
+//! ```
+//!
+//! Owned replies, such as [`unix::UnixResponse`], have the names and methods of
+//! `netlink-packet-sock-diag`. Views, such as [`unix::UnixResponseView`], borrow the bytes. A
+//! [`DumpReader`] collects the replies of several datagrams, and a [`LossyDump`] continues after
+//! invalid ones.
+//!
 //! # Preconditions
 //!
 //! The proofs show that every function returns, for all inputs that it permits. Most functions

@@ -106,6 +106,7 @@ fn messages_are_compared_cloned_and_read_again() {
     };
     reply.nlas[0] = Nla::Name(UnixDiagName::Abstract(vec![1, 2]));
     assert_eq!(reply.name(), Some(&UnixDiagName::Abstract(vec![1, 2])));
+    assert_eq!(other.clone(), other);
     assert_ne!(one, other);
     assert_eq!(one, message(UNIX));
     let (header, payload) = one.clone().into_parts();
@@ -180,9 +181,7 @@ fn compare_lists(mut random: u64, most: usize) {
     assert!(list.clone().into_iter().rev().eq(vec.clone().into_iter().rev()));
     assert_eq!(list.clone().into_iter().len(), vec.len());
     assert!(list.iter().eq(&vec) && (&list).into_iter().eq(&vec));
-    for nla in &mut list {
-        *nla = Nla::Shutdown(1);
-    }
+    (&mut list).into_iter().for_each(|nla| *nla = Nla::Shutdown(1));
     let count = vec.len();
     assert_eq!(list, smallvec![Nla::Shutdown(1); count]);
     assert_eq!(format!("{list:?}"), format!("{:?}", list.as_slice()));

@@ -226,7 +226,7 @@ fn records_need_their_length() {
 
 #[test]
 fn numbers_need_their_bytes() {
-    let bytes = b"\x05\0\x01\0\x07\0\0\0\x04\0\x03\0\x0d\0\x02\0123456789";
+    let bytes = b"\x05\0\x01\0\x07\0\0\0\x04\0\x03\0\x0d\0\x02\x00123456789";
     let nested = NestedNlas::parse(bytes).unwrap();
     assert_eq!((nested.number_of(1, 1), nested.number_of(3, 0)), (Ok(Some(7)), Ok(Some(0))));
     assert!(nested.number_of(1, 9).is_err());
@@ -243,6 +243,11 @@ fn numbers_need_their_bytes() {
         write_u64s(&[1], &mut [0; 9]),
         write_u16s_be(&[1], &mut [0; 1]),
     );
-    let mut full: SmallVec<Nla, 8> = std::iter::repeat_with(|| Nla::Peer(1)).take(8).collect();
-    assert_panics!(full.push_reserved(Nla::Peer(2)));
+    for count in [8, 9] {
+        let mut full: SmallVec<Nla, 8> = smallvec![Nla::Peer(1); count];
+        while full.len() < full.capacity() {
+            full.push_reserved(Nla::Peer(2));
+        }
+        assert_panics!(full.push_reserved(Nla::Peer(3)));
+    }
 }
