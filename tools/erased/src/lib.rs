@@ -1,6 +1,7 @@
 //! Messages of sock_diag(7): the proved sources of sockdiag without their contracts.
 //!
-//! The crate works on bytes: it serializes requests, and parses what the kernel answers.
+//! The crate works on bytes: it serializes requests, and parses what the kernel answers. The module
+//! `kernel` sends requests and receives answers.
 //!
 //! ```
 //! use sockdiag::unix::{ShowFlags, StateFlags, UnixRequest};
@@ -46,7 +47,7 @@
 //! The proofs show that every function returns, for all inputs that it permits. Most functions
 //! permit all inputs. Those in the table do not, and rustc does not check their conditions. If a
 //! caller breaks a condition, the function panics, or returns or writes a wrong number. The
-//! behaviour is never undefined: the package has no unsafe code except in the functions for C.
+//! behaviour is never undefined: all of these functions are safe code.
 //!
 //! | function | condition | test, or function without the condition | if it is broken |
 //! |---|---|---|---|
