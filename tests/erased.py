@@ -56,6 +56,8 @@ CHANGES = [
     (r"\(", r"_?alloc(?: : Global)?(?= \))|\$ alloc(?= \))", ""),
     (r"\( \$", r"alloc (?:: expr )?, \$", ""),
     (r"\(", r"self \. alloc ,", ""),
+    (r"\(", r"\* \w+ \. allocator \( \) ,", ""),
+    (" let", r"alloc = \* \w+ \. allocator \( \) ; let", ""),
     (r"vec ! \[|format ! \(", "in alloc ;", ""),
     ("MadeWith", "< Global >", ""),
     ("", "use std :: alloc :: Global ;", ""),
@@ -65,6 +67,7 @@ CHANGES = [
     # Functions that allocate, and may fail unlike those of Rust with the same name.
     (r"\.", "push", "try_push"),
     (r"\.", "push_str", "try_push_str"),
+    (r"\.", "insert", "try_insert"),
     (r"\.", "extend_from_slice", "try_extend_from_slice"),
     (r"\.", "resize", "try_resize"),
     (r"\.", "reserve", "try_reserve"),
@@ -83,6 +86,8 @@ CHANGES = [
     # Other names.
     ("=", "prove(?= ! )", "assert"),
     ("Ipv[46]Addr ::", "from_octets|from_segments", "from"),
+    ("", "IpAddr ::(?= parse_ascii )", "crate :: kit :: std :: net ::"),
+    ("", "", "core ::(?= str :: from_utf8 )"),
 ]
 # The changes of programs and tests: the runtime, and its allocator.
 CHANGES_OF_PROGRAMS = [
@@ -91,17 +96,18 @@ CHANGES_OF_PROGRAMS = [
     (r"\{(?: let)?", "", "(?:let )?rt = HostRuntime ;(?: let)?"),
     (r"\.", "collect", "collect_in"),
     (r"[({,]", r"rt \. alloc \( \) ,", ""),
+    (r"\( self \.", r"rt \. alloc \( \) , self \.", ""),
     ("", r", rt \. alloc \( \)(?= \))", ""),
     (r"\(", r"rt \. alloc \( \)(?= \))", ""),
+    (r"vec ! \[|format ! \(", r"in rt \. alloc \( \) ;", ""),
 ]
-PROGRAMS = {"sockdiag"}
+PROGRAMS = {"sockdiag", "sslist"}
 # The changes of tests alone.
 CHANGES_OF_TESTS = [
     (r"(?:assert|panic) ! \(|expect \(", "(?:& )?rt [,;]", ""),
     (r"clone \( \)", r"\. expect \( (?:& )?rt , \S+ \)", ""),
     (r"\.", "repeat", "repeat_in"),
     (r"\.", "concat", "concat_in"),
-    (r"vec ! \[|format ! \(", r"in rt \. alloc \( \) ;", ""),
     (r"\{ let", r"alloc = rt \. alloc \( \) ;", "rt = HostRuntime ;"),
     ("mod", "any ; mod", ""),
 ]
@@ -125,6 +131,8 @@ REFUSED = [
     "fn f() { let x = «data»; }",
     "fn f(x: &A) -> Result<A, E> { x.clone() }",
     "fn f(s: &mut String) { write!(s, \"\") }",
+    "fn f(s: &mut String) { writeln!(s, \"\") }",
+    "fn f(s: &mut String) { let a = match b { _ => write!(s, \"\") }; match a { _ => {} } }",
     "fn f() { for i in (250u8..) {} }",
     "impl<T> A for &T {}",
     "fn f(x: u8) { u16::try_from(x) }",

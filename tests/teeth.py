@@ -161,8 +161,9 @@ END
 chmod +x sockdiag
 : >sockdiag_c.o
 ar rcs libsockdiag_c.a sockdiag_c.o
-"""), *((f"tests/api/{it}", None, PROGRAM)
-        for it in ("c_api.sh", "compare_libraries.py", "kernels.py")))
+"""), *((it, None, PROGRAM) for it in (
+    "tests/api/c_api.sh", "tests/api/compare_libraries.py", "tests/api/kernels.py",
+    "tests/captures.py", "tests/programs.py")))
 # Makes two libraries whose functions return 0, except the version of the second one.
 LIBRARIES = ("libraries.sh", None, """set -eu
 sed -n 's/^[a-z0-9_]* \\(sockdiag_[a-z0-9_]*\\)(.*/long \\1(void) { return 0; }/p' \\
@@ -318,8 +319,8 @@ ROWS = [
         (("crates/netlink_core/src/lib.rt", "", "\n#[must_use]\npub fn planted() {}\n"),)),
     *(Row(ERASED, (f"planted: {it.split(' *')[0]}",), (LIBRARY, *ERASER), it, "ar")
       for it in ("cargo build *", "cargo test --offline --no-default-features",
-                 "cargo test --offline", "cargo clippy --offline *", "kernels.py *", "c_api.sh",
-                 "compare_libraries.py *")),
+                 "cargo test --offline", "cargo clippy --offline *", "captures.py *",
+                 "programs.py *", "kernels.py *", "c_api.sh", "compare_libraries.py *")),
     Row(ERASED, ("sockdiag/stdin differ",), ERASER, "sockdiag", "ar"),
     Row("sh libraries.sh tests/api/compare_libraries.py",
         ("sockdiag_version: the first difference at call 1: 0 and 1", ": 1 differ"), (LIBRARIES,),

@@ -51,6 +51,11 @@ else
     echo "erased: skipped: comparison with the program: no $program"
 fi
 
+# The tests of the two programs. They run each option, and captures that are made for it.
+quiet "$top/tests/captures.py" "$built/sslist"
+sed -n 's/.*: \([0-9]* runs\), .*/erased: the lister passed \1 over captures/p' "$work/log"
+quiet "$top/tests/programs.py" "$answer" "$built/sslist"
+
 # The example requests sockets by the module `kernel`.
 quiet cargo build --release --offline --example list_sockets
 "$top/tests/api/kernels.py" "$built/examples/list_sockets"

@@ -104,6 +104,8 @@ mod owned;
 
 mod attribute_lists;
 mod exact_values;
+#[cfg(feature = "std")]
+mod netlink_captures;
 mod netlink_core;
 mod netlink_packet_sock_diag;
 #[cfg(feature = "std")]
@@ -126,6 +128,10 @@ mod sockdiag;
 #[cfg(feature = "c")]
 #[doc(hidden)]
 pub mod sockdiag_c;
+#[cfg(feature = "std")]
+mod sslist;
+#[cfg(feature = "std")]
+mod sslist_lister;
 
 pub use kit::memory::{AllocError, AllocFailed};
 pub use kit::smallvec::SmallVec;
@@ -167,4 +173,5 @@ pub mod lenient {
 #[doc(hidden)]
 pub mod programs {
     pub use crate::sockdiag::main as sockdiag;
+    pub use crate::sslist::main as sslist;
 }

@@ -33,18 +33,26 @@ pub trait TryString: Sized {
 
     /// Appends a text. If this fails, it changes nothing.
     fn try_push_str(&mut self, text: &str) -> Result<(), AllocError>;
+
+    /// Appends a character. If this fails, it changes nothing.
+    fn try_push(&mut self, c: char) -> Result<(), AllocError>;
 }
 
 impl TryString for String {
     fn try_from_str(text: &str) -> Result<Self, AllocError> {
         let mut string = String::new();
-        string.try_push_str(text)?;
+        string.try_reserve_exact(text.len())?;
+        string.push_str(text);
         Ok(string)
     }
 
     fn try_push_str(&mut self, text: &str) -> Result<(), AllocError> {
-        self.try_reserve_exact(text.len())?;
+        self.try_reserve(text.len())?;
         self.push_str(text);
         Ok(())
+    }
+
+    fn try_push(&mut self, c: char) -> Result<(), AllocError> {
+        self.try_push_str(c.encode_utf8(&mut [0; 4]))
     }
 }

@@ -1,5 +1,6 @@
 //! Hexadecimal digits, as in the crate hex.
 
+use super::memory::AllocError;
 use super::prelude::{String, TryString, TryVec, Vec};
 
 /// Why digits are not decoded, or bytes are not encoded.
@@ -52,11 +53,8 @@ pub fn decode(digits: &str) -> Result<Vec<u8>, FromHexError> {
     Ok(bytes)
 }
 
-pub fn encode(bytes: &[u8]) -> Result<String, FromHexError> {
-    let Ok(mut digits) = Vec::filled(0, 2 * bytes.len()) else {
-        return Err(FromHexError::OutOfMemory);
-    };
-    encode_to_slice(bytes, &mut digits)?;
-    let text = core::str::from_utf8(&digits).expect("digits are UTF-8");
-    String::try_from_str(text).map_err(|_| FromHexError::OutOfMemory)
+pub fn encode(bytes: &[u8]) -> Result<String, AllocError> {
+    let mut digits = Vec::filled(0, 2 * bytes.len())?;
+    encode_to_slice(bytes, &mut digits).expect("each byte has two digits");
+    String::try_from_str(core::str::from_utf8(&digits).expect("digits are UTF-8"))
 }

@@ -4,14 +4,14 @@
 pub struct HostRuntime;
 
 #[cfg(feature = "std")]
-pub(crate) use system::{println, CollectIn, Eprint};
+pub(crate) use system::{eprintln, println, CollectIn, Eprint};
 
 #[cfg(feature = "std")]
 mod system {
     use super::HostRuntime;
     use crate::kit::memory::AllocError;
     use crate::kit::prelude::{TryVec, Vec};
-    use crate::kit::std::io::{Result, Stream, Write};
+    use crate::kit::std::io::{File, Result, Write};
     use core::fmt::{self, Display};
 
     /// Writes formatted text and a line feed to standard output: `println!(rt; "..")`.
@@ -20,7 +20,14 @@ mod system {
             $rt.println(format_args!($($arguments)+))
         };
     }
-    pub(crate) use println;
+
+    /// Writes formatted text and a line feed to standard error: `eprintln!(rt; "..")`.
+    macro_rules! eprintln {
+        ($rt:expr; $($arguments:tt)+) => {
+            $rt.eprintln(format_args!($($arguments)+))
+        };
+    }
+    pub(crate) use {eprintln, println};
 
     /// Lines on standard error.
     pub trait Eprint {
@@ -40,21 +47,21 @@ mod system {
             print_line(self.stdout(), value)
         }
 
-        pub fn stdin(&self) -> Stream {
-            Stream::of(::std::io::stdin())
+        pub fn stdin(&self) -> File {
+            File::of_stream(::std::io::stdin())
         }
 
-        pub fn stdout(&self) -> Stream {
-            Stream::of(::std::io::stdout())
+        pub fn stdout(&self) -> File {
+            File::of_stream(::std::io::stdout())
         }
 
-        pub fn stderr(&self) -> Stream {
-            Stream::of(::std::io::stderr())
+        pub fn stderr(&self) -> File {
+            File::of_stream(::std::io::stderr())
         }
     }
 
     /// Writes the text of a value and a line feed. A text of up to 1023 bytes is one write.
-    fn print_line<D: Display>(to: Stream, value: D) -> Result<()> {
+    fn print_line<D: Display>(to: File, value: D) -> Result<()> {
         let mut line = Line { to, bytes: [0; 1024], len: 0, failed: Ok(()) };
         // A failed write is in `failed`.
         let _ = fmt::write(&mut line, format_args!("{value}\n"));
@@ -64,7 +71,7 @@ mod system {
 
     /// A part of a text that is not written yet, and the first write that failed.
     struct Line {
-        to: Stream,
+        to: File,
         bytes: [u8; 1024],
         len: usize,
         failed: Result<()>,

@@ -1,9 +1,9 @@
 //! Reading and writing, and the errors of the system.
 
+use crate::kit::host::HostRuntime;
 use crate::kit::memory::AllocError;
 use crate::kit::prelude::{TryVec, Vec};
 use core::fmt;
-use std::fs::File;
 use std::os::fd::AsFd;
 
 pub type Result<T> = core::result::Result<T, Error>;
@@ -117,32 +117,81 @@ impl Write for Vec<u8> {
     }
 }
 
-/// A stream of the process, without a buffer: a duplicate of its descriptor, or the error of
-/// duplicating it. The streams of Rust's library have buffers, and accept writes to a closed one.
-pub struct Stream(Result<File>);
+/// A file or a stream of the process, without a buffer: the file, or the error of what it is
+/// instead. A stream is a duplicate of its descriptor, since the streams of Rust's library have
+/// buffers, and accept writes to a descriptor that is closed.
+pub struct File(Result<std::fs::File>);
 
-impl Stream {
-    pub fn of(stream: impl AsFd) -> Self {
-        Stream(stream.as_fd().try_clone_to_owned().map(File::from).map_err(Error::from))
+impl File {
+    /// Opens a file for reading.
+    pub fn open(_: &HostRuntime, name: &str) -> Result<Self> {
+        Ok(File(Ok(std::fs::File::open(name)?)))
     }
 
-    fn file(&mut self) -> Result<&mut File> {
+    pub fn of_stream(stream: impl AsFd) -> Self {
+        let owned = stream.as_fd().try_clone_to_owned();
+        File(owned.map(std::fs::File::from).map_err(Error::from))
+    }
+
+    fn file(&mut self) -> Result<&mut std::fs::File> {
         self.0.as_mut().map_err(|error| *error)
     }
 }
 
-impl Read for Stream {
+impl Read for File {
     fn read(&mut self, bytes: &mut [u8]) -> Result<usize> {
         Ok(std::io::Read::read(self.file()?, bytes)?)
     }
 }
 
-impl Write for Stream {
+impl Write for File {
     fn write(&mut self, bytes: &[u8]) -> Result<usize> {
         Ok(std::io::Write::write(self.file()?, bytes)?)
     }
 
     fn write_all(&mut self, bytes: &[u8]) -> Result<()> {
         Ok(std::io::Write::write_all(self.file()?, bytes)?)
+    }
+}
+
+/// A stream that may be a terminal.
+pub trait IsTerminal {
+    fn is_terminal(&self) -> bool;
+}
+
+impl IsTerminal for File {
+    fn is_terminal(&self) -> bool {
+        self.0.as_ref().is_ok_and(std::io::IsTerminal::is_terminal)
+    }
+}
+
+/// A reader with a buffer, whose unread bytes are those from `start` to `end`.
+pub struct BufReader<R> {
+    reader: R,
+    buffer: Vec<u8>,
+    start: usize,
+    end: usize,
+}
+
+impl<R: Read> BufReader<R> {
+    /// Returns a reader with a buffer of 8 KiB.
+    pub fn new(reader: R) -> Result<Self> {
+        Ok(BufReader { reader, buffer: Vec::filled(0, 8192)?, start: 0, end: 0 })
+    }
+}
+
+impl<R: Read> Read for BufReader<R> {
+    fn read(&mut self, bytes: &mut [u8]) -> Result<usize> {
+        if self.start == self.end {
+            if bytes.len() >= self.buffer.len() {
+                return self.reader.read(bytes);
+            }
+            (self.start, self.end) = (0, 0);
+            self.end = self.reader.read(&mut self.buffer)?;
+        }
+        let count = bytes.len().min(self.end - self.start);
+        bytes[..count].copy_from_slice(&self.buffer[self.start..][..count]);
+        self.start += count;
+        Ok(count)
     }
 }

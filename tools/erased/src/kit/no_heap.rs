@@ -88,8 +88,12 @@ impl String {
         String
     }
 
-    pub fn try_reserve_exact(&mut self, count: usize) -> Result<(), TryReserveError> {
+    pub fn try_reserve(&mut self, count: usize) -> Result<(), TryReserveError> {
         Vec::<u8>::new().try_reserve(count)
+    }
+
+    pub fn try_reserve_exact(&mut self, count: usize) -> Result<(), TryReserveError> {
+        self.try_reserve(count)
     }
 
     pub fn as_str(&self) -> &str {

@@ -1,6 +1,6 @@
 //! Rust's `core`, and what the kit's `std` has in addition.
 
-pub use core::{fmt, mem, net, ops, str, time};
+pub use core::{fmt, mem, ops, str, time};
 
 pub mod alloc {
     pub use crate::kit::memory::{AllocError, AllocFailed};
@@ -57,6 +57,42 @@ pub mod env {
 
 #[cfg(feature = "std")]
 pub use super::io;
+
+#[cfg(feature = "std")]
+pub mod fs {
+    pub use crate::kit::io::File;
+}
+
+#[cfg(feature = "std")]
+pub mod rt {
+    use crate::kit::host::HostRuntime;
+    use std::os::unix::ffi::OsStrExt;
+
+    /// The arguments of the process, as bytes.
+    pub trait Env {
+        /// Copies an argument to the start of a buffer, and returns its length. Fails if there is
+        /// no such argument, or the buffer is too short.
+        fn arg(&self, index: usize, bytes: &mut [u8]) -> Result<usize, ()>;
+    }
+
+    impl Env for HostRuntime {
+        fn arg(&self, index: usize, bytes: &mut [u8]) -> Result<usize, ()> {
+            let argument = std::env::args_os().nth(index).ok_or(())?;
+            let argument = argument.as_bytes();
+            bytes.get_mut(..argument.len()).ok_or(())?.copy_from_slice(argument);
+            Ok(argument.len())
+        }
+    }
+}
+
+pub mod net {
+    pub use core::net::*;
+
+    /// Parses an address. Bytes that are not ASCII are no address.
+    pub fn parse_ascii(text: &[u8]) -> Result<IpAddr, AddrParseError> {
+        core::str::from_utf8(text).unwrap_or("").parse()
+    }
+}
 
 pub mod marker {
     pub use core::marker::PhantomData;

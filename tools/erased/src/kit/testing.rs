@@ -16,18 +16,6 @@ impl<T> fmt::Debug for AllocFailed<T> {
     }
 }
 
-/// Returns the text of `try_format!(..)`.
-pub fn formatted(arguments: fmt::Arguments<'_>) -> Result<String, AllocError> {
-    String::try_from_str(&alloc::fmt::format(arguments))
-}
-
-macro_rules! try_format {
-    ($($arguments:tt)*) => {
-        $crate::kit::testing::formatted(format_args!($($arguments)*))
-    };
-}
-pub(crate) use try_format;
-
 /// `concat` of texts that may fail.
 pub trait ConcatIn {
     fn concat_in(&self) -> Result<String, AllocError>;

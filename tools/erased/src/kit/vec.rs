@@ -24,6 +24,9 @@ pub trait TryVec<T>: Sized {
     /// Appends an item, or returns it if an allocation fails.
     fn try_push(&mut self, value: T) -> Result<(), AllocFailed<T>>;
 
+    /// Inserts an item before the one at an index, or returns it if an allocation fails.
+    fn try_insert(&mut self, index: usize, value: T) -> Result<(), AllocFailed<T>>;
+
     /// Appends copies of the items.
     fn try_extend_from_slice(&mut self, items: &[T]) -> Result<(), AllocError>
     where
@@ -70,6 +73,12 @@ impl<T> TryVec<T> for Vec<T> {
             return Err(AllocFailed { value });
         }
         self.push(value);
+        Ok(())
+    }
+
+    fn try_insert(&mut self, index: usize, value: T) -> Result<(), AllocFailed<T>> {
+        self.try_push(value)?;
+        self[index..].rotate_right(1);
         Ok(())
     }
 
