@@ -1,6 +1,6 @@
 #!/bin/sh
 # release.sh [--write]: runs tools/pack in copies of this tree, with programs, a library and proof
-# results made here. Needs no kit, and takes seconds.
+# results made here. Needs no kit, and takes one or two minutes.
 #
 # - tests/release.txt lists the members of each archive and package in order, with modes, owners and
 #   times, and the files that tools/install installs. --write writes a new list.
