@@ -80,6 +80,8 @@
 #![deny(unsafe_code)]
 // What only contracts, proofs, other crates or the C library use is left.
 #![allow(dead_code, unused_imports, unused_labels, private_bounds)]
+// The sources have the forms that the prover reads best.
+#![allow(clippy::style, clippy::complexity)]
 
 #[cfg(feature = "alloc")]
 extern crate alloc;
