@@ -81,7 +81,7 @@
 // What only contracts, proofs, other crates or the C library use is left.
 #![allow(dead_code, unused_imports, unused_labels, private_bounds)]
 // The sources have the forms that the prover reads best.
-#![allow(clippy::style, clippy::complexity)]
+#![allow(clippy::style, clippy::complexity, clippy::manual_unwrap_or_default)]
 
 #[cfg(feature = "alloc")]
 extern crate alloc;
