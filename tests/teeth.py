@@ -27,10 +27,11 @@ from typing import NamedTuple
 TOP = Path(__file__).resolve().parent.parent
 # Scripts that others run, which need no row, and scripts that only c_api.sh and erased.sh run.
 CALLED = {"tests/over_gate.sh", "tests/stand_in.sh", "tests/api/reply_reader.py"}
-OF_C_API = {"tests/api/compare_libraries.py", "tests/api/compare_replies.sh",
-            "tests/api/kernels.py", "tests/api/sockdump.py"}
+OF_C_API = {"tests/api/compare_libraries.py", "tests/api/compare_listers.py",
+            "tests/api/compare_replies.sh", "tests/api/kernels.py", "tests/api/sockdump.py"}
 # Variables that would change what the scripts run.
-UNSET = {"CC", "CFLAGS", "CARGO_TARGET_DIR", "SOCKDIAG_LIB_DIR", "SOCKDIAG_PROGRAM"}
+UNSET = {"CC", "CFLAGS", "CARGO_TARGET_DIR", "SOCKDIAG_LIB_DIR", "SOCKDIAG_PROGRAM",
+         "SSLIST_PROGRAM"}
 # The stand-in of most programs. It fails if its name and its arguments match $FAILS.
 PROGRAM = """#!/bin/sh
 name="${0##*/}${*:+ $*}"
@@ -163,7 +164,8 @@ chmod +x sockdiag
 ar rcs libsockdiag_c.a sockdiag_c.o
 """), *((it, None, PROGRAM) for it in (
     "tests/api/c_api.sh", "tests/api/compare_libraries.py", "tests/api/kernels.py",
-    "tests/captures.py", "tests/programs.py")))
+    "tests/api/compare_listers.py", "tests/captures.py", "tests/programs.py")),
+    ("crates/sslist/out/sslist", None, PROGRAM))
 # Makes two libraries whose functions return 0, except the version of the second one.
 LIBRARIES = ("libraries.sh", None, """set -eu
 sed -n 's/^[a-z0-9_]* \\(sockdiag_[a-z0-9_]*\\)(.*/long \\1(void) { return 0; }/p' \\
@@ -320,11 +322,14 @@ ROWS = [
     *(Row(ERASED, (f"planted: {it.split(' *')[0]}",), (LIBRARY, *ERASER), it, "ar")
       for it in ("cargo build *", "cargo test --offline --no-default-features",
                  "cargo test --offline", "cargo clippy --offline *", "captures.py *",
-                 "programs.py *", "kernels.py *", "c_api.sh", "compare_libraries.py *")),
+                 "programs.py *", "compare_listers.py *", "kernels.py *", "c_api.sh",
+                 "compare_libraries.py *")),
     Row(ERASED, ("sockdiag/stdin differ",), ERASER, "sockdiag", "ar"),
     Row("sh libraries.sh tests/api/compare_libraries.py",
         ("sockdiag_version: the first difference at call 1: 0 and 1", ": 1 differ"), (LIBRARIES,),
         needs="cc"),
+    Row("tests/api/compare_listers.py true false", ("0 and 1: fewer lines", "404 runs, 404 differ"),
+        (), ""),
     Row("tests/api/kernels.py $STAND_INS/program", ("with the replies of linux-4.14",), (), ""),
     Row("tests/api/sockdump.py $STAND_INS/program", ("AssertionError", ", expected (0, "), (), ""),
 ]

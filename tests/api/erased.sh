@@ -1,9 +1,10 @@
 #!/bin/sh
 # Tests the plain Rust that tools/erase makes of the sources: builds it by cargo, without a heap and
-# with one, runs its tests, has it answer the stored lines of the program sockdiag, and has c_api.sh
-# test its C library. Then compares its answers to many lines with those of the proved program, and
-# its C library with the proved one, each function with 20,000 inputs, if these are built. Needs
-# cargo and a C compiler, and no kit. The gate runs this script.
+# with one, runs its tests and those of its two programs, has it answer the stored lines of the
+# program sockdiag, and has c_api.sh test its C library. Then compares its programs and its C
+# library with the proved ones, if these are built: the answers to many lines, the lists of many
+# captures, and each function of the library with 20,000 inputs. Needs cargo and a C compiler, and
+# no kit. The gate runs this script.
 set -eu
 top=$(CDPATH='' cd -- "$(dirname -- "$0")/../.." && pwd)
 work=$(mktemp -d)
@@ -55,6 +56,12 @@ fi
 quiet "$top/tests/captures.py" "$built/sslist"
 sed -n 's/.*: \([0-9]* runs\), .*/erased: the lister passed \1 over captures/p' "$work/log"
 quiet "$top/tests/programs.py" "$answer" "$built/sslist"
+lister=${SSLIST_PROGRAM-$top/crates/sslist/out/sslist}
+if [ -f "$lister" ]; then
+    "$top/tests/api/compare_listers.py" "$lister" "$built/sslist"
+else
+    echo "erased: skipped: comparison with the lister: no $lister"
+fi
 
 # The example requests sockets by the module `kernel`.
 quiet cargo build --release --offline --example list_sockets
