@@ -226,19 +226,26 @@ ROWS = [
     ), "planted::it"),
     Row("python3 tests/surface.py", (
         "+netlink_core::planted: pub fn planted() -> u8; ensures planted; ",
-        "+SOCKDIAG_PLANTED: 1, #define", "2 lists are out of date",
+        "+netlink_core.specs.Bytes: IsBytes; ", "+SOCKDIAG_PLANTED: 1, #define",
+        "2 lists are out of date",
     ), (
         ("crates/netlink_core/src/lib.rt", "",
          "\npub fn planted() -> u8\n    ensures planted { result ≡ 1 }\n{\n    1\n}\n"),
+        ("crates/netlink_core/specs/Bytes.antt", " index < 256", " index < 257"),
         ("include/sockdiag.h", "", "#define SOCKDIAG_PLANTED 1\n"),
     )),
     Row("python3 tests/imports.py", (
         "crates.txt: netlink_core uses planted",
         "gives PLANTED of netlink_core the name of another item, EXCHANGED",
+        "sock_diag_any.xdp: XDP_DIAG_RX_RING is the name of a public item, and no law states its "
+        "number",
     ), (
-        ("crates.txt", None, "netlink_core: planted\n"),
+        ("crates.txt", None,
+         "netlink_core: planted\nsock_diag_families:\nsock_diag_any: sock_diag_families\n"),
         ("crates/netlink_core/src/lib.rt", "",
          "use crate::planted::{PLANTED as EXCHANGED};\nconst EXCHANGED: u8 = 1;\n"),
+        ("crates/sock_diag_any/src/xdp.rt", " XDP_DIAG_RX_RING,", ""),
+        ("crates/sock_diag_any/src/xdp.rt", "", "const XDP_DIAG_RX_RING: u16 = 4;\n"),
     )),
     Row("python3 tests/kernel_headers.py", (
         "SOCK_DIAG_BY_FAMILY: 20 in the headers, 21 in the crates",
