@@ -66,7 +66,14 @@ case "$output $* $FAILS" in
 esac
 """,
     "nm": '#!/bin/sh\necho "$FAILS"\n', "groff": '#!/bin/sh\necho "$FAILS" >&2\n',
+    # Programs under valgrind have to run with these options, except those that are measured.
     "valgrind": """#!/bin/sh
+for option in --leak-check=full --error-exitcode=1; do
+    case " $* " in
+        *" $option "*|*' --tool=callgrind '*) ;;
+        *) echo "planted: valgrind without $option" >&2; exit 1 ;;
+    esac
+done
 while case $1 in -*) ;; *) false ;; esac do shift; done
 exec "$@"
 """,
@@ -80,6 +87,7 @@ printf '{"family": %s}\\n' 1 2 10 16 17 40 44
 [ "$1" = --list ] && echo 'a::out_of_memory::b: test'
 """,
     "unreported": "#!/bin/sh\necho refused >&2\n",
+    "sleeper": "#!/bin/sh\nexec sleep 5\n",
 }
 # A library without functions, which is newer than the sources.
 LIBRARY = ("crates/sockdiag_c/out/libsockdiag_c.a", None, "!<arch>\n")
@@ -146,9 +154,10 @@ EDIT = (
      "file: src/error.rt\nold: fn planted() -> u8 {\nnew: fn planted() -> u16 {\n"),
 )
 C_API, ERASED = "tests/api/c_api.sh", "tests/api/erased.sh"
+MEMORY, SOCKDUMP = "tests/api/out_of_memory.sh", "tests/api/sockdump.py"
 # What c_api.sh runs after the calls from C.
 LATER = tuple((it, None, PROGRAM) for it in (
-    "tools/install", "tests/api/kernels.py", "tests/api/sockdump.py"))
+    "tools/install", "tests/api/kernels.py", SOCKDUMP))
 # An eraser that writes only a library and a program, which cargo would build.
 ERASER = (("tools/erase", None, """#!/bin/sh
 top=$PWD
@@ -305,14 +314,19 @@ ROWS = [
         names("tests/captures.py", r"(\w+)\(sslist\)"), (), "*"),
     Row("tests/api/must_not_compile.sh", ("a name that outlives its bytes was not rejected",),
         (("tests/over_gate.sh", None, PROGRAM),), ""),
-    Row("tests/api/out_of_memory.sh $STAND_INS/allocations $STAND_INS/program $STAND_INS/program",
+    Row(f"{MEMORY} $STAND_INS/allocations $STAND_INS/program $STAND_INS/program",
         ("a::out_of_memory::b: allocations 1 to 1 fail: the test failed",), (), ""),
-    Row("tests/api/out_of_memory.sh $STAND_INS/program $STAND_INS/unreported $STAND_INS/program",
+    Row(f"{MEMORY} $STAND_INS/program $STAND_INS/unreported $STAND_INS/program",
         ("unreported: allocations 1 to 1 fail: no error",), (), ""),
+    Row(f"{MEMORY} $STAND_INS/program $STAND_INS/program $STAND_INS/program",
+        ("planted: valgrind without --leak-check=full",),
+        ((MEMORY, "valgrind -q --leak-check=full", "valgrind -q"),), ""),
     Row("tests/api/library.sh --of-gate", ("planted: rt lib", "library.sh: failed"), (), "rt lib"),
     *(Row(C_API, (f"planted: {it.removesuffix(' *')}",), (LIBRARY, COMPARED, *LATER), it)
       for it in ("c_api", "c_values", "c_messages", "cost *", "fuzz_c 20000 *", "diff *",
                  "install *", "make *", "kernels.py *", "sockdump.py *", "print_replies")),
+    Row(C_API, ("planted: valgrind without --error-exitcode=1",),
+        (LIBRARY, (C_API, " --error-exitcode=1", "")), ""),
     Row(C_API, ("the library calls these functions", "planted"), (LIBRARY,), " U planted"),
     Row(C_API, ("a program was linked without the library",), (LIBRARY,), "alone"),
     Row(C_API, ("planted: reply_reader.py make 100000 1",), (LIBRARY, COMPARED), "reply_reader.py"),
@@ -338,7 +352,11 @@ ROWS = [
     Row("tests/api/compare_listers.py true false", ("0 and 1: fewer lines", "404 runs, 404 differ"),
         (), ""),
     Row("tests/api/kernels.py $STAND_INS/program", ("with the replies of linux-4.14",), (), ""),
-    Row("tests/api/sockdump.py $STAND_INS/program", ("AssertionError", ", expected (0, "), (), ""),
+    Row(f"{SOCKDUMP} $STAND_INS/program", names(SOCKDUMP, r"(test_\w+)\(.*\)"),
+        (("examples/processes.sh", None, "#!/bin/sh\n"),), ""),
+    # A run that takes too long ends with SIGKILL.
+    Row(f"{SOCKDUMP} $STAND_INS/sleeper", ("test_usage: ['-V']: (-9, b'', ",),
+        ((SOCKDUMP, "LIMIT = 60", "LIMIT = 0.2"),), ""),
 ]
 
 

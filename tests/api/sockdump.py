@@ -9,7 +9,7 @@ tests/api/kernels. The capture has to have the request for each kind of socket, 
 and each datagram of the answer, with its time. With --every it has to have one header and these
 packets for each round. Also compared are the time between rounds, that each round is written as it
 ends, how the program ends, and the texts of errors. A run that takes longer than LIMIT is killed,
-so that its exit status differs. The exit status is 1 if something differs.
+so that its exit status differs. Prints the tests that failed. The exit status is 1 if one failed.
 """
 
 import contextlib
@@ -212,18 +212,18 @@ def test_not_open(runs, files):
                 (1, b"", error))
 
 
-def test_rounds(runs, files, folder):
+def test_rounds(runs, files):
     """Writes rounds to a file, until a signal ends the program. They start a second after each
     other, and are complete."""
-    path, expected = Path(folder, "capture"), expected_round(files[0])
+    expected = expected_round(files[0])
     size = len(FILE_HEADER) + 3 * sum(32 + len(it) for it in expected)
     every = ["--every=2", "--every=1"]
-    with path.open("wb") as output, runs.start(every, output, files[0]) as running:
-        while path.stat().st_size < size and running.poll() is None:
+    with tempfile.NamedTemporaryFile() as output, runs.start(every, output, files[0]) as running:
+        while os.fstat(output.fileno()).st_size < size and running.poll() is None:
             time.sleep(0.05)
         running.send_signal(signal.SIGTERM)
         compare("signal", (running.communicate()[1], running.returncode), (b"", -signal.SIGTERM))
-    written = path.read_bytes()
+        written = Path(output.name).read_bytes()
     times = [it for it, _ in packets(written)[:: len(expected)]]
     compare_datagrams("rounds", written, len(times) * expected)
     between = [later - earlier for earlier, later in zip(times, times[1:])]
@@ -277,7 +277,7 @@ def test_closed_pipe(runs, files):
         compare(f"{arguments}, closed before", found, (status, None, ""))
 
 
-def test_processes():
+def test_processes(_runs, _files):
     """Lists a socket of this process, and one that no process has."""
     script = kernels.HERE.parent.parent / "examples/processes.sh"
     with socket.socket() as opened:
@@ -291,21 +291,19 @@ def test_processes():
 
 
 def main():
-    files = kernels.replies()
+    files, failed = kernels.replies(), 0
     with tempfile.TemporaryDirectory() as folder:
         runs = Runs(sys.argv[1], kernels.build(folder))
-        test_usage(runs, files)
-        test_kinds(runs, files)
-        test_failures(runs, files)
-        test_not_open(runs, files)
-        test_odd_length(runs, files)
-        test_terminal(runs, files)
-        test_rounds(runs, files, folder)
-        test_clock(runs, files)
-        test_closed_pipe(runs, files)
-    test_processes()
-    print("sockdump: all tests pass")
+        for test in (test_usage, test_kinds, test_failures, test_not_open, test_odd_length,
+                     test_terminal, test_rounds, test_clock, test_closed_pipe, test_processes):
+            try:
+                test(runs, files)
+            except AssertionError as error:
+                print(f"{test.__name__}: {error}")
+                failed += 1
+    print(f"sockdump: {failed} tests failed" if failed else "sockdump: all tests pass")
+    return 1 if failed else 0
 
 
 if __name__ == "__main__":
-    main()
+    sys.exit(main())
