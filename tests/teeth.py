@@ -202,11 +202,13 @@ ROWS = [
     Row("python3 tests/tidy.py", (
         "planted.edit: occurs 0 times", "docs/PLANTED.md: nowhere.md does not exist",
         "docs/PLANTED.md: tests/nowhere.py does not exist", "tests/planted.py:22: 101 columns",
-        "tests/planted.py:1: more than 20 lines as at tests/planted.sh:1",
+        "tests/planted.py:1: more than 20 lines as at tests/planted.sh:2",
+        "tests/planted.sh:23: cd without CDPATH=''",
         "include/sockdiag.h: 9", "man/sslist.1: .Dd 9",
     ), (
         EDIT[1], ("docs/PLANTED.md", None, "[a](nowhere.md) `tests/nowhere.py`\n"),
-        ("tests/planted.py", None, LINES + 101 * "x"), ("tests/planted.sh", None, LINES),
+        ("tests/planted.py", None, LINES + 101 * "x"),
+        ("tests/planted.sh", None, f'#!/bin/sh\n{LINES}cd -- "$(dirname -- "$0")"\n'),
         ("include/sockdiag.h", '#define SOCKDIAG_VERSION "', '#define SOCKDIAG_VERSION "9'),
         ("man/sslist.1", ".Dd ", ".Dd 9"),
     )),

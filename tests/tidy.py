@@ -25,6 +25,8 @@ LINK = re.compile(r"\[[^\]]*\]\(([^)\s]+)\)")
 # try_it are placeholders.
 PATH = re.compile(r"`((?:bench|crates|docs|examples|include|tests|tools)/[\w./]+)`")
 PLACEHOLDER = re.compile(r"NAME|CRATE|try_it")
+# A change to the folder of a file by which CDPATH could lead into another folder.
+BY_CDPATH = re.compile(r"""(?<!CDPATH='' )\bcd (?:-- )?"\$\(dirname""")
 # The date of a version in CHANGELOG.md, and that of a manual page, as it is written there.
 RELEASED = r"(?m)^## \[{}\] - (\d{{4}}-\d\d-\d\d)$"
 MANUAL_DATE = ".Dd %B %-d, %Y"
@@ -76,6 +78,15 @@ def wide_lines(files):
         for number, line in enumerate(text.splitlines(), 1):
             if len(line) > COLUMNS and not is_unbreakable(name, line):
                 yield f"{name}:{number}: {len(line)} columns"
+
+
+def misled_scripts(files):
+    """Yields the lines of shell scripts by which CDPATH could lead into another folder."""
+    for name, text in files.items():
+        if text.startswith("#!/bin/sh") and not re.search(r"(?m)^unset\b.* CDPATH\b", text):
+            for number, line in enumerate(text.splitlines(), 1):
+                if BY_CDPATH.search(line):
+                    yield f"{name}:{number}: cd without CDPATH=''"
 
 
 def anchors(page):
@@ -188,8 +199,9 @@ def main():
         wrong = list(broken_links(top, pages))
     else:
         files = text_files()
-        wrong = [*repeated_code(files), *wide_lines(files), *broken_links(TOP, files),
-                 *wrong_versions(files), *wrong_dates(files), *unusable_edits(files)]
+        wrong = [*repeated_code(files), *wide_lines(files), *misled_scripts(files),
+                 *broken_links(TOP, files), *wrong_versions(files), *wrong_dates(files),
+                 *unusable_edits(files)]
     print(*wrong, f"tests/tidy.py: {len(wrong)} errors", sep="\n")
     return 1 if wrong else 0
 
