@@ -65,7 +65,7 @@ fi
 
 # The example requests sockets by the module `kernel`.
 quiet cargo build --release --offline --example list_sockets
-"$top/tests/api/kernels.py" "$built/examples/list_sockets"
+"$top/tests/api/kernels.py" --rust "$built/examples/list_sockets"
 if "$built/examples/list_sockets" >"$work/sockets" 2>"$work/errors"; then
     echo "erased: list_sockets: $(wc -l <"$work/sockets") sockets, beginning with:"
     head -n 5 "$work/sockets"

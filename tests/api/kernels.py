@@ -2,7 +2,7 @@
 """Runs example listers with the replies of other kernels, and compares what they print. c_api.sh
 and erased.sh run this script.
 
-    tests/api/kernels.py LISTER..
+    tests/api/kernels.py [--rust] LISTER..
 
 A file of tests/api/kernels has replies, and the words of the line that a lister prints for each.
 fake_kernel.c, which is preloaded, answers the requests of the lister with them. A lister has to
@@ -18,8 +18,8 @@ without a line, if it cannot connect to the kernel, and if each datagram is long
 or truncated. It also has to end with status 1, after the lines, if ten dumps of a request are
 interrupted or lose data, if a dump ends with an error or with an invalid number, if another reply
 is too short, and if its output cannot be written. If standard input, output or error is not open,
-it has to end with status 1 before it opens a socket, unless it opens another file in its place
-first, as Rust does.
+it has to end with status 1 before it opens a socket. A lister in Rust has to end with status 0:
+before it begins, Rust's runtime opens /dev/null in place of these.
 
 The attributes of the replies about TCP, UDP and MPTCP sockets have to be in the order in which the
 kernel sends them. The exit status is 1 if they are not, or if a lister fails.
@@ -209,19 +209,20 @@ def reports_full_disk(lister, library, file):
     return False
 
 
-def opens_no_stream(lister, library, file):
+def opens_no_stream(lister, library, file, is_rust):
     """Runs the lister without standard input, output or error. Returns whether it opens no socket
     in its place, with which the kernel aborts it."""
     for closed in range(3):
         done = run(lister, library, file, closed=closed)
         is_error = done.returncode == 1 and not done.stdout and (
             NOT_OPEN in done.stderr or closed == 2)
-        if not is_error and done.returncode != 0:
-            return report(lister, done, f"descriptor {closed} closed", ["status 1", NOT_OPEN])
+        if done.returncode != 0 if is_rust else not is_error:
+            return report(lister, done, f"descriptor {closed} closed",
+                          ["status 0"] if is_rust else ["status 1", NOT_OPEN])
     return True
 
 
-def is_right(lister, library, files, folder):
+def is_right(lister, library, files, folder, is_rust):
     """Runs the lister in all ways. Returns whether it does what it has to. Every kernel has TCP, so
     list_rtt reports a file without TCP sockets as an error."""
     results = [compare(lister, library, file) for file in files
@@ -237,7 +238,7 @@ def is_right(lister, library, files, folder):
                 for it, error in ENDS]
     results.append(reports_short_reply(lister, library, HERE / "kernels/tcp-info", folder))
     results.append(reports_full_disk(lister, library, files[0]))
-    results.append(opens_no_stream(lister, library, files[0]))
+    results.append(opens_no_stream(lister, library, files[0], is_rust))
     if not is_list_rtt(lister):
         results += [compare_arguments(lister, library, file) for file in files]
         results.append(is_safe(lister, library, folder))
@@ -245,16 +246,17 @@ def is_right(lister, library, files, folder):
 
 
 def main():
-    files = replies()
+    files, is_rust = replies(), sys.argv[1:2] == ["--rust"]
+    listers = sys.argv[1 + is_rust :]
     with tempfile.TemporaryDirectory() as folder:
         library = build(folder)
         results = [*map(has_kernel_order, files)]
-        results += [is_right(it, library, files, folder) for it in sys.argv[1:]]
+        results += [is_right(it, library, files, folder, is_rust) for it in listers]
     if not all(results):
         return 1
-    listers = " ".join(Path(it).name for it in sys.argv[1:])
+    listed = " ".join(Path(it).name for it in listers)
     names = " ".join(file.name for file in files)
-    print(f"kernels: {listers}: every socket is listed: {names}")
+    print(f"kernels: {listed}: every socket is listed: {names}")
     return 0
 
 
