@@ -14,6 +14,7 @@ trap '[ $? = 0 ] || echo "$0: failed" >&2; rm -rf "$work"' EXIT
 tree="$work/a tree, and more"
 install=$work/link
 version=$(cat VERSION)
+unset CFLAGS LDFLAGS
 mkdir -p "$tree/bin" "$tree/lib" "$tree/tools" "$work/home" "$work/temporary"
 export TMPDIR="$work/temporary" HOME="$work/home"
 
@@ -229,6 +230,12 @@ cp "$work/commands/lib/libsockdiag.a" "$tree/crates/sockdiag_c/out/libsockdiag_c
 "$work/sources/bin/sockdump" --help | grep -q '^usage: sockdump' || fail "sockdump of the sources"
 SHARED=no CC=false "$install" "$work/without" >"$work/out" || fail "the sources without a compiler"
 [ ! -e "$work/without/bin" ] || fail "programs that are not built"
+# With a compiler that needs flags at both ends.
+printf '#!/bin/sh\ncase $* in "-g -O1 "*" -s -g") exec %s "$@" ;; esac\nexit 1\n' "$CC" \
+    >"$work/compiler"
+chmod +x "$work/compiler"
+SHARED=no CC=$work/compiler CFLAGS='-g -O1' LDFLAGS='-s -g' "$install" "$work/flags" >"$work/out"
+[ -x "$work/flags/bin/sockdump" ] || fail "sockdump is compiled without CFLAGS or LDFLAGS"
 # What is older than a source is not installed: the library is built again, which needs rt.
 mkdir -p "$tree/crates/sslist/out" "$tree/crates/sslist/specs"
 cp "$work/commands/bin/sslist" "$tree/crates/sslist/out"

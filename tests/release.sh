@@ -29,6 +29,7 @@ work=$(realpath "$(mktemp -d)")
 trap '[ $? = 0 ] || echo "$0: failed" >&2; rm -rf "$work"' EXIT
 cd "$work"
 umask 022
+unset CFLAGS LDFLAGS
 
 fail() {
     echo "release.sh: $1" >&2
@@ -273,15 +274,16 @@ git -C one init -q
 mkdir one/out
 touch one/out/gate-passed
 
-# A C compiler that needs the option -O2, with which sockdump is compiled.
-printf '#!/bin/sh\ncase " $* " in *" -O2 "*) exec %s "$@" ;; esac\nexit 1\n' "${CC:-cc}" >bin/cc_O2
-chmod +x bin/cc_O2
+# A C compiler that needs flags at both ends, by default only -O2, for sockdump.
+printf '#!/bin/sh\ncase "$* " in "${CFLAGS--O2} "*" ${LDFLAGS-}"*) exec %s "$@" ;; esac\nexit 1\n' \
+    "${CC:-cc}" >bin/cc_flags
+chmod +x bin/cc_flags
 # release LOGIC EDITS ARGUMENT..: runs tools/release, with a kit of this logic, and with an edits.py
 # that has the exit status EDITS.
 release() {
     logic=$1 edits=$2
     shift 2
-    KIT_LOGIC=$logic EDITS=$edits PATH="$work/bin:$PATH" CC=cc_O2 CDPATH=$work/other_top \
+    KIT_LOGIC=$logic EDITS=$edits PATH="$work/bin:$PATH" CC=cc_flags CDPATH=$work/other_top \
         one/tools/release "$@" >/dev/null
 }
 # refuses WHAT LOGIC: fails if tools/release packs with a kit of this logic, or if what it says does
@@ -311,8 +313,9 @@ if release 12 1 refused; then fail "it releases with an edit that is not rejecte
 [ ! -e refused ] || fail "it packs a release that it refuses"
 release 12 0 released
 [ ! -e "released/$proofs" ] || fail "proof results without --proofs"
-release 12 0 --proofs with_proofs
-diff "released/$users.tar.gz" "with_proofs/$users.tar.gz" || fail "--proofs changes the archive"
+CFLAGS='-w -O2' LDFLAGS='-lc -w' release 12 0 --proofs with_proofs
+diff "released/$users.tar.gz" "with_proofs/$users.tar.gz" ||
+    fail "--proofs, -w or -lc changes the archive"
 printf '%s\n' crates/low/out/incremental/ crates/checked/out/incremental/ >expected
 tar -tzf "with_proofs/$proofs" | sed -n 's,^[^/]*/\(.*/\)$,\1,p' | diff expected - ||
     fail "proof results of a release"
