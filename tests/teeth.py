@@ -353,7 +353,8 @@ ROWS = [
         needs="cc"),
     Row("tests/api/compare_listers.py true false", ("0 and 1: fewer lines", "404 runs, 404 differ"),
         (), ""),
-    Row("tests/api/kernels.py $STAND_INS/program", ("with the replies of linux-4.14",), (), ""),
+    Row("tests/api/kernels.py $STAND_INS/program",
+        ("with the replies of linux-4.14", "with descriptor 0 closed: status 0"), (), ""),
     Row(f"{SOCKDUMP} $STAND_INS/program", names(SOCKDUMP, r"(test_\w+)\(.*\)"),
         (("examples/processes.sh", None, "#!/bin/sh\n"),), ""),
     # A run that takes too long ends with SIGKILL.
