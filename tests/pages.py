@@ -74,6 +74,7 @@ NOT_RUN = {
     r"examples/list_(sockets|rtt)": "it needs the built library; tests/api/c_api.sh runs it",
     r"cargo ": "it takes minutes; tests/api/erased.sh runs cargo",
     r"cc .*tests/api/fuzz_c\.c|out/fuzz_c": "it needs the library; tests/api/c_api.sh runs both",
+    r"tests/api/fetch_targets\.sh": "it needs a network",
     r"tests/api/\w+\.sh": "it needs the library; the gate runs it later",
     r"tests/(captures|pages|programs|tables)\.py": "the gate runs them",
     r"tests/edits\.py": "it needs what the gate builds, which runs it later",

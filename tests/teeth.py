@@ -25,13 +25,15 @@ from pathlib import Path
 from typing import NamedTuple
 
 TOP = Path(__file__).resolve().parent.parent
-# Scripts that others run, which need no row, and scripts that only c_api.sh and erased.sh run.
-CALLED = {"tests/over_gate.sh", "tests/stand_in.sh", "tests/api/reply_reader.py"}
+# Scripts that need no row, since others run them or the gate does not, and scripts that only
+# c_api.sh and erased.sh run.
+CALLED = {"tests/over_gate.sh", "tests/stand_in.sh", "tests/api/fetch_targets.sh",
+          "tests/api/reply_reader.py"}
 OF_C_API = {"tests/api/compare_libraries.py", "tests/api/compare_listers.py",
             "tests/api/compare_replies.sh", "tests/api/kernels.py", "tests/api/sockdump.py"}
 # Variables that would change what the scripts run.
-UNSET = {"CC", "CFLAGS", "CARGO_TARGET_DIR", "SOCKDIAG_LIB_DIR", "SOCKDIAG_PROGRAM",
-         "SSLIST_PROGRAM"}
+UNSET = {"CC", "CFLAGS", "CARGO_TARGET_DIR", "ERASED_TOOLS", "SOCKDIAG_LIB_DIR",
+         "SOCKDIAG_PROGRAM", "SSLIST_PROGRAM"}
 # The stand-in of most programs. It fails if its name and its arguments match $FAILS.
 PROGRAM = """#!/bin/sh
 name="${0##*/}${*:+ $*}"
@@ -50,9 +52,9 @@ if "reply_reader.py make 100000 1" == f"{os.environ['FAILS']} {' '.join(sys.argv
 # The stand-ins, which precede all programs in PATH. The compiler writes stand-ins. Without a
 # library it links only programs without the check of the header.
 STAND_INS = {
-    **dict.fromkeys(("cargo", "diff", "make", "pkg-config", "program", "rt"), PROGRAM),
+    **dict.fromkeys(("cargo", "diff", "make", "pkg-config", "program", "rt", "rustdoc"), PROGRAM),
     "gate/python3": PASSED,
-    "cc": """#!/bin/sh
+    **dict.fromkeys(("cc", "aarch64-linux-gnu-gcc", "musl-gcc"), """#!/bin/sh
 output= before=
 for word; do
     [ "$before" != -o ] || output=$word
@@ -64,7 +66,10 @@ case "$output $* $FAILS" in
     *.o\\ *) cat >"$output" ;;
     /*) cp "${0%/*}/program" "$output" ;;
 esac
-""",
+"""),
+    "qemu-aarch64-static": '#!/bin/sh\nshift 2\nexec "$@"\n',
+    # All that it prints is a folder, which has the sources of Rust's library.
+    "rustc": '#!/bin/sh\necho "${0%/*}"\n', "lib/rustlib/src/rust/library/vendor/empty": "",
     "nm": '#!/bin/sh\necho "$FAILS"\n', "groff": '#!/bin/sh\necho "$FAILS" >&2\n',
     # Programs under valgrind have to run with these options, except those that are measured.
     "valgrind": """#!/bin/sh
@@ -155,20 +160,26 @@ EDIT = (
 )
 C_API, ERASED = "tests/api/c_api.sh", "tests/api/erased.sh"
 MEMORY, SOCKDUMP = "tests/api/out_of_memory.sh", "tests/api/sockdump.py"
+TARGETS = "tests/api/erased_targets.sh"
 # What c_api.sh runs after the calls from C.
 LATER = tuple((it, None, PROGRAM) for it in (
     "tools/install", "tests/api/kernels.py", SOCKDUMP))
-# An eraser that writes only a library and a program, which cargo would build.
+# An eraser that writes only a library and the programs, which cargo would build, for each target.
 ERASER = (("tools/erase", None, """#!/bin/sh
 top=$PWD
-mkdir -p "$1/target/release"
+for target in aarch64-unknown-linux-gnu x86_64-unknown-linux-musl; do
+    mkdir -p "$1/target/release" "$1/target/$target"
+    ln -s ../release "$1/target/$target/release"
+done
 cd "$1/target/release"
-cat >sockdiag <<END
+for name in sockdiag sslist; do
+    cat >"$name" <<END
 #!/bin/sh
-[ "\$FAILS" != sockdiag ] || echo planted
-exec cat $top/crates/sockdiag/stdout
+[ "\$FAILS" != $name ] || echo planted
+exec cat $top/crates/$name/stdout
 END
-chmod +x sockdiag
+    chmod +x "$name"
+done
 : >sockdiag_c.o
 ar rcs libsockdiag_c.a sockdiag_c.o
 """), *((it, None, PROGRAM) for it in (
@@ -348,6 +359,16 @@ ROWS = [
                  "programs.py *", "compare_listers.py *", "kernels.py *", "c_api.sh",
                  "compare_libraries.py *")),
     Row(ERASED, ("sockdiag/stdin differ",), ERASER, "sockdiag", "ar"),
+    *(Row(TARGETS, (f"planted: {it.split('*')[0]}", f"{TARGETS}: failed"), (*ERASER, COMPARED), it,
+          "ar")
+      for it in ("c_api", "c_values", "c_messages", "fuzz_c 20000 *", "print_replies",
+                 "cargo build --release --offline --target aarch64-unknown-linux-gnu",
+                 "cargo test --offline --target aarch64-unknown-linux-gnu --no-default-features",
+                 "cargo test --offline --target aarch64-unknown-linux-gnu",
+                 "cargo build --release --offline --target x86_64-unknown-linux-musl --package *",
+                 "cargo test --offline --target x86_64-unknown-linux-musl -Z *")),
+    *(Row(TARGETS, (f"{it}/stdout differ",), (*ERASER, COMPARED), it, "ar")
+      for it in ("sockdiag", "sslist")),
     Row("sh libraries.sh tests/api/compare_libraries.py",
         ("sockdiag_version: the first difference at call 1: 0 and 1", ": 1 differ"), (LIBRARIES,),
         needs="cc"),
