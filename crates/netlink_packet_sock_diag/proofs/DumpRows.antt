@@ -3,7 +3,9 @@
 use Rattle.std.proofs.lemmas.Grind.{common_steps}
 use Rattle.std.proofs.Common.{◌≡◌, ◌≢◌, ◌↔◌, ℕ, ◌⊎◌, inl, inr, List, [], ◌∷◌, ◌++◌, refl, sym, ap}
 use Rattle.std.proofs.Common.{◌∙◌, append_assoc, arith, Bool, IsTrue, ◌%◌, length}
+use Rattle.std.specs.Option.{option_to_list}
 use Rattle.std.specs.Prelude.{MatchOption, Option, Some, None, Result, Ok, Err, slice_get, IsBitSet}
+use Rattle.std.specs.Prelude.{option_map}
 use Rattle.std.specs.List.{AllByRecursion, AllZip, concat, flat_map}
 use Rattle.std.proofs.lemmas.List.{append-nil}
 use Rattle.netlink_core.specs.declared.error.DecodeError.{DecodeError}
@@ -27,8 +29,8 @@ use Rattle.netlink_packet_sock_diag.specs.Dump.{DumpOfDatagrams, DumpOfItems, Du
 use Rattle.netlink_packet_sock_diag.specs.Dump.{HaveSameItems, IsCompleteSplit, concatenation}
 use Rattle.netlink_packet_sock_diag.specs.Dump.{dump_end_at, inner_message_list}
 use Rattle.netlink_packet_sock_diag.specs.Feed.{DumpProgress, FeedLeadsTo, FeedingAllLeadsTo}
-use Rattle.netlink_packet_sock_diag.specs.Feed.{InterruptsDump, IsReading, ReadsDatagram}
-use Rattle.netlink_packet_sock_diag.specs.Feed.{status_of_dump, new_dump}
+use Rattle.netlink_packet_sock_diag.specs.Feed.{FeedsWithMemory, InterruptsDump, IsReading}
+use Rattle.netlink_packet_sock_diag.specs.Feed.{ReadsDatagram, status_of_dump, new_dump}
 
 -- the dump has not ended
 abbrev pub reading_status : DumpStatus
@@ -37,6 +39,10 @@ reading_status = (Reading, None)
 -- how a dump ends, or its error
 abbrev pub EndOrDecodeError : Type 0
 EndOrDecodeError = Result DumpStatus DecodeError
+
+-- the error of the bytes after the messages of a datagram, if there is one
+abbrev pub error_after_messages : {A : Type 0} → Option DecodeError → List (Item A)
+error_after_messages end = option_to_list (option_map Err end)
 
 -- the first of the later items ends the dump; if there are none, the dump is still being read
 abbrev pub DumpEndsAt : {A : Type 0} → List (Item A) → EndOrDecodeError → Type 0
@@ -54,7 +60,7 @@ DumpContinues middle state items after end =
 abbrev NoItemEndsDump : {A : Type 0} → List (Item A) → Type 0
 NoItemEndsDump items = AllByRecursion (λ item. dump_end_at item ≡ None) items
 
-none_or_some : {X : Type 0} (end : Option X) → (end ≡ None) ⊎ ((x : X) × (end ≡ Some x))
+pub none_or_some : {X : Type 0} (end : Option X) → (end ≡ None) ⊎ ((x : X) × (end ≡ Some x))
 none_or_some None = inl refl
 none_or_some (Some x) = inr (x, refl)
 
@@ -409,6 +415,19 @@ module _ {A : Type 0} (item_is : List ℕ → Item A → Type 0) where
   feed_step old new datagram answer reading f some =
       grind arith
 
+  -- reading a datagram, without the error `Memory`, is feeding it
+  pub feeds_by_reading : (old new : DumpProgress A) (datagram : List ℕ) (end : EndOrDecodeError)
+      → IsReading old → ReadsDatagram item_is (old, datagram) (new, end)
+      → status_of_dump new ≡ state_left end → end ≢ Err Memory
+      → FeedsWithMemory item_is old datagram new
+  feeds_by_reading old new datagram (Ok status) reading reads is some =
+      (Ok tt, (reading, rw (← is) at reads), λ e. grind arith)
+  feeds_by_reading old new datagram (Err e) reading reads is some = (
+    Err (Fault e),
+    (reading, is, λ no. reads, λ m. grind (arith, some)),
+    λ same. grind (arith, some),
+  )
+
   ended_stays : (datagrams : List (List ℕ)) (old new : DumpProgress A) → ¬ IsReading old
       → FeedingAllLeadsTo item_is old datagrams new → new ≡ old
   ended_stays (datagram ∷ later) old new over (next, (Err Ended, leaves, some), more) =
@@ -499,30 +518,15 @@ module _ {A : Type 0} (item_is : List ℕ → Item A → Type 0) (some : SomeIte
       let d = dump_of_split item_is datagrams split.1 [] progress.messages a.0 a.1 in
       ((a.0, (d.0, d.1, d.2, a.4 split.1)), a.2, a.3)
 
-  -- a dump over one datagram is the result of feeding it
-  feeding_one : (datagram : List ℕ) (progress : DumpProgress A) (end : EndOrDecodeError)
-      → ReadsDatagram item_is (new_dump, datagram) (progress, end)
-      → status_of_dump progress ≡ state_left item_is end → end ≢ Err Memory
-      → FeedingAllLeadsTo item_is new_dump (datagram ∷ []) progress
-  feeding_one datagram progress (Ok status) parses is some =
-      (progress, (Ok tt, (refl, rw (← is) at parses), λ e. grind arith), refl)
-  feeding_one datagram progress (Err e) parses is some = (
-    progress,
-    (
-      Err (Fault e),
-      (refl, is, λ no. parses, λ m. grind (arith, some)),
-      λ same. grind (arith, some),
-    ),
-    refl,
-  )
-
   -- feeding the concatenated bytes as one datagram leads to the same progress
   pub feeding_whole : (datagrams : List (List ℕ)) → IsCompleteSplit datagrams
       → (progress : DumpProgress A) → FeedingAllLeadsTo item_is new_dump datagrams progress
       → FeedingAllLeadsTo item_is new_dump (concat datagrams ∷ []) progress
   feeding_whole datagrams split progress f =
       let all = feeding_split_is_dump datagrams split progress f in
-      feeding_one (concat datagrams) progress all.0.0 all.0.1 all.1 all.2
+      let step = feeds_by_reading item_is new_dump progress (concat datagrams) all.0.0 refl all.0.1
+      all.1 all.2 in
+      (progress, step, refl)
 
   -- feeding the same bytes in differently split datagrams leads to the same progress
   pub equal_feeds_of_splits : (datagrams others : List (List ℕ))

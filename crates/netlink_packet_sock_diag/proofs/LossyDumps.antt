@@ -1,8 +1,7 @@
 -- If a dump ends without an error, a `LossyDump` keeps the same messages. The errors at which a
 -- `LossyDump` ends are those of bytes that are not a message.
 use Rattle.std.proofs.Common.{◌≡◌, ℕ, List, [], ◌∷◌, ◌++◌, map, refl, arith}
-use Rattle.std.specs.Option.{option_to_list}
-use Rattle.std.specs.Prelude.{Option, option_map, Some, None, Result, Ok, Err}
+use Rattle.std.specs.Prelude.{Option, Some, None, Result, Ok, Err}
 use Rattle.std.specs.List.{AllZip}
 use Rattle.std.proofs.lemmas.List.{append-nil, map-append}
 use Rattle.netlink_core.specs.Codec.{Codec, KeepsCodecLaws}
@@ -17,11 +16,7 @@ use Rattle.netlink_packet_sock_diag.specs.Lossy.{HasLossyEntry, as_lossy_entries
 use Rattle.netlink_packet_sock_diag.specs.laws.DumpEntry.{entry_of_item, is_entry, one_entry}
 use Rattle.netlink_packet_sock_diag.specs.laws.DumpEntry.{entries_determine_items}
 use Rattle.netlink_packet_sock_diag.proofs.DumpRows.{OneList, SomeItems, dump_is, dump_of_one}
-use Rattle.netlink_packet_sock_diag.proofs.DumpRows.{one_item_of, reach}
-
--- the error of the bytes after the messages of a datagram, if there is one
-abbrev error_after_messages : {A : Type 0} → Option DecodeError → List (Item A)
-error_after_messages end = option_to_list (option_map Err end)
+use Rattle.netlink_packet_sock_diag.proofs.DumpRows.{error_after_messages, one_item_of, reach}
 
 module _ {A : Type 0} where
   reach_entries : (items : List (Item A)) (end : Option DecodeError) (before after : List A)

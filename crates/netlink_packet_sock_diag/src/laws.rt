@@ -298,6 +298,20 @@ pub fn splits_have_same_items()
         → HaveSameItems (HasLossyEntry message_codec) datagrams others }
 {}
 
+/// What the laws about feeding assume, `NewReaderReaches`, is met by any datagrams of bytes:
+/// feeding them to a new reader leads to a progress, if no allocation fails.
+///
+/// - `reader`: of a `DumpReader`, which keeps messages;
+/// - `lossy`: of a `LossyDump`, which keeps entries, each a message or a decode error.
+pub fn datagrams_lead_to_a_progress()
+    ensures reader { (datagrams : List (List ℕ)) → AllByRecursion IsBytes datagrams
+        → (progress : DumpProgress Message)
+        × NewReaderReaches (IsItemOf message_codec) datagrams progress }
+    ensures lossy { (datagrams : List (List ℕ)) → AllByRecursion IsBytes datagrams
+        → (progress : DumpProgress (Result Message DecodeError))
+        × NewReaderReaches (HasLossyEntry message_codec) datagrams progress }
+{}
+
 /// The result of feeding a `DumpReader` does not depend on the split into datagrams. `datagrams`
 /// and `others` are two ways to split the same bytes into datagrams, in each of which every
 /// datagram except the last consists of complete messages with all their padding. Each is fed to a
