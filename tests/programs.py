@@ -1,8 +1,12 @@
 #!/usr/bin/env python3
-"""tests/programs.py SOCKDIAG SSLIST: runs the two built programs at these paths with each form of
-arguments, and compares standard output, standard error and exit status. Prints the differences. The
-exit status is 1 if there is one.
+"""tests/programs.py [--rust] SOCKDIAG SSLIST: runs the two built programs at these paths with each
+form of arguments, and compares standard output, standard error and exit status. Prints the
+differences. The exit status is 1 if there is one.
+
+With --rust the programs were built by Cargo. They are not run without standard input, output or
+error: before they begin, Rust's runtime opens /dev/null in place of these.
 """
+import functools
 import ipaddress
 import json
 import os
@@ -61,12 +65,19 @@ def run(program, arguments, given, to=subprocess.PIPE, **more):
     return ended.returncode, ended.stdout or b"", ended.stderr
 
 
-def check(program, arguments, given, status, output, errors=b"", to=subprocess.PIPE):
+def check(program, arguments, given, status, output, errors=b"", to=subprocess.PIPE, **more):
     """Compares a run with what is expected. The expected errors are a regular expression."""
-    got = run(program, arguments, given, to)
+    got = run(program, arguments, given, to, **more)
     if got[:2] != (status, output) or not re.fullmatch(errors, got[2]):
         shown = f"{got[0]} {got[1][-60:]} {got[2]}, expected {status} {output[-60:]} {errors}"
         failures.append(f"{program} {arguments}: {shown}")
+
+
+def check_not_open(program, rows):
+    """Runs a program without standard input, output or error. Each row has the descriptor, the
+    arguments, the input, and what is expected."""
+    for closed, *row in rows:
+        check(program, *row, preexec_fn=functools.partial(os.close, closed))
 
 
 def check_failed_writes(program, arguments, given, closed, full):
@@ -101,6 +112,17 @@ def test_sockdiag(program):
     assert len(reply.hex()) > 64 << 20
     check(program, [], b"unix %s\n" % reply.hex().encode(), 0, b"ok %s\n" % reply.hex().encode())
     check_prompt_answers(program, lines.splitlines(True)[:40], answers.splitlines(True))
+
+
+def test_sockdiag_not_open(program):
+    line, answer = ((CRATES / "sockdiag" / it).read_bytes().splitlines(True)[0]
+        for it in ("stdin", "stdout"))
+    check_not_open(program, [
+        (0, [], line, 1, b"", b"sockdiag: reading failed\n"),
+        (1, [], line, 1, b"", b"sockdiag: writing failed\n"),
+        (1, ["--help"], b"", 1, b"", b"sockdiag: writing failed\n"),
+        (2, [], line, 0, answer),
+    ])
 
 
 def check_prompt_answers(program, lines, answers):
@@ -182,6 +204,21 @@ def test_sslist(program):
     check_failed_writes(program, [], capture, b"", failed)
     check_failed_writes(program, ["--help"], b"", b"", failed)
     check_failed_writes(program, ["--version"], b"", b"", failed)
+
+
+def test_sslist_not_open(program):
+    """A file gets the descriptor that is not open."""
+    capture, table = CAPTURE.read_bytes(), (CRATES / "sslist/stdout").read_bytes()
+    note = b"sslist: .*packet 12, message 1: .*\n"
+    unread = rb"sslist: reading failed \(os error 9: bad file descriptor\)\n"
+    unwritten = rb"sslist: (.*: )?writing .* failed \(os error 9: bad file descriptor\)\n"
+    check_not_open(program, [
+        (0, [CAPTURE], b"", 0, table, note), (0, [], b"", 1, b"", unread),
+        (0, [CAPTURE, "-"], b"", 1, caption(CAPTURE) + table, note + unread),
+        (1, [CAPTURE], b"", 1, b"", unwritten), (1, [], capture, 1, b"", unwritten),
+        (1, ["--help"], b"", 1, b"", unwritten),
+        (2, [CAPTURE], b"", 0, table), (2, [], capture, 0, table), (2, ["/nowhere"], b"", 1, b""),
+    ])
 
 
 def test_terminal(program):
@@ -841,17 +878,21 @@ def selected(program, option, capture):
 
 
 if __name__ == "__main__":
-    if len(sys.argv) != 3:
-        print("usage: tests/programs.py SOCKDIAG SSLIST", file=sys.stderr)
+    is_rust = sys.argv[1:2] == ["--rust"]
+    if len(sys.argv) != 3 + is_rust:
+        print("usage: tests/programs.py [--rust] SOCKDIAG SSLIST", file=sys.stderr)
         sys.exit(2)
-    sockdiag, sslist = map(os.path.abspath, sys.argv[1:3])
+    sockdiag, sslist = map(os.path.abspath, sys.argv[1 + is_rust :])
     failed = []
-    for test, program in [(test_sockdiag, sockdiag), *((it, sslist) for it in (
+    tests = [(test_sockdiag, sockdiag), *((it, sslist) for it in (
         test_sslist, test_options, test_times, test_letters, test_rejections, test_terminal,
         test_diagnostics, test_mptcp_info, test_pcapng, test_json, test_newer_details,
         test_long_inputs, test_unreadable_file, test_early_check,
         *[test_sockdump] * bool(shutil.which("gcc")),
-    ))]:
+    ))]
+    if not is_rust:
+        tests += [(test_sockdiag_not_open, sockdiag), (test_sslist_not_open, sslist)]
+    for test, program in tests:
         before = len(failures)
         try:
             test(program)

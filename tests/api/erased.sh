@@ -55,7 +55,7 @@ fi
 # The tests of the two programs. They run each option, and captures that are made for it.
 quiet "$top/tests/captures.py" "$built/sslist"
 sed -n 's/.*: \([0-9]* runs\), .*/erased: the lister passed \1 over captures/p' "$work/log"
-quiet "$top/tests/programs.py" "$answer" "$built/sslist"
+quiet "$top/tests/programs.py" --rust "$answer" "$built/sslist"
 lister=${SSLIST_PROGRAM-$top/crates/sslist/out/sslist}
 if [ -f "$lister" ]; then
     "$top/tests/api/compare_listers.py" "$lister" "$built/sslist"
