@@ -50,6 +50,11 @@ test_library() {
     echo "erased: $target: C programs pass with ${1##*/}"
 }
 
+# Stores what a program prints of its stored input.
+answer() {
+    run "$built/$1" <"$top/crates/$1/stdin" >"$work/found"
+}
+
 # test_target FLAG..: tests a target, for which cargo needs more flags. `compile` compiles C for it,
 # and `run` runs a program.
 test_target() {
@@ -64,7 +69,7 @@ test_target() {
     for library in "$built"/libsockdiag_c.*[ao]; do test_library "$library"; done
     quiet cargo build --release --offline --target "$target" "$@"
     for program in sockdiag sslist; do
-        run "$built/$program" <"$top/crates/$program/stdin" >"$work/found"
+        quiet answer "$program"
         cmp "$work/found" "$top/crates/$program/stdout"
         echo "erased: $target: $program prints the $(wc -l <"$work/found") stored lines"
     done
@@ -95,8 +100,9 @@ arm() {
 }
 
 # Makes what musl lacks: $work/kernel has the headers of the kernel, and $work/unwind the library
-# libunwind.a, with which cargo links. It refers to that of gcc, which has the same functions. They
-# call one of glibc, and work if it fails.
+# libunwind.a, with which cargo links. It refers to that of gcc, which has the same functions, made
+# for glibc: they find the tables of a program by a function of glibc, and call those of threads
+# without linking them.
 complete_musl() {
     mkdir "$work/kernel" "$work/unwind"
     for folder in /usr/include /usr/include/x86_64-linux-gnu; do
@@ -104,9 +110,20 @@ complete_musl() {
             [ ! -d "$folder/$header" ] || ln -s "$folder/$header" "$work/kernel/$header"
         done
     done
-    echo 'int _dl_find_object(void) { return -1; }' >"$work/find.c"
+    cat >"$work/find.c" <<'END'
+extern char __GNU_EH_FRAME_HDR[];
+int _dl_find_object(void *address, void **found) {
+    (void)address;
+    found[4] = __GNU_EH_FRAME_HDR;
+    return 0;
+}
+END
     quiet musl-gcc -c -o "$work/find.o" "$work/find.c"
-    echo "INPUT($(cc -print-file-name=libgcc_eh.a) $work/find.o)" >"$work/unwind/libunwind.a"
+    cat >"$work/unwind/libunwind.a" <<END
+EXTERN(pthread_once pthread_mutex_lock pthread_mutex_unlock)
+EXTERN(pthread_key_create pthread_getspecific pthread_setspecific)
+INPUT($(cc -print-file-name=libgcc_eh.a) $work/find.o)
+END
 }
 
 # Rust's library is compiled here, since Debian has none for musl.
