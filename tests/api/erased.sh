@@ -22,7 +22,7 @@ quiet cargo build --release --offline
 quiet cargo build --release --offline --package sockdiag_c
 built=$work/erased/target/release
 quiet cargo test --offline --no-default-features
-quiet cargo test --offline
+quiet cargo test --offline --features c
 sed -n 's/^test result: ok. \([0-9]* passed\).*/erased: \1/p' "$work/log" | sed -n 1p
 answer=$built/sockdiag
 

@@ -42,3 +42,11 @@ fn initialize(start: *mut u8) {
     // SAFETY: there is no instruction.
     unsafe { asm!("/* {0} */", in(reg) start, options(nostack, preserves_flags)) }
 }
+
+#[test]
+fn no_bytes_at_a_null_pointer() {
+    use core::ptr::{null, null_mut};
+    // SAFETY: there are no bytes.
+    let (bytes, buffer) = unsafe { (bytes(null(), 0), bytes_mut(null_mut(), 0)) };
+    assert!(!bytes.as_ptr().is_null() && !buffer.as_ptr().is_null());
+}

@@ -6,8 +6,12 @@ use sockdiag::any::AnySockDiagView;
 use sockdiag::extras::TcpInfoBytes;
 use sockdiag::inet::{ExtensionFlags, InetRequest, InetResponse, SocketId, StateFlags};
 use sockdiag::lenient::LenientUnixReply;
+use sockdiag::unix::nlas::Nla;
 use sockdiag::unix::{UnixResponse, UnixResponseView};
-use sockdiag::{DumpViews, Emitable, NetlinkHeader, NetlinkMessage, Parseable, SockDiagMessage};
+use sockdiag::{
+    DefaultNla, DumpViews, Emitable, NetlinkHeader, NetlinkMessage, Parseable, SmallVec,
+    SockDiagMessage, smallvec,
+};
 use std::alloc::{GlobalAlloc, Layout, System};
 use std::cell::Cell;
 
@@ -16,6 +20,8 @@ struct Counting;
 thread_local! {
     /// Number of allocations of this thread.
     static ALLOCATIONS: Cell<usize> = const { Cell::new(0) };
+    /// Number of allocations that this thread has freed.
+    static FREED: Cell<usize> = const { Cell::new(0) };
 }
 
 // SAFETY: the allocator of the system does the work.
@@ -27,6 +33,7 @@ unsafe impl GlobalAlloc for Counting {
     }
 
     unsafe fn dealloc(&self, bytes: *mut u8, layout: Layout) {
+        FREED.set(FREED.get() + 1);
         // SAFETY: the caller ensures what `dealloc` requires.
         unsafe { System.dealloc(bytes, layout) }
     }
@@ -73,6 +80,16 @@ fn small_owned_replies_need_no_allocation() {
     (0..8).for_each(|_| inet.extend(&info));
     let (allocations, reply) = count(|| InetResponse::parse(&inet[..]));
     assert_eq!((allocations, reply.unwrap().nlas.len()), (0, 8));
+}
+
+#[test]
+fn clear_frees_the_items() {
+    for count in [2, 8, 9] {
+        let mut nlas: SmallVec<Nla, 8> = smallvec![Nla::Other(DefaultNla::new(9, vec![7])); count];
+        let before = FREED.get();
+        nlas.clear();
+        assert_eq!(FREED.get() - before, count);
+    }
 }
 
 #[test]

@@ -25,6 +25,12 @@ fn up_to_eight_attributes_need_no_heap() {
 }
 
 #[test]
+fn a_name_needs_a_heap() {
+    let bytes = [&HEADER[..], &[7, 0, 0, 0, b'/', b'a', 0, 0]].concat();
+    assert_eq!(UnixResponse::parse(bytes.as_slice()), Err(DecodeError::Memory));
+}
+
+#[test]
 fn nine_attributes_need_a_heap() {
     assert_eq!(parsed(9), Err(DecodeError::Memory));
 }

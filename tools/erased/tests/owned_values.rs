@@ -79,6 +79,14 @@ fn message(bytes: &[u8]) -> NetlinkMessage<SockDiagMessage> {
 }
 
 #[test]
+fn names_are_cloned() {
+    let bytes = b"ab".to_vec();
+    for name in [UnixDiagName::Pathname(bytes.clone()), UnixDiagName::Abstract(bytes)] {
+        assert_eq!(name.clone(), name);
+    }
+}
+
+#[test]
 fn debug_prints_the_attributes() {
     let text = "NetlinkMessage { header: NetlinkHeader { length: 60, message_type: 20, flags: 2, \
         sequence_number: 7, port_number: 9 }, payload: InnerMessage(UnixResponse(UnixResponse { \
