@@ -286,6 +286,10 @@ def main():
     profiles = written[Path("Cargo.toml")].decode().split("[profile.")[1:]
     if not all("\noverflow-checks = true\n" in profile for profile in profiles):
         wrong.append("a profile of the package does not check overflows")
+    c_api = written[Path("src", eraser.C_LIBRARY, "c_api.rs")].decode()
+    for name, length in re.findall(r"memory::bytes\w*\((.*), (.*)\),", c_api):
+        if length != f"{name}_length":
+            wrong.append(f"c_api.rs: {length} is the length of {name}")
     for text in REFUSED:
         try:
             eraser.erase(text + "\n", "netlink_core")

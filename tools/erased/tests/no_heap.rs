@@ -26,8 +26,10 @@ fn up_to_eight_attributes_need_no_heap() {
 
 #[test]
 fn a_name_needs_a_heap() {
-    let bytes = [&HEADER[..], &[7, 0, 0, 0, b'/', b'a', 0, 0]].concat();
-    assert_eq!(UnixResponse::parse(bytes.as_slice()), Err(DecodeError::Memory));
+    for attribute in [[6, 0, 0, 0, b'/', 0, 0, 0], [7, 0, 0, 0, b'/', b'a', 0, 0]] {
+        let bytes = [&HEADER[..], &attribute].concat();
+        assert_eq!(UnixResponse::parse(bytes.as_slice()), Err(DecodeError::Memory));
+    }
 }
 
 #[test]

@@ -92,6 +92,14 @@ pub mod net {
     pub fn parse_ascii(text: &[u8]) -> Result<IpAddr, AddrParseError> {
         core::str::from_utf8(text).unwrap_or("").parse()
     }
+
+    #[test]
+    fn spaces_are_no_address() {
+        for text in [&b" 1.2.3.4"[..], b"1.2.3.4 ", b"::1\n"] {
+            assert!(parse_ascii(text).is_err());
+        }
+        assert!(parse_ascii(b"::1").is_ok() && parse_ascii(b"1.2.3.4").is_ok());
+    }
 }
 
 pub mod marker {

@@ -108,3 +108,15 @@ macro_rules! try_vec {
     };
 }
 pub(crate) use try_vec;
+
+#[cfg(all(test, not(feature = "alloc")))]
+#[test]
+fn without_a_heap_each_allocation_fails() {
+    let mut vec = Vec::new();
+    for count in [1, 2, 9] {
+        assert_eq!(vec.try_extend_from_slice(&[7u8; 9][..count]), Err(AllocError));
+        assert_eq!(vec.try_resize(count, 7), Err(AllocError));
+        assert_eq!(Vec::<u8>::with_reserved(count), Err(AllocError));
+    }
+    assert!(vec.try_push(7).is_err() && vec.try_insert(0, 7).is_err());
+}
