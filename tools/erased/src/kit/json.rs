@@ -97,3 +97,13 @@ impl Writer {
         self.text.try_extend_from_slice(&[b'\\', letter])
     }
 }
+
+#[test]
+fn control_characters_are_escaped() {
+    for byte in 0..32 {
+        let mut writer = Writer::new(Vec::new());
+        writer.string(core::str::from_utf8(&[byte]).unwrap()).unwrap();
+        let text = writer.into_inner();
+        assert!(text.len() > 3 && text.iter().all(|it| *it >= 32), "{byte}");
+    }
+}

@@ -120,3 +120,14 @@ fn without_a_heap_each_allocation_fails() {
     }
     assert!(vec.try_push(7).is_err() && vec.try_insert(0, 7).is_err());
 }
+
+#[cfg(all(test, feature = "alloc"))]
+#[test]
+fn items_are_inserted() {
+    for index in 0..5 {
+        let (mut vec, mut expected) = (Vec::from([1, 2, 3, 4]), Vec::from([1, 2, 3, 4]));
+        expected.insert(index, 9);
+        assert!(vec.try_insert(index, 9).is_ok());
+        assert_eq!(vec, expected);
+    }
+}
