@@ -268,34 +268,59 @@ def run(out):
     return {path.relative_to(out): path.read_bytes() for path in out.rglob("*") if path.is_file()}
 
 
+def lost_documentation(text, erased):
+    """Yields the paragraphs at the head of a source that do not speak of contracts, and are lost."""
+    for paragraph in re.match(r"(?://!.*\n)*", text)[0].split("//!\n"):
+        if "ontract" not in paragraph and paragraph not in erased:
+            yield f"lost documentation: {paragraph.splitlines()[0]}"
+
+
+def broken_promises(written):
+    """Yields what the hand-written and generated files of the package have to keep and do not."""
+    profiles = written[Path("Cargo.toml")].decode().split("[profile.")[1:]
+    if not all("\noverflow-checks = true\n" in profile for profile in profiles):
+        yield "a profile of the package does not check overflows"
+    c_api = written[Path("src", eraser.C_LIBRARY, "c_api.rs")].decode()
+    for name, length in re.findall(r"memory::bytes\w*\((.*), (.*)\),", c_api):
+        if length != f"{name}_length":
+            yield f"c_api.rs: {length} is the length of {name}"
+
+
+def accepted_forms():
+    """Yields the forms that tools/erase has to refuse and accepts."""
+    for text in REFUSED:
+        try:
+            eraser.erase(text + "\n", "netlink_core")
+            yield f"tools/erase accepts {text}"
+        except SyntaxError:
+            pass
+    source = eraser.Source("a b c")
+    source.replace(0, 1, "d")
+    source.replace(1, 2, "e")
+    try:
+        yield f"overlapping edits make {source.result()}"
+    except SyntaxError:
+        pass
+
+
 def main():
     wrong, counts = [], Counter()
     with tempfile.TemporaryDirectory() as work:
         written, again = run(Path(work, "one")), run(Path(work, "two"))
     if written != again:
         wrong.append("tools/erase writes other files the second time")
-    sources = [(crate, path, pruned(tokens_of(text))) for crate, path, text in eraser.sources()]
-    laws = {law for _, _, tokens in sources for law in laws_in(tokens)}
-    for crate, path, tokens in sources:
+    sources = [(*it, pruned(tokens_of(it[2]))) for it in eraser.sources()]
+    laws = {law for *_, tokens in sources for law in laws_in(tokens)}
+    for crate, path, text, tokens in sources:
+        name = path.relative_to(TOP)
         erased = written[eraser.place_of(crate, path)].decode()
         is_root_of_c = crate == eraser.C_LIBRARY and path.stem == "lib"
         if (FORBID in erased.splitlines()) == is_root_of_c:
-            wrong.append(f"{path.relative_to(TOP)}: unsafe code is not forbidden")
+            wrong.append(f"{name}: unsafe code is not forbidden")
+        wrong += (f"{name}: {it}" for it in lost_documentation(text, erased))
         sides = without(tokens, laws), tokens_of(ADDED.sub("", erased))
-        wrong += differences(path.relative_to(TOP), crate, *sides, counts)
-    profiles = written[Path("Cargo.toml")].decode().split("[profile.")[1:]
-    if not all("\noverflow-checks = true\n" in profile for profile in profiles):
-        wrong.append("a profile of the package does not check overflows")
-    c_api = written[Path("src", eraser.C_LIBRARY, "c_api.rs")].decode()
-    for name, length in re.findall(r"memory::bytes\w*\((.*), (.*)\),", c_api):
-        if length != f"{name}_length":
-            wrong.append(f"c_api.rs: {length} is the length of {name}")
-    for text in REFUSED:
-        try:
-            eraser.erase(text + "\n", "netlink_core")
-            wrong.append(f"tools/erase accepts {text}")
-        except SyntaxError:
-            pass
+        wrong += differences(name, crate, *sides, counts)
+    wrong += [*broken_promises(written), *accepted_forms()]
     for name, (_, old, new) in enumerate(ALL_CHANGES):
         print(f"{counts[name]:4} times {old or 'nothing':.40} became {new or 'nothing':.40}")
     print(*wrong, f"tests/erased.py: {len(wrong)} errors", sep="\n")

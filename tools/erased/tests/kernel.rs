@@ -7,6 +7,7 @@ use std::io::{self, ErrorKind};
 use std::os::fd::{AsFd, AsRawFd, FromRawFd, OwnedFd};
 use std::process::Command;
 use std::rc::Rc;
+use std::time::Duration;
 
 use sockdiag::any::AnySockDiagView;
 use sockdiag::extras::constants::{INET_DIAG_REQ_PROTOCOL, NLM_F_DUMP_INTR, NLM_F_MULTI};
@@ -478,8 +479,14 @@ fn find(answer: &Answer, name: &[u8]) -> Option<(u32, [u8; 8])> {
     })
 }
 
-/// Returns whether this machine has sock_diag, which a container may lack.
+/// Returns whether this machine has sock_diag, which a container may lack. A wrong request may have
+/// no answer: the process is ended after a minute.
 fn has_sock_diag() -> bool {
+    std::thread::spawn(|| {
+        std::thread::sleep(Duration::from_secs(60));
+        eprintln!("no answer of the kernel in a minute");
+        std::process::abort();
+    });
     match Kernel::new().dump(&unix_request()) {
         Ok(_) => true,
         Err(failure) => {
