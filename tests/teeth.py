@@ -68,8 +68,14 @@ case "$output $* $FAILS" in
 esac
 """),
     "qemu-aarch64-static": '#!/bin/sh\nshift 2\nexec "$@"\n',
-    # All that it prints is a folder, which has the sources of Rust's library.
-    "rustc": '#!/bin/sh\necho "${0%/*}"\n', "lib/rustlib/src/rust/library/vendor/empty": "",
+    # It prints its version, or a folder, which has the sources of Rust's library.
+    "rustc": """#!/bin/sh
+case $1 in --version) echo 'rustc 1.95.0' ;; *) echo "${0%/*}" ;; esac
+""",
+    "objdump": """#!/bin/sh
+[ "$FAILS" != panics ] || yes 'call <panic>' | head -n 1000
+""",
+    "lib/rustlib/src/rust/library/vendor/empty": "",
     "nm": '#!/bin/sh\necho "$FAILS"\n', "groff": '#!/bin/sh\necho "$FAILS" >&2\n',
     # Programs under valgrind have to run with these options, except those that are measured.
     "valgrind": """#!/bin/sh
@@ -182,6 +188,7 @@ END
 done
 : >sockdiag_c.o
 ar rcs libsockdiag_c.a sockdiag_c.o
+case $FAILS in other) echo $$ >libsockdiag_c.so ;; *) : >libsockdiag_c.so ;; esac
 """), *((it, None, PROGRAM) for it in (
     "tests/api/c_api.sh", "tests/api/compare_libraries.py", "tests/api/kernels.py",
     "tests/api/compare_listers.py", "tests/captures.py", "tests/programs.py")),
@@ -355,10 +362,12 @@ ROWS = [
         (("crates/netlink_core/src/lib.rt", "", "\n#[must_use]\npub fn planted() {}\n"),)),
     *(Row(ERASED, (f"planted: {it.split(' *')[0]}",), (LIBRARY, *ERASER), it, "ar")
       for it in ("cargo build *", "cargo test --offline --no-default-features",
-                 "cargo test --offline", "cargo clippy --offline *", "captures.py *",
-                 "programs.py *", "compare_listers.py *", "kernels.py *", "c_api.sh",
-                 "compare_libraries.py *")),
-    Row(ERASED, ("sockdiag/stdin differ",), ERASER, "sockdiag", "ar"),
+                 "cargo test --offline --features c", "cargo doc *", "cargo clippy --offline *",
+                 "captures.py *", "programs.py *", "compare_listers.py *", "kernels.py *",
+                 "c_api.sh", "compare_libraries.py *")),
+    *(Row(ERASED, (reported,), ERASER, fails, "ar")
+      for reported, fails in (("sockdiag/stdin differ", "sockdiag"), ("libsockdiag_c.so", "other"),
+                              ("panics at 1000 places", "panics"))),
     *(Row(TARGETS, (f"planted: {it.split('*')[0]}", f"{TARGETS}: failed"), (*ERASER, COMPARED), it,
           "ar")
       for it in ("c_api", "c_values", "c_messages", "fuzz_c 20000 *", "print_replies",

@@ -26,9 +26,10 @@ quiet cargo test --offline --features c
 sed -n 's/^test result: ok. \([0-9]* passed\).*/erased: \1/p' "$work/log" | sed -n 1p
 answer=$built/sockdiag
 
-# The package uses no function of Rust's library that is newer than its `rust-version`.
+quiet env RUSTDOCFLAGS='-D warnings' cargo doc --offline --no-deps
+# clippy also reports functions of Rust's library that are newer than the package's `rust-version`.
 if cargo clippy --version >/dev/null 2>&1; then
-    quiet cargo clippy --offline --features c -- -A clippy::all -D clippy::incompatible_msrv
+    quiet cargo clippy --offline --features c -- -D warnings
 else
     echo "erased: skipped: the minimal version of Rust: no cargo clippy"
 fi
@@ -72,6 +73,17 @@ if "$built/examples/list_sockets" >"$work/sockets" 2>"$work/errors"; then
 else
     echo "erased: list_sockets failed: $(cat "$work/errors")"
 fi
+
+# The library is the same, byte for byte, if it is built in another folder.
+"$top/tools/erase" "$work/other"
+(cd "$work/other" && quiet cargo build --release --offline --package sockdiag_c)
+cmp "$built/libsockdiag_c.so" "$work/other/target/release/libsockdiag_c.so"
+
+# The places where a broken precondition of a function would end the process. With this version of
+# Rust there must not be more.
+panics=$(objdump -d --no-show-raw-insn "$built/libsockdiag_c.so" | grep -cE 'call.*(panic|_fail)') || :
+echo "erased: the C library calls a function that panics at $panics places"
+case $(rustc --version) in 'rustc 1.95.'*) [ "$panics" -le 87 ] || exit 1 ;; esac
 
 # Cargo adds objects of Rust's own library, of which the one of the library needs nothing.
 mkdir "$work/object" "$work/library"
