@@ -81,7 +81,8 @@ cmp "$built/libsockdiag_c.so" "$work/other/target/release/libsockdiag_c.so"
 
 # The places where a broken precondition of a function would end the process. With this version of
 # Rust there must not be more.
-panics=$(objdump -d --no-show-raw-insn "$built/libsockdiag_c.so" | grep -cE 'call.*(panic|_fail)') || :
+panics=$(objdump -d --no-show-raw-insn "$built/libsockdiag_c.so" |
+    grep -cE 'call.*(panic|_fail)') || :
 echo "erased: the C library calls a function that panics at $panics places"
 case $(rustc --version) in 'rustc 1.95.'*) [ "$panics" -le 87 ] || exit 1 ;; esac
 
