@@ -372,8 +372,8 @@ ROWS = [
           "ar")
       for it in ("c_api", "c_values", "c_messages", "fuzz_c 20000 *", "print_replies",
                  "cargo build --release --offline --target aarch64-unknown-linux-gnu",
-                 "cargo test --offline --target aarch64-unknown-linux-gnu --no-default-features",
-                 "cargo test --offline --target aarch64-unknown-linux-gnu",
+                 "cargo test --offline --target aarch64-unknown-linux-gnu --no-default-features *",
+                 "cargo test --offline --target aarch64-unknown-linux-gnu -- *",
                  "cargo build --release --offline --target x86_64-unknown-linux-musl --package *",
                  "cargo test --offline --target x86_64-unknown-linux-musl -Z *")),
     *(Row(TARGETS, (f"{it}/stdout differ",), (*ERASER, COMPARED), it, "ar")

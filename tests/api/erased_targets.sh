@@ -56,7 +56,7 @@ answer() {
 }
 
 # test_target FLAG..: tests a target, for which cargo needs more flags. `compile` compiles C for it,
-# and `run` runs a program.
+# `run` runs a program, and `left_out` is a test that is not run, or empty.
 test_target() {
     if [ ! -e "$work/expected" ]; then
         "$top/tools/erase" "$work/erased"
@@ -74,12 +74,14 @@ test_target() {
         echo "erased: $target: $program prints the $(wc -l <"$work/found") stored lines"
     done
     for features in --no-default-features ''; do
-        quiet cargo test --offline --target "$target" $features "$@"
+        quiet cargo test --offline --target "$target" $features "$@" \
+            ${left_out:+-- --skip "$left_out"}
         count=$(awk '/^test result: ok/ { sum += $4 } END { print sum + 0 }' "$work/log")
         echo "erased: $target: $count tests pass${features:+ with $features}"
     done
 }
 
+left_out=
 arm() {
     target=aarch64-unknown-linux-gnu
     have cargo rustc rustdoc aarch64-linux-gnu-gcc qemu-aarch64-static || return 0
@@ -96,6 +98,8 @@ arm() {
     export CARGO_TARGET_AARCH64_UNKNOWN_LINUX_GNU_RUNNER="qemu-aarch64-static -L $libc"
     # Under qemu, tests that are not optimized take minutes.
     export CARGO_PROFILE_TEST_OPT_LEVEL=1
+    # In the process that this test starts, qemu needs the descriptors that are closed.
+    left_out=no_socket_takes_a_standard_descriptor
     test_target
 }
 
