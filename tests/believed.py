@@ -84,7 +84,7 @@ USERS = {
     "an owned parser": [("netlink_packet_sock_diag", ["SockDiagMessage", "read_under"])],
     "the main theorem": [("netlink_core", ["main_theorem"])],
     "a dump": [("netlink_packet_sock_diag", ["DumpReader", "feed"])],
-    "lenient parsing": [("sock_diag_replies", ["lenient_agrees_with_strict"])],
+    "lenient parsing": [("sock_diag_extras", ["items_agree_with_the_port"])],
     "the line program": [("sock_diag_lines", ["answer"]), ("sock_diag_lines", ["run"])],
     "a reply in C": [("sockdiag_c", ["sockdiag_inet_get_lenient_details"])],
     "sslist": [("sslist_lister", ["run"])],

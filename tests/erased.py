@@ -109,11 +109,10 @@ CHANGES_OF_TESTS = [
     (r"\.", "repeat", "repeat_in"),
     (r"\.", "concat", "concat_in"),
     (r"\{ let", r"alloc = rt \. alloc \( \) ;", "rt = HostRuntime ;"),
-    ("mod", "any ; mod", ""),
 ]
 ALL_CHANGES = [*CHANGES, *CHANGES_OF_PROGRAMS, *CHANGES_OF_TESTS]
 REMOVED_IMPL = re.compile("Drop for GenericDump|Clone for (?:SocketName|NetlinkPayload)")
-# The test that is left out, apart from the module LEFT_OUT.
+# The test that is left out.
 LEFT_OUT_TEST = "a_record_buffer_is_printed"
 # What the erased files begin with, after their documentation, except for the C library's root.
 FORBID = "#![forbid(unsafe_code)]"

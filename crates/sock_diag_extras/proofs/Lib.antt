@@ -1,1 +1,6 @@
 mod BitFields
+mod FirstErrors
+mod Framing
+mod PortKinds
+pub mod AnyAgreement
+pub mod PieceWalk

@@ -43,6 +43,14 @@ pub const UNIX_DIAG_UID: u16 = 7;
 /// Flag of a UNIX request: requests `UNIX_DIAG_UID`.
 pub const UDIAG_SHOW_UID: u32 = 64;
 
+/// Type of a request and of its replies, about IPv4 and IPv6 sockets of TCP, before
+/// `SOCK_DIAG_BY_FAMILY`. The replies have the same format.
+pub const TCPDIAG_GETSOCK: u16 = 18;
+
+/// Type of a request and of its replies, about IPv4 and IPv6 sockets of DCCP, before
+/// `SOCK_DIAG_BY_FAMILY`. The replies have the same format.
+pub const DCCPDIAG_GETSOCK: u16 = 19;
+
 // ---- attributes in INET_DIAG_ULP_INFO
 
 /// No attribute.
@@ -303,6 +311,7 @@ pub fn extra_constants_have_their_values()
     ensures extra_attributes { PairsAreEqual ((INET_DIAG_ULP_INFO, 19) ∷
         (INET_DIAG_SK_BPF_STORAGES, 20) ∷ (INET_DIAG_CGROUP_ID, 21) ∷
         (INET_DIAG_SOCKOPT, 22) ∷ (UNIX_DIAG_UID, 7) ∷ (UDIAG_SHOW_UID, 64) ∷ []) }
+    ensures message_types { PairsAreEqual ((TCPDIAG_GETSOCK, 18) ∷ (DCCPDIAG_GETSOCK, 19) ∷ []) }
     ensures upper_protocols { PairsAreEqual ((INET_ULP_INFO_UNSPEC, 0) ∷ (INET_ULP_INFO_NAME, 1)
         ∷ (INET_ULP_INFO_TLS, 2) ∷ (INET_ULP_INFO_MPTCP, 3) ∷ []) }
     ensures upper_tls { PairsAreEqual ((TLS_INFO_UNSPEC, 0) ∷ (TLS_INFO_VERSION, 1) ∷

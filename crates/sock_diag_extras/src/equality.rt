@@ -3,6 +3,7 @@
 ghost use Rattle.std.proofs.Common.{rules};
 ghost use Rattle.sock_diag_extras.specs.laws.EqualTcpField.{tcp_field_equal};
 
+use crate::any::{InfoFormat, RawTimer, Sockets};
 use crate::congestion::{BbrInfo, DctcpInfo, VegasInfo};
 use crate::md5_signature::Md5Signature;
 use crate::mptcp_info::MptcpField;
@@ -54,5 +55,17 @@ impl Exact for SubflowField {
 }
 
 impl Exact for TlsField {
+    ghost exact = { Prim.search rules };
+}
+
+impl Exact for InfoFormat {
+    ghost exact = { Prim.search rules };
+}
+
+impl Exact for Sockets {
+    ghost exact = { Prim.search rules };
+}
+
+impl Exact for RawTimer {
     ghost exact = { Prim.search rules };
 }

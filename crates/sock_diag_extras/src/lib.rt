@@ -6,6 +6,7 @@
 #![tactic(auto)]
 
 mod acknowledgement;
+pub mod any;
 mod bytes;
 mod congestion;
 pub mod constants;

@@ -129,6 +129,13 @@ impl<'a> MptcpInfoBytes<'a> {
         MptcpInfoBytes { bytes: value }
     }
 
+    /// Returns the bytes of the value.
+    pub fn bytes(&self) -> &'a [u8]
+        ensures { result.now ≡ mptcp_info_bytes self.now }
+    {
+        self.bytes
+    }
+
     /// Returns the length of the value in bytes.
     pub fn len(&self) -> usize
         ensures { result ≡ length (mptcp_info_bytes self.now) }

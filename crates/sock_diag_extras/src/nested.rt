@@ -38,6 +38,13 @@ impl<'a> NestedNlas<'a> {
         Ok(NestedNlas { bytes })
     }
 
+    /// Returns the bytes.
+    pub fn bytes(&self) -> &'a [u8]
+        ensures { result.now ≡ nested_bytes self.now }
+    {
+        self.bytes
+    }
+
     /// Returns an iterator over all of the attributes, in order.
     pub fn walk(&self) -> NlasIterator<'a>
         ensures { unread_bytes result ≡ nested_bytes self.now }

@@ -290,6 +290,13 @@ impl<'a> TcpInfoBytes<'a> {
         TcpInfoBytes { bytes: value }
     }
 
+    /// Returns the bytes of the value.
+    pub fn bytes(&self) -> &'a [u8]
+        ensures { result.now ≡ tcp_info_bytes self.now }
+    {
+        self.bytes
+    }
+
     /// Returns the length of the value in bytes.
     pub fn len(&self) -> usize
         ensures { result ≡ length (tcp_info_bytes self.now) }

@@ -141,7 +141,7 @@ module _ {D : Type 0} (family : Family D) (R : ResponseSpec)
     (header : (payload : List ℕ) → family.parse_header payload
     ≡ map_ok convert (R.header.parses tt payload))
     (size : family.header_size ≡ R.size)
-    (same : (a : Attribute) → value_error family.rows a
+    (same : (a : Attribute) → value_error family a
     ≡ result_err (decode_attribute R.attribute_set a)) where
   pub agrees_with_codec : AgreesWithCodec family R
   agrees_with_codec = (
@@ -150,7 +150,7 @@ module _ {D : Type 0} (family : Family D) (R : ResponseSpec)
         let h = value_of_mapped convert (R.header.parses tt payload) parts.header
         (sym (header payload) ∙ found.1.0) in
         let none = both_none _ _ found.2 in
-        let more = decoded (decode_attribute R.attribute_set) (value_error family.rows) same
+        let more = decoded (decode_attribute R.attribute_set) (value_error family) same
         parts.attributes none.0 in (
           record { header = h.0; nlas = more.0 },
           (
@@ -180,6 +180,6 @@ module _ {D : Type 0} (family : Family D) (R : ResponseSpec)
             h.1,
             subst (λ (n : ℕ). HasAttributeError (decode_attribute R.attribute_set)
                 (drop n payload) e) size
-                (error_of_bytes (decode_attribute R.attribute_set) (value_error family.rows) same
+                (error_of_bytes (decode_attribute R.attribute_set) (value_error family) same
                 (drop family.header_size payload) parts.attributes parts.framing_error e ends is),
           )

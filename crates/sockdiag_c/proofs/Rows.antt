@@ -1,22 +1,23 @@
 -- The values and the errors of a reply after one more attribute.
 use Rattle.std.proofs.Common.{◌≡◌, ◌≢◌, ◌∙◌, ℕ, List, [], ◌∷◌, ◌++◌, Option, Some, None, refl, sym}
 use Rattle.std.proofs.Common.{Err, Ok, Result, ap, arith, drop, slice_get, subst}
-use Rattle.std.specs.Prelude.{⊤, ◌==◌, Bool, IfOk, MatchResult, false, if◌then◌else◌, true}
+use Rattle.std.specs.Prelude.{◌==◌, Bool, IfOk, MatchResult, false, if◌then◌else◌}
+use Rattle.std.specs.Prelude.{MatchOption, option_and_then, true}
 use Rattle.std.proofs.lemmas.List.{append_assoc, append-nil}
 use Rattle.std.specs.List.{filter_map, cons_option}
 use Rattle.std.specs.Option.{option_or}
+use Rattle.std.specs.Result.{result_ok}
 use Rattle.netlink_core.specs.Attribute.{Attribute, IsFramingError, StartsWithAttribute}
 use Rattle.netlink_core.specs.Attribute.{attribute_kind}
 use Rattle.netlink_core.specs.Errors.{error_code}
 use Rattle.netlink_core.specs.declared.error.DecodeError.{DecodeError}
 use Rattle.sock_diag_replies.specs.UnixGetters.{first_content_of}
 use Rattle.sockdiag_c.specs.Family.{ArePartsOf, SplitsWithError, Family, HasValues, ReplyParts}
-use Rattle.sockdiag_c.specs.Family.{StructRow}
-use Rattle.sockdiag_c.specs.Family.{error_of_kind, value_error, value_in}
+use Rattle.sockdiag_c.specs.Family.{StructRow, error_of_kind, part_in, value_error}
 use Rattle.sock_diag_values.specs.declared.inet.mem_info.MemInfo.{MemInfo}
 use Rattle.sockdiag_c.specs.Details.{memory_struct}
 use Rattle.sockdiag_c.specs.declared.family_values.Memory.{Memory}
-use Rattle.sockdiag_c.specs.private.Rows.{AddsValues}
+use Rattle.sockdiag_c.specs.private.Rows.{AddsParts}
 
 -- ---- the first of several
 
@@ -56,17 +57,40 @@ module _ {A B : Type 0} where
       ∙ ap (option_or (first_content_of content xs)) none
       ∙ or_none (first_content_of content xs))
 
-module _ {D : Type 0} where
-  -- the values after one more attribute
-  pub values_after : (rows : List (StructRow D)) (old new : D) (attributes : List Attribute)
-      (a : Attribute)
-      → AddsValues rows a (record { old = old; new = new }) → HasValues rows old attributes
-      → HasValues rows new (attributes ++ a ∷ [])
-  values_after [] old new attributes a adds has = tt
-  values_after (row ∷ others) old new attributes a (adds, more) (has, later) = (
-    adds (first_content_of (value_in row) attributes) has
-        ∙ sym (ap row.contents (first_more (value_in row) attributes a)),
-    values_after others old new attributes a more later,
+-- the fields of a row after one more part, or none
+part_added : {V D : Type 0} (row : StructRow V D) (old new : D) (o part : Option row.Part)
+    → MatchOption part (row.fields new ≡ row.fields old)
+    (λ x. (o : Option row.Part) → row.fields old ≡ row.contents o
+    → row.fields new ≡ row.contents (option_or o (Some x)))
+    → row.fields old ≡ row.contents o → row.fields new ≡ row.contents (option_or o part)
+part_added row old new o None same has = same ∙ has ∙ ap row.contents (sym (or_none o))
+part_added row old new o (Some x) adds has = adds o has
+
+module _ {V D : Type 0} (read : Attribute → Result V DecodeError) where
+  -- the values after one more attribute, which says `v`
+  pub values_after : (rows : List (StructRow V D)) (old new : D) (attributes : List Attribute)
+      (a : Attribute) (v : V) → read a ≡ Ok v
+      → AddsParts rows v (record { old = old; new = new }) → HasValues read rows old attributes
+      → HasValues read rows new (attributes ++ a ∷ [])
+  values_after [] old new attributes a v is adds has = tt
+  values_after (row ∷ others) old new attributes a v is (adds, more) (has, later) = (
+    part_added row old new (first_content_of (part_in read row) attributes) (row.part v) adds has
+        ∙ sym (ap row.contents (first_more (part_in read row) attributes a
+        ∙ ap (λ (r : Result V DecodeError). option_or
+        (first_content_of (part_in read row) attributes) (option_and_then row.part (result_ok r)))
+        is)),
+    values_after others old new attributes a v is more later,
+  )
+
+  -- the values after one more attribute, which is rejected
+  pub values_unchanged : (rows : List (StructRow V D)) (d : D) (attributes : List Attribute)
+      (a : Attribute) (e : DecodeError) → read a ≡ Err e → HasValues read rows d attributes
+      → HasValues read rows d (attributes ++ a ∷ [])
+  values_unchanged [] d attributes a e is has = tt
+  values_unchanged (row ∷ others) d attributes a e is (has, later) = (
+    has ∙ ap row.contents (first_unchanged (part_in read row) attributes a
+        (ap (λ (r : Result V DecodeError). option_and_then row.part (result_ok r)) is)),
+    values_unchanged others d attributes a e is later,
   )
 
 module _ {A : Type 0} where
@@ -91,15 +115,15 @@ no_value_if o false is = refl
 module _ {D : Type 0} (family : Family D) where
   -- the first error of a kind after an attribute without an error
   pub kind_unchanged : (k : ℕ) (xs : List Attribute) (a : Attribute)
-      → value_error family.rows a ≡ None
+      → value_error family a ≡ None
       → first_content_of (error_of_kind family k) xs
       ≡ first_content_of (error_of_kind family k) (xs ++ a ∷ [])
   kind_unchanged k xs a none = first_unchanged (error_of_kind family k) xs a
-      (no_value_if (value_error family.rows a) (attribute_kind a == k) none)
+      (no_value_if (value_error family a) (attribute_kind a == k) none)
 
   -- the first error of a kind after an attribute with an error
   pub kind_after : (k : ℕ) (xs : List Attribute) (a : Attribute) (kind : ℕ) (e : DecodeError)
-      → value_error family.rows a ≡ Some e → kind ≡ attribute_kind a
+      → value_error family a ≡ Some e → kind ≡ attribute_kind a
       → option_or (first_content_of (error_of_kind family k) xs)
       (if kind == k then Some e else None)
       ≡ first_content_of (error_of_kind family k) (xs ++ a ∷ [])
@@ -176,21 +200,7 @@ until_framing_error bytes left so_far e some error collected =
     subst (λ (all : List Attribute). SplitsWithError all (Some e) bytes) (append-nil so_far)
     (collected.extend [] (Some e) (left, refl, some, error))
 
--- ---- an attribute without values
-
--- no row has a value in the attribute
-abbrev pub NoValues : {D : Type 0} → List (StructRow D) → Attribute → Type 0
-NoValues [] a = ⊤
-NoValues (row ∷ others) a = (value_in row a ≡ None) × NoValues others a
-
--- it changes nothing
-pub unchanged : {D : Type 0} (rows : List (StructRow D)) (a : Attribute) (d : D) → NoValues rows a
-    → AddsValues rows a (record { old = d; new = d })
-unchanged [] a d none = tt
-unchanged (row ∷ others) a d (none, more) = (
-  λ o has. has ∙ ap row.contents (sym (ap (option_or o) none ∙ or_none o)),
-  unchanged others a d more,
-)
+-- ---- memory, and the parts of a reply
 
 -- memory that is not set is set
 pub memory_set : (o : Option MemInfo) (old new : Memory) (m : MemInfo)

@@ -1,13 +1,8 @@
 -- The rows of the tables of the families, by what the struct has: a number, a text or a record.
 use Rattle.std.specs.Prelude.{ℕ, ◌==◌, if◌then◌else◌, List, Option, Some, None, option_map}
-use Rattle.std.specs.Prelude.{option_and_then, Result, Ok}
-use Rattle.netlink_core.specs.Attribute.{Attribute}
-use Rattle.netlink_core.specs.Layout.{parse_record}
-use Rattle.netlink_core.specs.Parse.{number_of_width}
-use Rattle.netlink_core.specs.declared.error.DecodeError.{DecodeError}
-use Rattle.sock_diag_values.specs.MemInfo.{mem_info}
+use Rattle.std.specs.Prelude.{option_and_then}
 use Rattle.sock_diag_values.specs.declared.inet.mem_info.MemInfo.{MemInfo}
-use Rattle.sockdiag_c.specs.Family.{StructRow, value_of}
+use Rattle.sockdiag_c.specs.Family.{StructRow}
 use Rattle.sockdiag_c.specs.declared.details.Number.{Number}
 use Rattle.sockdiag_c.specs.declared.details.Text.{Text}
 use Rattle.sockdiag_c.specs.declared.details.TheConstants.{BYTES}
@@ -47,63 +42,50 @@ memory_struct m = record {
   drops = optional_number (option_and_then (λ (m : MemInfo). m.drops) m);
 }
 
--- Rows of a table for the struct `D`. In each of them, the last argument `fields` returns the
--- fields of a struct that have the value of the row.
-module _ {D : Type 0} where
-  -- `number_row read fields`: the row of a number. `read a` is the number that the attribute `a`
-  -- has.
-  abbrev pub number_row : (Attribute → Result (Option ℕ) DecodeError) → (D → Number) → StructRow D
-  number_row read fields = record {
-    Value = ℕ;
-    read = read;
+-- Rows of a table for the struct `D`. In each of them, `part v` is the part that what an attribute
+-- says, `v`, has for the row, and the last argument `fields` returns the fields of a struct that
+-- have this part.
+module _ {V D : Type 0} where
+  -- `number_row part fields`: the row of a number
+  abbrev pub number_row : (V → Option ℕ) → (D → Number) → StructRow V D
+  number_row part fields = record {
+    Part = ℕ;
+    part = part;
     Fields = Number;
     fields = fields;
     contents = optional_number;
   }
 
-  -- `text_row read fields`: the row of a text. `read a` is the kind and the bytes of the text that
-  -- the attribute `a` has.
-  abbrev pub text_row : (Attribute → Result (Option (ℕ × List ℕ)) DecodeError) → (D → Text)
-      → StructRow D
-  text_row read fields = record {
-    Value = ℕ × List ℕ;
-    read = read;
+  -- `text_row part fields`: the row of a text. The part is its kind and its bytes.
+  abbrev pub text_row : (V → Option (ℕ × List ℕ)) → (D → Text) → StructRow V D
+  text_row part fields = record {
+    Part = ℕ × List ℕ;
+    part = part;
     Fields = Option (ℕ × List ℕ);
     fields = λ d. text_parts (fields d);
     contents = λ o. o;
   }
 
-  -- `u32_row kind fields`: the row of the little-endian `__u32` of an attribute of this kind. A
-  -- value whose length is not four bytes is rejected with WrongLength, which contains the kind
-  -- (`Some kind`).
-  abbrev pub u32_row : ℕ → (D → Number) → StructRow D
-  u32_row kind = number_row (value_of (number_of_width (Some kind) 4) kind)
+  -- `bytes_row part fields`: the row of bytes, as a text of the kind SOCKDIAG_BYTES
+  abbrev pub bytes_row : (V → Option (List ℕ)) → (D → Text) → StructRow V D
+  bytes_row part = text_row (λ v. option_map (λ bytes. (BYTES, bytes)) (part v))
 
-  -- `bytes_row kind fields`: the row of the bytes of an attribute of this kind, as a text of the
-  -- kind SOCKDIAG_BYTES. The bytes are not checked, so there is no error (`Ok`).
-  abbrev pub bytes_row : ℕ → (D → Text) → StructRow D
-  bytes_row kind = text_row (value_of (λ bytes. Ok (BYTES, bytes)) kind)
-
-  -- `record_row kind parse zero fields`: the row of the record that `parse` returns for the bytes
-  -- of an attribute of this kind. The fields are a field `has_..` and the record. They are 1 and
-  -- the record, or 0 and the record `zero` if there is no such attribute.
-  abbrev pub record_row : {A : Type 0} → ℕ → (List ℕ → Result A DecodeError) → A → (D → ℕ × A)
-      → StructRow D
-  record_row {A} kind parse zero fields = record {
-    Value = A;
-    read = value_of parse kind;
+  -- `record_row part zero fields`: the row of a record. The fields are a field `has_..` and the
+  -- record. They are 1 and the record, or 0 and the record `zero` if there is none.
+  abbrev pub record_row : {A : Type 0} → (V → Option A) → A → (D → ℕ × A) → StructRow V D
+  record_row {A} part zero fields = record {
+    Part = A;
+    part = part;
     Fields = ℕ × A;
     fields = fields;
     contents = optional_record zero;
   }
 
-  -- `memory_row kind fields`: the row of the memory counters `SK_MEMINFO_..` of an attribute of
-  -- this kind: seven to nine `__u32`, little-endian. Fewer than 28 bytes are rejected with
-  -- BufferTooSmall.
-  abbrev pub memory_row : ℕ → (D → Memory) → StructRow D
-  memory_row kind fields = record {
-    Value = MemInfo;
-    read = value_of (parse_record mem_info tt) kind;
+  -- `memory_row part fields`: the row of the memory counters `SK_MEMINFO_..`
+  abbrev pub memory_row : (V → Option MemInfo) → (D → Memory) → StructRow V D
+  memory_row part fields = record {
+    Part = MemInfo;
+    part = part;
     Fields = Memory;
     fields = fields;
     contents = memory_struct;

@@ -1,7 +1,8 @@
 -- The fields of a decode error: `struct sockdiag_error_details`.
-use Rattle.std.specs.Prelude.{◌≡◌, ℕ, ◌⊎◌, List, [], Option, Some, None, MatchResult, Result}
-use Rattle.netlink_core.specs.AttributeSet.{AttributeSet, AttributeValue}
-use Rattle.sock_diag_replies.specs.Lenient.{RejectionModel, StartsWithLenientItem}
+use Rattle.std.specs.Prelude.{◌≡◌, ◌≢◌, ℕ, ◌⊎◌, List, [], MatchOption, Option, Some, None}
+use Rattle.std.specs.Result.{result_err}
+use Rattle.netlink_core.specs.Attribute.{Attribute, IsFramingError, StartsWithAttribute}
+use Rattle.netlink_core.specs.AttributeSet.{AttributeSet, decode_attribute}
 use Rattle.netlink_core.specs.declared.error.DecodeError.{DecodeError}
 use Rattle.netlink_core.specs.declared.error.DecodeError.TheVariants as error
 use Rattle.netlink_core.specs.declared.error.RecordName.{RecordName}
@@ -100,18 +101,23 @@ IsExplained {V} parses rejects call =
     ⊎ ((e : DecodeError) × rejects e × (call.returned ≡ error_code e)
     × (call.new ≡ error_details_of e))
 
--- `IsItemExplained F bytes call`: by the first item of the bytes, for the attribute set `F`, one
--- of:
--- - There are no bytes (`[]`), or the first item is a valid attribute. The return value is 0, and
---   nothing is stored.
--- - The first item is a rejection, of an attribute or of the framing. The return value is the code
---   of its error, and this code and the fields of the error are stored.
--- `later` are the bytes after the item.
+-- `IsFirstItemError F bytes o`: `o` is the error of the first item of the bytes, for the attribute
+-- set `F`, or None, by one of:
+-- - There are no bytes (`[]`), and no error.
+-- - The bytes start with an attribute, and `o` is the error with which `F` rejects it, if it does.
+--   `later` are the bytes after the attribute.
+-- - The bytes start with a framing error, and `o` is this error.
+abbrev pub IsFirstItemError : AttributeSet → List ℕ → Option DecodeError → Type 0
+IsFirstItemError F bytes o =
+    ((bytes ≡ []) × (o ≡ None))
+    ⊎ ((a : Attribute) × (later : List ℕ) × StartsWithAttribute bytes a later
+    × (o ≡ result_err (decode_attribute F a)))
+    ⊎ ((e : DecodeError) × (bytes ≢ []) × IsFramingError bytes e × (o ≡ Some e))
+
+-- `IsItemExplained F bytes call`: if the first item of the bytes has no error, the return value is
+-- 0, and nothing is stored. If it has one, the return value is its code, and its code and its
+-- fields are stored.
 abbrev pub IsItemExplained : AttributeSet → List ℕ → Call ErrorDetails → Type 0
-IsItemExplained F bytes call =
-    ((bytes ≡ []) × (call.returned ≡ 0) × (call.new ≡ call.old))
-    ⊎ ((item : Result (AttributeValue F) RejectionModel) × (later : List ℕ)
-    × StartsWithLenientItem F bytes item later
-    × MatchResult item (λ _. (call.returned ≡ 0) × (call.new ≡ call.old))
-    (λ rejection. (call.returned ≡ error_code rejection.error)
-    × (call.new ≡ error_details_of rejection.error)))
+IsItemExplained F bytes call = (o : Option DecodeError) × IsFirstItemError F bytes o
+    × MatchOption o ((call.returned ≡ 0) × (call.new ≡ call.old))
+    (λ e. (call.returned ≡ error_code e) × (call.new ≡ error_details_of e))

@@ -1,4 +1,5 @@
--- How replies are read into the structs of C: for each family a table of rows.
+-- How replies are read into the structs of C: for each family how its attributes are decoded, and a
+-- table of rows, which says what fields have the decoded values.
 use Rattle.std.specs.Prelude.{◌≡◌, ◌≢◌, ◌<◌, ℕ, ◌⊎◌, ◌==◌, if◌then◌else◌, List, [], ◌∷◌, drop, ⊤}
 use Rattle.std.specs.Prelude.{Option, Some, None, option_map, option_and_then, slice_index}
 use Rattle.std.specs.Prelude.{Result, Ok, Err}
@@ -6,9 +7,9 @@ use Rattle.std.specs.Result.{result_ok, result_err}
 use Rattle.std.specs.Option.{option_or}
 use Rattle.netlink_core.specs.Attribute.{Attribute, IsFramingError, SplitsIntoAttributes}
 use Rattle.netlink_core.specs.Attribute.{SplitsUntilError, attribute_kind}
-use Rattle.netlink_core.specs.AttributeSet.{AttributeSet, ValueOfKind, decode_attribute}
+use Rattle.netlink_core.specs.AttributeSet.{AttributeSet, AttributeValue, ValueOfKind}
 use Rattle.netlink_core.specs.AttributeSet.{value_of_kind}
-use Rattle.netlink_core.specs.Errors.{error_code, map_ok}
+use Rattle.netlink_core.specs.Errors.{error_code}
 use Rattle.netlink_core.specs.Response.{ResponseSpec, ReplyValue, response_codec}
 use Rattle.netlink_core.specs.declared.error.DecodeError.{DecodeError}
 use Rattle.sock_diag_replies.specs.UnixGetters.{first_content_of}
@@ -17,19 +18,19 @@ use Rattle.sockdiag_c.specs.declared.lenient.TheConstants.{REJECTION_KINDS}
 
 -- ---- the table of a family
 
--- One row of a table: a value of an attribute, and the fields that have it in the struct `D`.
-pub record StructRow (D : Type 0) : Type 1 where
-  -- the type of the value
-  pub Value : Type 0
-  -- `read a`: `Ok (Some x)` if the attribute `a` has the value `x`, `Ok None` if it is of another
-  -- kind, or the error of its value
-  pub read : Attribute → Result (Option Value) DecodeError
+-- One row of a table: a part of what an attribute says, and the fields that have it in the struct
+-- `D`. `V` is the type of what attributes say.
+pub record StructRow (V D : Type 0) : Type 1 where
+  -- the type of the part
+  pub Part : Type 0
+  -- `part v`: the part that `v` has; None if `v` is of a kind without this part
+  pub part : V → Option Part
   -- the type of the fields
   pub Fields : Type 0
   -- `fields d`: the fields of the struct `d`
   pub fields : D → Fields
-  -- `contents o`: what the fields contain if the value is `o`; zeros if there is no value (None)
-  pub contents : Option Value → Fields
+  -- `contents o`: what the fields contain if the part is `o`; zeros if there is no part (None)
+  pub contents : Option Part → Fields
 
 -- How replies about the sockets of one family are read into the struct `D`.
 pub record Family (D : Type 0) : Type 1 where
@@ -41,47 +42,35 @@ pub record Family (D : Type 0) : Type 1 where
   pub header_size : ℕ
   -- `header d`: the header in the struct `d`
   pub header : D → Header
-  -- one row for each field, or for each record with its field `has_..`. An attribute of a kind that
-  -- no row reads is not checked.
-  pub rows : List (StructRow D)
+  -- the type of what attributes say
+  pub Value : Type 0
+  -- `read a`: what the attribute `a` says, or its error
+  pub read : Attribute → Result Value DecodeError
+  -- one row for each field, or for each record with its field `has_..`
+  pub rows : List (StructRow Value D)
 
--- `value_of parse kind a`: what the row for this kind reads from the attribute `a`. If `a` has this
--- kind, whatever its two flag bits: the value that `parse` returns for its bytes, or the error. If
--- `a` has another kind: `Ok None`.
-abbrev pub value_of : {A : Type 0} → (List ℕ → Result A DecodeError) → ℕ → Attribute
-    → Result (Option A) DecodeError
-value_of parse kind a =
-    if attribute_kind a == kind then map_ok Some (parse a.value) else Ok None
-
--- `part_of F kind part a`: what a row reads from the attribute `a` by `F`, the set of the attribute
--- types of the family. If `a` has this kind and the value `v`: `part v`, the part of it that the
--- row stores. If `a` has another kind: `Ok None`. If `F` rejects `a`, whatever its kind: the error.
+-- `part_of F kind part v`: of a decoded attribute `v` of the set `F`, `part` of its value if it is
+-- of this kind; None if it is of another kind
 abbrev pub part_of : {A : Type 0} → (F : AttributeSet) → (kind : ℕ) → (ValueOfKind F kind → A)
-    → Attribute
-    → Result (Option A) DecodeError
-part_of F kind part a =
-    map_ok (λ v. option_map part (value_of_kind F kind v)) (decode_attribute F a)
+    → AttributeValue F → Option A
+part_of F kind part v = option_map part (value_of_kind F kind v)
 
 -- ---- the values of attributes
 
--- `value_in row a`: the value of the attribute `a` for this row; None if `a` has another kind, or
--- is rejected. `option_and_then (λ o. o)` makes one option of the two.
-abbrev pub value_in : {D : Type 0} (row : StructRow D) → Attribute → Option row.Value
-value_in row a = option_and_then (λ o. o) (result_ok (row.read a))
+-- `part_in read row a`: the part for this row of what `read` returns for the attribute `a`; None if
+-- `a` is of a kind without this part, or is rejected
+abbrev pub part_in : {V D : Type 0} → (Attribute → Result V DecodeError) → (row : StructRow V D)
+    → Attribute → Option row.Part
+part_in read row a = option_and_then row.part (result_ok (read a))
 
--- `value_error rows a`: the error of the attribute `a`: the first error with which a row rejects
--- it. None if no row does.
-abbrev pub value_error : {D : Type 0} → List (StructRow D) → Attribute → Option DecodeError
-value_error [] a = None
-value_error (row ∷ others) a = option_or (result_err (row.read a)) (value_error others a)
-
--- `HasValues rows d attributes`: for each row, the struct `d` has the value of the first of these
--- attributes that has one for the row. If none of them has one, the fields of the row are zeros.
-abbrev pub HasValues : {D : Type 0} → List (StructRow D) → D → List Attribute → Type 0
-HasValues [] d attributes = ⊤
-HasValues (row ∷ others) d attributes =
-    (row.fields d ≡ row.contents (first_content_of (value_in row) attributes))
-    × HasValues others d attributes
+-- `HasValues read rows d attributes`: for each row, the struct `d` has the part of the first of
+-- these attributes that has one. If none of them has one, the fields of the row are zeros.
+abbrev pub HasValues : {V D : Type 0} → (Attribute → Result V DecodeError) → List (StructRow V D)
+    → D → List Attribute → Type 0
+HasValues read [] d attributes = ⊤
+HasValues read (row ∷ others) d attributes =
+    (row.fields d ≡ row.contents (first_content_of (part_in read row) attributes))
+    × HasValues read others d attributes
 
 -- ---- a reply
 
@@ -112,14 +101,18 @@ module _ {D : Type 0} (family : Family D) where
   -- parts
   abbrev pub HasHeaderAndValuesOf : D → ReplyParts family.Header → Type 0
   HasHeaderAndValuesOf d parts =
-      (family.header d ≡ parts.header) × HasValues family.rows d parts.attributes
+      (family.header d ≡ parts.header) × HasValues family.read family.rows d parts.attributes
+
+  -- `value_error family a`: the error of the attribute `a`; None if it has none
+  abbrev pub value_error : Attribute → Option DecodeError
+  value_error a = result_err (family.read a)
 
   -- `first_error family parts`: the first error after the header, in the order of the bytes: the
   -- error of the first rejected attribute; if none is rejected, the framing error. None if there is
   -- no error.
   abbrev pub first_error : ReplyParts family.Header → Option DecodeError
-  first_error parts = option_or
-      (first_content_of (value_error family.rows) parts.attributes) parts.framing_error
+  first_error parts =
+      option_or (first_content_of value_error parts.attributes) parts.framing_error
 
   -- `AreDetailsOf family payload d`: the reply in the payload has no error, and the struct `d` has
   -- its header and values
@@ -144,7 +137,7 @@ module _ {D : Type 0} (family : Family D) where
   -- `error_of_kind family kind a`: the error of the attribute `a`, if `a` has this kind and is
   -- rejected; else None
   abbrev pub error_of_kind : ℕ → Attribute → Option DecodeError
-  error_of_kind kind a = if attribute_kind a == kind then value_error family.rows a else None
+  error_of_kind kind a = if attribute_kind a == kind then value_error a else None
 
 -- `optional_code error`: the code of the error; 0 if there is none (None). No error has the code 0.
 abbrev pub optional_code : Option DecodeError → ℕ
@@ -200,4 +193,4 @@ module _ {D : Type 0} (family : Family D) where
   -- is below REJECTION_KINDS, so that `errors` of the rejections has an element for it
   abbrev pub EveryRejectedKindHasCode : Type 0
   EveryRejectedKindHasCode = (a : Attribute) (e : DecodeError)
-      → value_error family.rows a ≡ Some e → attribute_kind a < REJECTION_KINDS
+      → value_error family a ≡ Some e → attribute_kind a < REJECTION_KINDS

@@ -1,6 +1,6 @@
 -- The contents of a reply about an IPv4 or IPv6 socket: `struct sockdiag_inet_details`.
 use Rattle.std.specs.Prelude.{ℕ, if◌then◌else◌, Bool, List, [], ◌∷◌}
-use Rattle.netlink_core.specs.AttributeSet.{ValueOfKind}
+use Rattle.netlink_core.specs.AttributeSet.{AttributeValue, ValueOfKind, decode_attribute}
 use Rattle.netlink_core.specs.Errors.{map_ok}
 use Rattle.sock_diag_attributes.specs.InetAttributes.{inet_attribute_set}
 use Rattle.sock_diag_records.specs.declared.constants.TheConstants.{INET_DIAG_CLASS_ID}
@@ -22,12 +22,12 @@ use Rattle.sockdiag_c.specs.Headers.{inet_header_of}
 -- `inet_number kind part field`: the row that stores a number in this field of the struct: `part`
 -- of the value of the first attribute of this kind
 abbrev pub inet_number : (kind : ℕ) → (ValueOfKind inet_attribute_set kind → ℕ)
-    → (InetDetails → Number) → StructRow InetDetails
+    → (InetDetails → Number) → StructRow (AttributeValue inet_attribute_set) InetDetails
 inet_number kind part field = number_row (part_of inet_attribute_set kind part) field
 
 -- One row for each field of the struct after the header. `congestion`, the name of the congestion
 -- control algorithm, is a text of the kind SOCKDIAG_TEXT. `v6only` is 1 or 0.
-abbrev pub inet_rows : List (StructRow InetDetails)
+abbrev pub inet_rows : List (StructRow (AttributeValue inet_attribute_set) InetDetails)
 inet_rows =
     text_row (part_of inet_attribute_set INET_DIAG_CONG (λ (name : List ℕ). (TEXT, name)))
     (λ d. d.congestion)
@@ -40,13 +40,15 @@ inet_rows =
     ∷ inet_number INET_DIAG_CLASS_ID (λ (n : ℕ). n) (λ d. d.class_id)
     ∷ []
 
--- Replies about IPv4 and IPv6 sockets. Each row rejects an attribute that `inet_attribute_set`
--- rejects, also one without a field, such as a short `INET_DIAG_INFO`.
+-- Replies about IPv4 and IPv6 sockets. An attribute that `inet_attribute_set` rejects is rejected,
+-- also one without a field, such as a short `INET_DIAG_INFO`.
 abbrev pub inet_family : Family InetDetails
 inet_family = record {
   Header = InetHeader;
   parse_header = λ payload. map_ok inet_header_of (inet_response_spec.header.parses tt payload);
   header_size = inet_response_spec.size;
   header = λ d. d.header;
+  Value = AttributeValue inet_attribute_set;
+  read = decode_attribute inet_attribute_set;
   rows = inet_rows;
 }

@@ -5,6 +5,7 @@ pub mod Requests
 pub mod Rewriting
 pub mod Family
 pub mod Details
+pub mod AnyParts
 pub mod UnixDetails
 pub mod InetDetails
 pub mod AttributeValues

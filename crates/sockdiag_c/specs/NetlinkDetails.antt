@@ -2,13 +2,13 @@
 use Rattle.std.specs.Prelude.{[], ◌∷◌}
 use Rattle.netlink_core.specs.Layout.{parse_record}
 use Rattle.sock_diag_families.specs.NetlinkResponseHeader.{netlink_header}
-use Rattle.sock_diag_families.specs.declared.netlink.TheConstants.{NETLINK_DIAG_FLAGS}
-use Rattle.sock_diag_families.specs.declared.netlink.TheConstants.{NETLINK_DIAG_GROUPS}
-use Rattle.sock_diag_families.specs.declared.netlink.TheConstants.{NETLINK_DIAG_MEMINFO}
 use Rattle.sock_diag_families.specs.declared.netlink.response.NetlinkResponseHeader.{
   NetlinkResponseHeader,
 }
-use Rattle.sockdiag_c.specs.Details.{bytes_row, memory_row, u32_row}
+use Rattle.sock_diag_extras.specs.AnyNla.{AnyValue, read_any}
+use Rattle.sock_diag_extras.specs.declared.any.nla.Sockets.TheVariants.{Netlink}
+use Rattle.sockdiag_c.specs.AnyParts.{groups_of, memory_of, netlink_flags_of}
+use Rattle.sockdiag_c.specs.Details.{bytes_row, memory_row, number_row}
 use Rattle.sockdiag_c.specs.Family.{Family}
 use Rattle.sockdiag_c.specs.declared.netlink_details.NetlinkDetails.{NetlinkDetails}
 
@@ -20,8 +20,10 @@ netlink_family = record {
   parse_header = parse_record netlink_header tt;
   header_size = netlink_header.least;
   header = λ d. d.header;
+  Value = AnyValue;
+  read = read_any Netlink;
   rows =
-      memory_row NETLINK_DIAG_MEMINFO (λ d. d.memory)
-      ∷ bytes_row NETLINK_DIAG_GROUPS (λ d. d.groups)
-      ∷ u32_row NETLINK_DIAG_FLAGS (λ d. d.flags) ∷ [];
+      memory_row memory_of (λ d. d.memory)
+      ∷ bytes_row groups_of (λ d. d.groups)
+      ∷ number_row netlink_flags_of (λ d. d.flags) ∷ [];
 }

@@ -1,22 +1,17 @@
 -- The contents of a reply about a packet socket: `struct sockdiag_packet_details`.
 use Rattle.std.specs.Prelude.{[], ◌∷◌}
 use Rattle.netlink_core.specs.Layout.{parse_record}
-use Rattle.sock_diag_families.specs.PacketAttributes.{parse_packet_info, parse_packet_ring}
 use Rattle.sock_diag_families.specs.PacketResponseHeader.{packet_header}
-use Rattle.sock_diag_families.specs.declared.packet.TheConstants.{PACKET_DIAG_FANOUT}
-use Rattle.sock_diag_families.specs.declared.packet.TheConstants.{PACKET_DIAG_FILTER}
-use Rattle.sock_diag_families.specs.declared.packet.TheConstants.{PACKET_DIAG_INFO}
-use Rattle.sock_diag_families.specs.declared.packet.TheConstants.{PACKET_DIAG_MCLIST}
-use Rattle.sock_diag_families.specs.declared.packet.TheConstants.{PACKET_DIAG_MEMINFO}
-use Rattle.sock_diag_families.specs.declared.packet.TheConstants.{PACKET_DIAG_RX_RING}
-use Rattle.sock_diag_families.specs.declared.packet.TheConstants.{PACKET_DIAG_TX_RING}
-use Rattle.sock_diag_families.specs.declared.packet.TheConstants.{PACKET_DIAG_UID}
 use Rattle.sock_diag_families.specs.declared.packet.attributes.PacketInfo.{PacketInfo}
 use Rattle.sock_diag_families.specs.declared.packet.attributes.PacketRing.{PacketRing}
 use Rattle.sock_diag_families.specs.declared.packet.response.PacketResponseHeader.{
   PacketResponseHeader,
 }
-use Rattle.sockdiag_c.specs.Details.{bytes_row, memory_row, record_row, u32_row}
+use Rattle.sock_diag_extras.specs.AnyNla.{AnyValue, read_any}
+use Rattle.sock_diag_extras.specs.declared.any.nla.Sockets.TheVariants.{Packet}
+use Rattle.sockdiag_c.specs.AnyParts.{fanout_of, filter_of, memberships_of, memory_of, owner_of}
+use Rattle.sockdiag_c.specs.AnyParts.{packet_info_of, receive_frames_of, send_frames_of}
+use Rattle.sockdiag_c.specs.Details.{bytes_row, memory_row, number_row, record_row}
 use Rattle.sockdiag_c.specs.Family.{Family}
 use Rattle.sockdiag_c.specs.declared.packet_details.PacketDetails.{PacketDetails}
 
@@ -44,23 +39,21 @@ zero_packet_ring = record {
 }
 
 -- Replies about packet sockets. The header has `packet_header.least` bytes.
--- `parse_packet_ring kind` parses the record of a ring; the kind is for errors, which contain it.
 abbrev pub packet_family : Family PacketDetails
 packet_family = record {
   Header = PacketResponseHeader;
   parse_header = parse_record packet_header tt;
   header_size = packet_header.least;
   header = λ d. d.header;
+  Value = AnyValue;
+  read = read_any Packet;
   rows =
-      record_row PACKET_DIAG_INFO parse_packet_info zero_packet_info
-      (λ d. (d.has_info, d.info))
-      ∷ bytes_row PACKET_DIAG_MCLIST (λ d. d.addresses)
-      ∷ record_row PACKET_DIAG_RX_RING (parse_packet_ring PACKET_DIAG_RX_RING)
-      zero_packet_ring (λ d. (d.has_receive_ring, d.receive_ring))
-      ∷ record_row PACKET_DIAG_TX_RING (parse_packet_ring PACKET_DIAG_TX_RING)
-      zero_packet_ring (λ d. (d.has_send_ring, d.send_ring))
-      ∷ u32_row PACKET_DIAG_FANOUT (λ d. d.fanout)
-      ∷ u32_row PACKET_DIAG_UID (λ d. d.owner)
-      ∷ memory_row PACKET_DIAG_MEMINFO (λ d. d.memory)
-      ∷ bytes_row PACKET_DIAG_FILTER (λ d. d.filter) ∷ [];
+      record_row packet_info_of zero_packet_info (λ d. (d.has_info, d.info))
+      ∷ bytes_row memberships_of (λ d. d.addresses)
+      ∷ record_row receive_frames_of zero_packet_ring (λ d. (d.has_receive_ring, d.receive_ring))
+      ∷ record_row send_frames_of zero_packet_ring (λ d. (d.has_send_ring, d.send_ring))
+      ∷ number_row fanout_of (λ d. d.fanout)
+      ∷ number_row owner_of (λ d. d.owner)
+      ∷ memory_row memory_of (λ d. d.memory)
+      ∷ bytes_row filter_of (λ d. d.filter) ∷ [];
 }

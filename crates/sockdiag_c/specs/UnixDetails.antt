@@ -1,6 +1,7 @@
 -- The contents of a reply about a UNIX socket: `struct sockdiag_unix_details`.
 use Rattle.std.specs.Prelude.{ℕ, List, [], ◌∷◌, unwrap_or}
-use Rattle.netlink_core.specs.AttributeSet.{AttributeValue, ValueOfKind, value_of_kind}
+use Rattle.netlink_core.specs.AttributeSet.{AttributeValue, ValueOfKind, decode_attribute}
+use Rattle.netlink_core.specs.AttributeSet.{value_of_kind}
 use Rattle.netlink_core.specs.Errors.{map_ok}
 use Rattle.sock_diag_values.specs.declared.unix.mem_info.MemInfo.{MemInfo}
 use Rattle.sock_diag_values.specs.declared.unix.vfs.Vfs.{Vfs}
@@ -32,12 +33,12 @@ name_parts (Abstract address) = (ABSTRACT, address)
 -- `unix_number kind part field`: the row that stores a number in this field of the struct: `part`
 -- of the value of an attribute of this kind
 abbrev pub unix_number : (kind : ℕ) → (ValueOfKind unix_attribute_set kind → ℕ)
-    → (UnixDetails → Number) → StructRow UnixDetails
+    → (UnixDetails → Number) → StructRow (AttributeValue unix_attribute_set) UnixDetails
 unix_number kind part field = number_row (part_of unix_attribute_set kind part) field
 
 -- One row for each field of the struct after the header. An attribute with several numbers has one
 -- row for each of them that has a field.
-abbrev pub unix_rows : List (StructRow UnixDetails)
+abbrev pub unix_rows : List (StructRow (AttributeValue unix_attribute_set) UnixDetails)
 unix_rows =
     text_row (part_of unix_attribute_set UNIX_DIAG_NAME name_parts) (λ d. d.name)
     ∷ unix_number UNIX_DIAG_VFS (λ (file : Vfs). file.inode) (λ d. d.file_inode)
@@ -51,14 +52,16 @@ unix_rows =
     ∷ unix_number UNIX_DIAG_SHUTDOWN (λ (n : ℕ). n) (λ d. d.shutdown)
     ∷ []
 
--- Replies about UNIX sockets. Each row rejects an attribute that `unix_attribute_set` rejects, also
--- one without a field, such as a `UNIX_DIAG_ICONS` whose length is not a multiple of 4.
+-- Replies about UNIX sockets. An attribute that `unix_attribute_set` rejects is rejected, also one
+-- without a field, such as a `UNIX_DIAG_ICONS` whose length is not a multiple of 4.
 abbrev pub unix_family : Family UnixDetails
 unix_family = record {
   Header = UnixHeader;
   parse_header = λ payload. map_ok unix_header_of (unix_response_spec.header.parses tt payload);
   header_size = unix_response_spec.size;
   header = λ d. d.header;
+  Value = AttributeValue unix_attribute_set;
+  read = decode_attribute unix_attribute_set;
   rows = unix_rows;
 }
 

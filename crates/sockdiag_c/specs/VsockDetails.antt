@@ -5,6 +5,8 @@ use Rattle.sock_diag_families.specs.VsockResponseHeader.{vsock_header}
 use Rattle.sock_diag_families.specs.declared.vsock.response.VsockResponseHeader.{
   VsockResponseHeader,
 }
+use Rattle.sock_diag_extras.specs.AnyNla.{AnyValue, read_any}
+use Rattle.sock_diag_extras.specs.declared.any.nla.Sockets.TheVariants.{Vsock}
 use Rattle.sockdiag_c.specs.Family.{Family}
 
 -- Replies about vsock sockets. The struct is the header itself, of `vsock_header.least` bytes.
@@ -16,5 +18,7 @@ vsock_family = record {
   parse_header = parse_record vsock_header tt;
   header_size = vsock_header.least;
   header = λ d. d;
+  Value = AnyValue;
+  read = read_any Vsock;
   rows = [];
 }

@@ -1,20 +1,17 @@
 -- The contents of a reply about an XDP socket: `struct sockdiag_xdp_details`.
 use Rattle.std.specs.Prelude.{[], ◌∷◌}
 use Rattle.netlink_core.specs.Layout.{parse_record}
-use Rattle.sock_diag_families.specs.XdpAttributes.{parse_xdp_info, parse_xdp_statistics}
-use Rattle.sock_diag_families.specs.XdpAttributes.{parse_xdp_umem}
 use Rattle.sock_diag_families.specs.XdpResponseHeader.{xdp_header}
-use Rattle.sock_diag_families.specs.declared.xdp.TheConstants.{XDP_DIAG_INFO, XDP_DIAG_MEMINFO}
-use Rattle.sock_diag_families.specs.declared.xdp.TheConstants.{XDP_DIAG_RX_RING, XDP_DIAG_STATS}
-use Rattle.sock_diag_families.specs.declared.xdp.TheConstants.{XDP_DIAG_TX_RING, XDP_DIAG_UID}
-use Rattle.sock_diag_families.specs.declared.xdp.TheConstants.{XDP_DIAG_UMEM}
-use Rattle.sock_diag_families.specs.declared.xdp.TheConstants.{XDP_DIAG_UMEM_COMPLETION_RING}
-use Rattle.sock_diag_families.specs.declared.xdp.TheConstants.{XDP_DIAG_UMEM_FILL_RING}
 use Rattle.sock_diag_families.specs.declared.xdp.attributes.XdpInfo.{XdpInfo}
 use Rattle.sock_diag_families.specs.declared.xdp.attributes.XdpStatistics.{XdpStatistics}
 use Rattle.sock_diag_families.specs.declared.xdp.attributes.XdpUmem.{XdpUmem}
 use Rattle.sock_diag_families.specs.declared.xdp.response.XdpResponseHeader.{XdpResponseHeader}
-use Rattle.sockdiag_c.specs.Details.{memory_row, record_row, u32_row}
+use Rattle.sock_diag_extras.specs.AnyNla.{AnyValue, read_any}
+use Rattle.sock_diag_extras.specs.declared.any.nla.Sockets.TheVariants.{Xdp}
+use Rattle.sockdiag_c.specs.AnyParts.{completion_ring_of, fill_ring_of, memory_of, owner_of}
+use Rattle.sockdiag_c.specs.AnyParts.{receive_ring_of, send_ring_of, statistics_of, umem_of}
+use Rattle.sockdiag_c.specs.AnyParts.{xdp_info_of}
+use Rattle.sockdiag_c.specs.Details.{memory_row, number_row, record_row}
 use Rattle.sockdiag_c.specs.Family.{Family}
 use Rattle.sockdiag_c.specs.declared.xdp_details.XdpDetails.{XdpDetails}
 
@@ -54,16 +51,16 @@ xdp_family = record {
   parse_header = parse_record xdp_header tt;
   header_size = xdp_header.least;
   header = λ d. d.header;
+  Value = AnyValue;
+  read = read_any Xdp;
   rows =
-      record_row XDP_DIAG_INFO parse_xdp_info zero_xdp_info (λ d. (d.has_info, d.info))
-      ∷ u32_row XDP_DIAG_UID (λ d. d.owner)
-      ∷ u32_row XDP_DIAG_RX_RING (λ d. d.receive_ring)
-      ∷ u32_row XDP_DIAG_TX_RING (λ d. d.send_ring)
-      ∷ record_row XDP_DIAG_UMEM parse_xdp_umem zero_xdp_umem
-      (λ d. (d.has_umem, d.umem))
-      ∷ u32_row XDP_DIAG_UMEM_FILL_RING (λ d. d.fill_ring)
-      ∷ u32_row XDP_DIAG_UMEM_COMPLETION_RING (λ d. d.completion_ring)
-      ∷ memory_row XDP_DIAG_MEMINFO (λ d. d.memory)
-      ∷ record_row XDP_DIAG_STATS parse_xdp_statistics zero_xdp_statistics
-      (λ d. (d.has_statistics, d.statistics)) ∷ [];
+      record_row xdp_info_of zero_xdp_info (λ d. (d.has_info, d.info))
+      ∷ number_row owner_of (λ d. d.owner)
+      ∷ number_row receive_ring_of (λ d. d.receive_ring)
+      ∷ number_row send_ring_of (λ d. d.send_ring)
+      ∷ record_row umem_of zero_xdp_umem (λ d. (d.has_umem, d.umem))
+      ∷ number_row fill_ring_of (λ d. d.fill_ring)
+      ∷ number_row completion_ring_of (λ d. d.completion_ring)
+      ∷ memory_row memory_of (λ d. d.memory)
+      ∷ record_row statistics_of zero_xdp_statistics (λ d. (d.has_statistics, d.statistics)) ∷ [];
 }

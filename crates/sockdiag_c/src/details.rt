@@ -1,25 +1,25 @@
 //! Numbers and texts of a reply, and how its attributes are read into a struct of C, in one pass.
 //! The table `family` of [`ReplyDetails`] says how: it has the parser and the length of the header,
-//! and a row for each field. In the contracts `o` is the number before a call, or None; nothing is
-//! stated of a struct with other contents, which does not occur. No error has the code 0.
+//! the reader of attributes, and a row for each field. In the contracts `o` is the number before a
+//! call, or None; nothing is stated of a struct with other contents, which does not occur. No error
+//! has the code 0.
 
 ghost use Rattle.std.specs.Prelude.{◌≡◌, ◌≢◌, ℕ, [], drop, Err, IfErr, IfOk, None, Ok, Option};
 ghost use Rattle.std.specs.Prelude.{Some};
-ghost use Rattle.std.specs.Result.{result_err, result_ok};
 ghost use Rattle.std.specs.Option.{option_or};
-ghost use Rattle.netlink_core.specs.Parse.{number_of_width};
+ghost use Rattle.netlink_core.specs.Errors.{map_ok};
 ghost use Rattle.netlink_core.specs.Walk.{buffered_attribute};
 ghost use Rattle.sockdiag_c.specs.Details.{optional_number, text_parts};
 ghost use Rattle.sockdiag_c.specs.Family.{AreDetailsOf, HasHeaderAndValuesOf, SplitsWithError};
 ghost use Rattle.sockdiag_c.specs.Family.{Family};
 ghost use Rattle.sockdiag_c.specs.Family.{HasRejections, HasValues, IsCodeOf, IsFirstError};
 ghost use Rattle.sockdiag_c.specs.Family.{IsHeaderError, LenientDetailsAre, ReplyParts};
-ghost use Rattle.sockdiag_c.specs.Family.{first_error, value_error};
-ghost use Rattle.sockdiag_c.specs.private.Rows.{AddsValues};
+ghost use Rattle.sockdiag_c.specs.Family.{first_error};
+ghost use Rattle.sockdiag_c.specs.private.Rows.{AddsParts};
 
 use crate::check::store_parsed;
 use crate::lenient::{Errors, Rejections};
-use netlink_core::{DecodeError, NlaBuffer, NlasIterator, parse_u32};
+use netlink_core::{DecodeError, NlaBuffer, NlasIterator};
 
 /// A number that a reply may contain.
 #[repr(C)]
@@ -70,18 +70,6 @@ impl Number {
             *self = Number { is_set: 1, value };
         }
     }
-
-    /// Parses the value of an attribute of this kind as a little-endian `u32`, and sets the number,
-    /// unless it is set already. Fails if the value has another length than 4 bytes.
-    pub(crate) fn set_u32(&mut self, value: &[u8], kind: u16) -> Result<(), DecodeError>
-        ensures number { (o : Option ℕ) → self.old ≡ optional_number o → self.new
-            ≡ optional_number (option_or o
-            (result_ok (number_of_width (Some kind) 4 value.now))) }
-        ensures error { result_err result ≡ result_err (number_of_width (Some kind) 4 value.now) }
-    {
-        self.set(parse_u32(value).map_err(|error| error.with_kind(kind))?);
-        Ok(())
-    }
 }
 
 impl Default for Text<'_> {
@@ -108,44 +96,41 @@ impl<'a> Text<'a> {
             *self = Text { kind, bytes };
         }
     }
-
-    /// Sets the text to these bytes, with the kind `BYTES`, unless it is set already. Always
-    /// returns `Ok`, since the bytes are not checked.
-    pub(crate) fn set_bytes(&mut self, bytes: &'a [u8]) -> Result<(), DecodeError>
-        ensures text { text_parts self.new
-            ≡ option_or (text_parts self.old) (Some (BYTES, bytes.entry.now)) }
-        ensures error { result ≡ Ok tt }
-    {
-        self.set(BYTES, bytes);
-        Ok(())
-    }
 }
 
 /// The contents of replies about the sockets of one family, as a C struct.
 pub(crate) trait ReplyDetails<'a>: Copy {
-    // How a reply is read into the struct: its header, and a table with a row for each field
-    // (specs/Family.antt).
+    /// A decoded attribute, borrowed.
+    type Nla: Drop;
+
+    // How a reply is read into the struct: its header, its attributes, and a table with a row for
+    // each field (specs/Family.antt).
     ghost family: { Family Self };
+
+    // What a decoded attribute says.
+    ghost model: { Self.Nla → family.Value };
 
     /// Parses the header. Returns the struct with the header and without values, and the bytes
     /// after the header. Fails with the error of the header.
     fn parse_header(payload: &'a [u8]) -> Result<(Self, &'a [u8]), DecodeError>
         ensures header { IfOk result (λ (details, rest). family.parse_header payload.entry.now
             ≡ Ok (family.header details)) }
-        // The fields of the rows are zeros, as no attribute was parsed yet (`[]`).
-        ensures values { IfOk result (λ (details, rest). HasValues family.rows details []) }
+        // The fields of the rows are zeros, as no attribute was read yet (`[]`).
+        ensures values { IfOk result (λ (details, rest).
+            HasValues family.read family.rows details []) }
         ensures rest { IfOk result (λ (details, rest). rest.now
             ≡ drop family.header_size payload.entry.now) }
         ensures error { IfErr result (λ e. family.parse_header payload.entry.now ≡ Err e) };
 
-    /// Parses the attribute, and sets its fields unless an earlier attribute of its kind has set
-    /// them. Fails with the error of the attribute.
-    fn set_value(&mut self, nla: &NlaBuffer<'a>) -> Result<(), DecodeError>
+    /// Decodes the attribute, or fails with its error.
+    fn read(nla: &NlaBuffer<'a>) -> Result<Self::Nla, DecodeError>
+        ensures { map_ok model result ≡ family.read (buffered_attribute nla.now) };
+
+    /// Sets the fields of the attribute, unless an earlier attribute of its kind has set them.
+    fn set(&mut self, nla: Self::Nla)
         ensures header { family.header self.new ≡ family.header self.old }
-        ensures values { AddsValues family.rows (buffered_attribute nla.now)
-            record { old = self.old; new = self.new } }
-        ensures error { result_err result
-            ≡ value_error family.rows (buffered_attribute nla.now) };
+        ensures values { AddsParts family.rows (model nla)
+            record { old = self.old; new = self.new } };
 }
 
 /// Stores the contents of the reply in the details. Returns 0, or the code of the first error; then
@@ -207,14 +192,15 @@ fn lenient_details<'a, T: ReplyDetails<'a>>(
     Ok(details)
 }
 
-// Parses each attribute up to a framing error. Sets the fields of the valid ones, unless they are
+// Reads each attribute up to a framing error. Sets the fields of the valid ones, unless they are
 // set already, and stores the errors of the others. The details have to be without values before
 // the call, as `parse_header` returns them. Earlier contents of the errors are discarded.
 fn set_values<'a, T: ReplyDetails<'a>>(bytes: &'a [u8], details: &mut T, errors: &mut Errors)
     // If the details have no values (`[]`) before the call: `parts` are the header that they have,
     // and the attributes and the framing error of the bytes. After the call the details have the
     // values of these attributes, and the errors have their codes and the first one.
-    ensures { HasValues T.family.rows details.old [] → (parts : ReplyParts T.family.Header)
+    ensures { HasValues T.family.read T.family.rows details.old []
+        → (parts : ReplyParts T.family.Header)
         × SplitsWithError parts.attributes parts.framing_error bytes.entry.now
         × (parts.header ≡ T.family.header details.old)
         × HasHeaderAndValuesOf T.family details.new parts
@@ -224,8 +210,8 @@ fn set_values<'a, T: ReplyDetails<'a>>(bytes: &'a [u8], details: &mut T, errors:
     *errors = Errors::default();
     for item in NlasIterator::new(bytes) {
         match item {
-            Ok(nla) => match details.set_value(&nla) {
-                Ok(()) => {}
+            Ok(nla) => match T::read(&nla) {
+                Ok(decoded) => details.set(decoded),
                 Err(error) => errors.add_value(nla.kind(), error),
             },
             Err(error) => {

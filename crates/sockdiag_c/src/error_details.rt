@@ -22,14 +22,13 @@ use crate::details::{Number, strict_details};
 use crate::netlink_details::NetlinkDetails;
 use crate::packet_details::PacketDetails;
 use crate::xdp_details::XdpDetails;
-use netlink_core::{DecodeError, FamilyView, NetlinkHeader, RecordName};
+use netlink_core::{DecodeError, FamilyView, NetlinkHeader, NlasIterator, RecordName};
 use netlink_packet_sock_diag::SockDiagView;
 use netlink_packet_sock_diag::inet::InetResponseView;
 use netlink_packet_sock_diag::unix::UnixResponseView;
 use sock_diag_attributes::inet::nlas::NlaView as InetNlaView;
 use sock_diag_attributes::unix::nlas::NlaView as UnixNlaView;
 use sock_diag_families::vsock::VsockResponseHeader;
-use sock_diag_replies::lenient::LenientNlas;
 
 /// A decode error with its fields. A field that the error does not have is 0.
 #[repr(C)]
@@ -282,8 +281,9 @@ fn explain_item<'a, V: FamilyView<'a> + Drop>(bytes: &'a [u8], error: &mut Error
     ensures { IsItemExplained V.attribute_set bytes.entry.now
         record { old = error.old; new = error.new; returned = result } }
 {
-    match LenientNlas::<V>::new(bytes).next() {
-        Some(Err(rejection)) => explain::<()>(Err(rejection.error()), error),
-        Some(Ok(_)) | None => OK,
+    match NlasIterator::new(bytes).next() {
+        Some(Ok(nla)) => explain(V::read_view(&nla), error),
+        Some(Err(framing_error)) => explain::<()>(Err(framing_error), error),
+        None => OK,
     }
 }

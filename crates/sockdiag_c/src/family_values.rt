@@ -3,7 +3,6 @@
 //! a call, or None.
 
 ghost use Rattle.std.specs.Prelude.{◌≡◌, drop, IfErr, IfOk, Ok, Err, Option, Some};
-ghost use Rattle.std.specs.Result.{result_err, result_ok};
 ghost use Rattle.std.specs.Option.{option_or};
 ghost use Rattle.netlink_core.specs.Layout.{parse_record};
 ghost use Rattle.sock_diag_values.specs.declared.inet.mem_info.MemInfo.{MemInfo as MemInfoModel};
@@ -71,40 +70,27 @@ impl From<MemInfo> for Memory {
 }
 
 impl Memory {
-    /// Sets the memory to the value of `parsed`, unless it is set already. Fails with the error of
-    /// `parsed`, if any.
-    pub(crate) fn set(&mut self, parsed: Result<MemInfo, DecodeError>) -> Result<(), DecodeError>
-        ensures memory { (o : Option MemInfoModel) → self.old ≡ memory_struct o
-            → self.new ≡ memory_struct (option_or o (result_ok parsed)) }
-        ensures error { result_err result ≡ result_err parsed }
+    /// Sets the memory, unless it is set already.
+    pub(crate) fn set(&mut self, memory: MemInfo)
+        ensures { (o : Option MemInfoModel) → self.old ≡ memory_struct o
+            → self.new ≡ memory_struct (option_or o (Some memory)) }
     {
-        let memory = parsed?;
         if self.receive_queue.is_set == 0 {
             *self = Memory::from(memory);
         }
-        Ok(())
     }
 }
 
-/// Sets the record to the value of `parsed`, unless one is set already: `is_set` is 1 if one is,
-/// else 0. Fails with the error of `parsed`, if any.
-pub(crate) fn set_record<T: Copy>(
-    parsed: Result<T, DecodeError>,
-    is_set: &mut u32,
-    record: &mut T,
-) -> Result<(), DecodeError>
+/// Sets the record, unless one is set already: `is_set` is 1 if one is, else 0.
+pub(crate) fn set_record<T: Copy>(found: T, is_set: &mut u32, record: &mut T)
     // `zero` is what `record` contains if none is set.
-    ensures record { (zero : T) (o : Option T)
-        → (is_set.old, record.old) ≡ optional_record zero o
-        → (is_set.new, record.new) ≡ optional_record zero (option_or o (result_ok parsed)) }
-    ensures error { result_err result ≡ result_err parsed }
+    ensures { (zero : T) (o : Option T) → (is_set.old, record.old) ≡ optional_record zero o
+        → (is_set.new, record.new) ≡ optional_record zero (option_or o (Some found)) }
 {
-    let found = parsed?;
     if *is_set == 0 {
         *is_set = 1;
         *record = found;
     }
-    Ok(())
 }
 
 /// Stores the record, if there is one. Returns 1, or 0 if there is none; then the target is

@@ -1,14 +1,10 @@
 //! The contents of a reply about an IPv4 or IPv6 socket as a C struct, except for memory and
 //! `tcp_info`.
 
-ghost use Rattle.std.specs.Prelude.{◌≡◌, ◌≢◌, Ok};
-ghost use Rattle.netlink_core.specs.Attribute.{Attribute};
-ghost use Rattle.netlink_core.specs.AttributeSet.{decode_attribute};
-ghost use Rattle.sock_diag_attributes.specs.InetAttributes.{inet_attribute_set};
+ghost use Rattle.std.specs.Prelude.{◌≡◌, ◌≢◌};
 ghost use Rattle.sock_diag_attributes.specs.InetModel.{inet_nla_view_model};
 ghost use Rattle.sockdiag_c.specs.Family.{AreDetailsOf, IsCodeOf, IsFirstError};
-ghost use Rattle.sockdiag_c.specs.InetDetails.{inet_family, inet_rows};
-ghost use Rattle.sockdiag_c.specs.private.Rows.{AddsValues};
+ghost use Rattle.sockdiag_c.specs.InetDetails.{inet_family};
 
 use crate::details::{Number, ReplyDetails, TEXT, Text, store_details};
 use crate::headers::InetHeader;
@@ -68,15 +64,28 @@ pub extern "C" fn sockdiag_inet_get_details<'a>(
     store_details(payload, details)
 }
 
-impl<'a> InetDetails<'a> {
-    // Sets the field of the attribute, unless an earlier attribute of its kind has set it.
-    fn set(&mut self, nla: NlaView<'a>)
-        ensures header { self.new.header ≡ self.old.header }
-        // For each attribute `a` that decodes to this value, since the rows are about attributes.
-        ensures values { (a : Attribute)
-            → decode_attribute inet_attribute_set a ≡ Ok (inet_nla_view_model nla.entry)
-            → AddsValues inet_rows a record { old = self.old; new = self.new } }
-    {
+impl<'a> ReplyDetails<'a> for InetDetails<'a> {
+    type Nla = NlaView<'a>;
+
+    ghost family = { inet_family };
+
+    ghost model = { inet_nla_view_model };
+
+    #[tactic(auto, using(crate::proofs::InetHeaders::inet_header_rules))]
+    #[inline(always)]
+    fn parse_header(payload: &'a [u8]) -> Result<(Self, &'a [u8]), DecodeError> {
+        let header = InetResponseHeader::from_prefix(payload)?;
+        let mut details = InetDetails::default();
+        details.header = InetHeader::from(header);
+        Ok((details, &payload[INET_RESPONSE_HEADER_LEN..]))
+    }
+
+    #[inline(always)]
+    fn read(nla: &NlaBuffer<'a>) -> Result<NlaView<'a>, DecodeError> {
+        NlaView::parse(nla)
+    }
+
+    fn set(&mut self, nla: NlaView<'a>) {
         match nla {
             NlaView::Congestion(name) => self.congestion.set(TEXT, name.as_bytes()),
             NlaView::Tos(tos) => self.tos.set(u32::from(tos)),
@@ -90,24 +99,5 @@ impl<'a> InetDetails<'a> {
             NlaView::LegacyMemInfo(_) | NlaView::MemInfo(_) | NlaView::TcpInfo(_) => {}
             NlaView::Other(_) => {}
         }
-    }
-}
-
-impl<'a> ReplyDetails<'a> for InetDetails<'a> {
-    ghost family = { inet_family };
-
-    #[tactic(auto, using(crate::proofs::InetHeaders::inet_header_rules))]
-    #[inline(always)]
-    fn parse_header(payload: &'a [u8]) -> Result<(Self, &'a [u8]), DecodeError> {
-        let header = InetResponseHeader::from_prefix(payload)?;
-        let mut details = InetDetails::default();
-        details.header = InetHeader::from(header);
-        Ok((details, &payload[INET_RESPONSE_HEADER_LEN..]))
-    }
-
-    #[inline(always)]
-    fn set_value(&mut self, nla: &NlaBuffer<'a>) -> Result<(), DecodeError> {
-        self.set(NlaView::parse(nla)?);
-        Ok(())
     }
 }

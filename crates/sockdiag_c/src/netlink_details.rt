@@ -1,16 +1,15 @@
 //! The contents of a reply about a netlink socket, as a C struct.
 
 ghost use Rattle.std.specs.Prelude.{◌≡◌, ◌≢◌};
+ghost use Rattle.sock_diag_extras.specs.AnyNla.{any_model};
 ghost use Rattle.sockdiag_c.specs.Family.{AreDetailsOf, IsCodeOf, IsFirstError};
 ghost use Rattle.sockdiag_c.specs.NetlinkDetails.{netlink_family};
 
-use crate::details::{Number, ReplyDetails, Text, store_details};
+use crate::details::{BYTES, Number, ReplyDetails, Text, store_details};
 use crate::family_values::{Memory, split_header};
 use netlink_core::{DecodeError, NlaBuffer};
-use sock_diag_families::netlink::{
-    NETLINK_DIAG_FLAGS, NETLINK_DIAG_GROUPS, NETLINK_DIAG_MEMINFO, NetlinkResponseHeader,
-};
-use sock_diag_values::inet::MemInfo;
+use sock_diag_extras::any::{AnyNla, Sockets};
+use sock_diag_families::netlink::NetlinkResponseHeader;
 
 const _: () = prove!(std::mem::size_of::<NetlinkResponseHeader>() == 32);
 
@@ -55,7 +54,11 @@ pub extern "C" fn sockdiag_netlink_get_details<'a>(
 }
 
 impl<'a> ReplyDetails<'a> for NetlinkDetails<'a> {
+    type Nla = AnyNla<'a>;
+
     ghost family = { netlink_family };
+
+    ghost model = { any_model };
 
     #[inline(always)]
     fn parse_header(payload: &'a [u8]) -> Result<(Self, &'a [u8]), DecodeError> {
@@ -65,13 +68,18 @@ impl<'a> ReplyDetails<'a> for NetlinkDetails<'a> {
         Ok((details, attributes))
     }
 
-    fn set_value(&mut self, nla: &NlaBuffer<'a>) -> Result<(), DecodeError> {
-        let (kind, value) = (nla.kind(), nla.value());
-        match kind {
-            NETLINK_DIAG_MEMINFO => self.memory.set(MemInfo::parse(value)),
-            NETLINK_DIAG_GROUPS => self.groups.set_bytes(value),
-            NETLINK_DIAG_FLAGS => self.flags.set_u32(value, kind),
-            _ => Ok(()),
+    #[inline(always)]
+    fn read(nla: &NlaBuffer<'a>) -> Result<AnyNla<'a>, DecodeError> {
+        AnyNla::read(Sockets::Netlink, nla)
+    }
+
+    fn set(&mut self, nla: AnyNla<'a>) {
+        match nla {
+            AnyNla::Memory(memory) => self.memory.set(memory),
+            AnyNla::Groups(bits) => self.groups.set(BYTES, bits),
+            AnyNla::NetlinkFlags(bits) => self.flags.set(bits),
+            // A reply about a netlink socket has no other attributes that are known.
+            _ => {}
         }
     }
 }

@@ -1,18 +1,15 @@
 //! The contents of a reply about a packet socket, as a C struct.
 
 ghost use Rattle.std.specs.Prelude.{◌≡◌, ◌≢◌};
+ghost use Rattle.sock_diag_extras.specs.AnyNla.{any_model};
 ghost use Rattle.sockdiag_c.specs.Family.{AreDetailsOf, IsCodeOf, IsFirstError};
 ghost use Rattle.sockdiag_c.specs.PacketDetails.{packet_family};
 
-use crate::details::{Number, ReplyDetails, Text, store_details};
+use crate::details::{BYTES, Number, ReplyDetails, Text, store_details};
 use crate::family_values::{Memory, set_record, split_header};
 use netlink_core::{DecodeError, NlaBuffer};
-use sock_diag_families::packet::{
-    PACKET_DIAG_FANOUT, PACKET_DIAG_FILTER, PACKET_DIAG_INFO, PACKET_DIAG_MCLIST,
-    PACKET_DIAG_MEMINFO, PACKET_DIAG_RX_RING, PACKET_DIAG_TX_RING, PACKET_DIAG_UID, PacketInfo,
-    PacketResponseHeader, PacketRing,
-};
-use sock_diag_values::inet::MemInfo;
+use sock_diag_extras::any::{AnyNla, Sockets};
+use sock_diag_families::packet::{PacketInfo, PacketResponseHeader, PacketRing};
 
 const _: () = prove!(std::mem::size_of::<PacketResponseHeader>() == 16);
 
@@ -79,7 +76,11 @@ pub extern "C" fn sockdiag_packet_get_details<'a>(
 }
 
 impl<'a> ReplyDetails<'a> for PacketDetails<'a> {
+    type Nla = AnyNla<'a>;
+
     ghost family = { packet_family };
+
+    ghost model = { any_model };
 
     #[inline(always)]
     fn parse_header(payload: &'a [u8]) -> Result<(Self, &'a [u8]), DecodeError> {
@@ -89,30 +90,27 @@ impl<'a> ReplyDetails<'a> for PacketDetails<'a> {
         Ok((details, attributes))
     }
 
-    fn set_value(&mut self, nla: &NlaBuffer<'a>) -> Result<(), DecodeError> {
-        let (kind, value) = (nla.kind(), nla.value());
-        match kind {
-            PACKET_DIAG_INFO => set_record(
-                PacketInfo::parse(value),
-                &mut self.has_info,
-                &mut self.info,
-            ),
-            PACKET_DIAG_MCLIST => self.addresses.set_bytes(value),
-            PACKET_DIAG_RX_RING => set_record(
-                PacketRing::parse(value, kind),
-                &mut self.has_receive_ring,
-                &mut self.receive_ring,
-            ),
-            PACKET_DIAG_TX_RING => set_record(
-                PacketRing::parse(value, kind),
-                &mut self.has_send_ring,
-                &mut self.send_ring,
-            ),
-            PACKET_DIAG_FANOUT => self.fanout.set_u32(value, kind),
-            PACKET_DIAG_UID => self.owner.set_u32(value, kind),
-            PACKET_DIAG_MEMINFO => self.memory.set(MemInfo::parse(value)),
-            PACKET_DIAG_FILTER => self.filter.set_bytes(value),
-            _ => Ok(()),
+    #[inline(always)]
+    fn read(nla: &NlaBuffer<'a>) -> Result<AnyNla<'a>, DecodeError> {
+        AnyNla::read(Sockets::Packet, nla)
+    }
+
+    fn set(&mut self, nla: AnyNla<'a>) {
+        match nla {
+            AnyNla::PacketInfo(info) => set_record(info, &mut self.has_info, &mut self.info),
+            AnyNla::Memberships(records) => self.addresses.set(BYTES, records),
+            AnyNla::ReceiveFrames(ring) => {
+                set_record(ring, &mut self.has_receive_ring, &mut self.receive_ring);
+            }
+            AnyNla::SendFrames(ring) => {
+                set_record(ring, &mut self.has_send_ring, &mut self.send_ring);
+            }
+            AnyNla::Fanout(fanout) => self.fanout.set(fanout),
+            AnyNla::Owner(user) => self.owner.set(user),
+            AnyNla::Memory(memory) => self.memory.set(memory),
+            AnyNla::Filter(program) => self.filter.set(BYTES, program),
+            // A reply about a packet socket has no other attributes that are known.
+            _ => {}
         }
     }
 }

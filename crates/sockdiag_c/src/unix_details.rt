@@ -1,13 +1,9 @@
 //! The contents of a reply about a UNIX socket, as a C struct.
 
-ghost use Rattle.std.specs.Prelude.{◌≡◌, ◌≢◌, Ok};
-ghost use Rattle.netlink_core.specs.Attribute.{Attribute};
-ghost use Rattle.netlink_core.specs.AttributeSet.{decode_attribute};
-ghost use Rattle.sock_diag_attributes.specs.UnixAttributes.{unix_attribute_set};
+ghost use Rattle.std.specs.Prelude.{◌≡◌, ◌≢◌};
 ghost use Rattle.sock_diag_attributes.specs.UnixModel.{unix_nla_view_model};
 ghost use Rattle.sockdiag_c.specs.Family.{AreDetailsOf, IsCodeOf, IsFirstError};
-ghost use Rattle.sockdiag_c.specs.UnixDetails.{unix_family, unix_rows};
-ghost use Rattle.sockdiag_c.specs.private.Rows.{AddsValues};
+ghost use Rattle.sockdiag_c.specs.UnixDetails.{unix_family};
 
 use crate::details::{ABSTRACT, Number, ReplyDetails, TEXT, Text, store_details};
 use crate::family_values::split_header;
@@ -78,15 +74,27 @@ pub extern "C" fn sockdiag_unix_get_details<'a>(
     store_details(payload, details)
 }
 
-impl<'a> UnixDetails<'a> {
-    // Sets the fields of the attribute, unless an earlier attribute of its kind has set them.
-    fn set(&mut self, nla: NlaView<'a>)
-        ensures header { self.new.header ≡ self.old.header }
-        // For each attribute `a` that decodes to this value, since the rows are about attributes.
-        ensures values { (a : Attribute)
-            → decode_attribute unix_attribute_set a ≡ Ok (unix_nla_view_model nla.entry)
-            → AddsValues unix_rows a record { old = self.old; new = self.new } }
-    {
+impl<'a> ReplyDetails<'a> for UnixDetails<'a> {
+    type Nla = NlaView<'a>;
+
+    ghost family = { unix_family };
+
+    ghost model = { unix_nla_view_model };
+
+    #[inline(always)]
+    fn parse_header(payload: &'a [u8]) -> Result<(Self, &'a [u8]), DecodeError> {
+        let (header, attributes) = split_header::<UnixResponseHeader>(payload)?;
+        let mut details = UnixDetails::default();
+        details.header = UnixHeader::from(header);
+        Ok((details, attributes))
+    }
+
+    #[inline(always)]
+    fn read(nla: &NlaBuffer<'a>) -> Result<NlaView<'a>, DecodeError> {
+        NlaView::parse(nla)
+    }
+
+    fn set(&mut self, nla: NlaView<'a>) {
         match nla {
             NlaView::Name(NameView::Pathname(path)) => self.name.set(TEXT, path),
             NlaView::Name(NameView::Abstract(address)) => self.name.set(ABSTRACT, address),
@@ -110,23 +118,5 @@ impl<'a> UnixDetails<'a> {
             // These have no field: other calls return pending connections and raw attributes.
             NlaView::PendingConnections(_) | NlaView::Other(_) => {}
         }
-    }
-}
-
-impl<'a> ReplyDetails<'a> for UnixDetails<'a> {
-    ghost family = { unix_family };
-
-    #[inline(always)]
-    fn parse_header(payload: &'a [u8]) -> Result<(Self, &'a [u8]), DecodeError> {
-        let (header, attributes) = split_header::<UnixResponseHeader>(payload)?;
-        let mut details = UnixDetails::default();
-        details.header = UnixHeader::from(header);
-        Ok((details, attributes))
-    }
-
-    #[inline(always)]
-    fn set_value(&mut self, nla: &NlaBuffer<'a>) -> Result<(), DecodeError> {
-        self.set(NlaView::parse(nla)?);
-        Ok(())
     }
 }

@@ -1,12 +1,14 @@
 //! The contents of a reply about a vsock socket: its header.
 
 ghost use Rattle.std.specs.Prelude.{◌≡◌, ◌≢◌};
+ghost use Rattle.sock_diag_extras.specs.AnyNla.{any_model};
 ghost use Rattle.sockdiag_c.specs.Family.{AreDetailsOf, IsCodeOf, IsFirstError};
 ghost use Rattle.sockdiag_c.specs.VsockDetails.{vsock_family};
 
 use crate::details::{ReplyDetails, store_details};
 use crate::family_values::split_header;
 use netlink_core::{DecodeError, NlaBuffer};
+use sock_diag_extras::any::{AnyNla, Sockets};
 use sock_diag_families::vsock::VsockResponseHeader;
 
 const _: () = prove!(std::mem::size_of::<VsockResponseHeader>() == 32);
@@ -31,9 +33,13 @@ pub extern "C" fn sockdiag_vsock_get_details(
     store_details(payload, details)
 }
 
-// A reply about a vsock socket has no attributes that are parsed.
+// A reply about a vsock socket has no attributes that are known.
 impl<'a> ReplyDetails<'a> for VsockResponseHeader {
+    type Nla = AnyNla<'a>;
+
     ghost family = { vsock_family };
+
+    ghost model = { any_model };
 
     #[inline(always)]
     fn parse_header(payload: &'a [u8]) -> Result<(Self, &'a [u8]), DecodeError> {
@@ -41,7 +47,10 @@ impl<'a> ReplyDetails<'a> for VsockResponseHeader {
     }
 
     #[inline(always)]
-    fn set_value(&mut self, _nla: &NlaBuffer<'a>) -> Result<(), DecodeError> {
-        Ok(())
+    fn read(nla: &NlaBuffer<'a>) -> Result<AnyNla<'a>, DecodeError> {
+        AnyNla::read(Sockets::Vsock, nla)
     }
+
+    #[inline(always)]
+    fn set(&mut self, _nla: AnyNla<'a>) {}
 }

@@ -1,18 +1,15 @@
 //! The contents of a reply about an XDP socket, as a C struct.
 
 ghost use Rattle.std.specs.Prelude.{◌≡◌, ◌≢◌};
+ghost use Rattle.sock_diag_extras.specs.AnyNla.{any_model};
 ghost use Rattle.sockdiag_c.specs.Family.{AreDetailsOf, IsCodeOf, IsFirstError};
 ghost use Rattle.sockdiag_c.specs.XdpDetails.{xdp_family};
 
 use crate::details::{Number, ReplyDetails, store_details};
 use crate::family_values::{Memory, set_record, split_header};
 use netlink_core::{DecodeError, NlaBuffer};
-use sock_diag_families::xdp::{
-    XDP_DIAG_INFO, XDP_DIAG_MEMINFO, XDP_DIAG_RX_RING, XDP_DIAG_STATS, XDP_DIAG_TX_RING,
-    XDP_DIAG_UID, XDP_DIAG_UMEM, XDP_DIAG_UMEM_COMPLETION_RING, XDP_DIAG_UMEM_FILL_RING, XdpInfo,
-    XdpResponseHeader, XdpStatistics, XdpUmem,
-};
-use sock_diag_values::inet::MemInfo;
+use sock_diag_extras::any::{AnyNla, Sockets};
+use sock_diag_families::xdp::{XdpInfo, XdpResponseHeader, XdpStatistics, XdpUmem};
 
 const _: () = prove!(std::mem::size_of::<XdpResponseHeader>() == 16);
 
@@ -76,7 +73,11 @@ pub extern "C" fn sockdiag_xdp_get_details(payload: &[u8], details: &mut XdpDeta
 }
 
 impl<'a> ReplyDetails<'a> for XdpDetails {
+    type Nla = AnyNla<'a>;
+
     ghost family = { xdp_family };
+
+    ghost model = { any_model };
 
     #[inline(always)]
     fn parse_header(payload: &'a [u8]) -> Result<(Self, &'a [u8]), DecodeError> {
@@ -86,23 +87,26 @@ impl<'a> ReplyDetails<'a> for XdpDetails {
         Ok((details, attributes))
     }
 
-    fn set_value(&mut self, nla: &NlaBuffer<'a>) -> Result<(), DecodeError> {
-        let (kind, value) = (nla.kind(), nla.value());
-        match kind {
-            XDP_DIAG_INFO => set_record(XdpInfo::parse(value), &mut self.has_info, &mut self.info),
-            XDP_DIAG_UID => self.owner.set_u32(value, kind),
-            XDP_DIAG_RX_RING => self.receive_ring.set_u32(value, kind),
-            XDP_DIAG_TX_RING => self.send_ring.set_u32(value, kind),
-            XDP_DIAG_UMEM => set_record(XdpUmem::parse(value), &mut self.has_umem, &mut self.umem),
-            XDP_DIAG_UMEM_FILL_RING => self.fill_ring.set_u32(value, kind),
-            XDP_DIAG_UMEM_COMPLETION_RING => self.completion_ring.set_u32(value, kind),
-            XDP_DIAG_MEMINFO => self.memory.set(MemInfo::parse(value)),
-            XDP_DIAG_STATS => set_record(
-                XdpStatistics::parse(value),
-                &mut self.has_statistics,
-                &mut self.statistics,
-            ),
-            _ => Ok(()),
+    #[inline(always)]
+    fn read(nla: &NlaBuffer<'a>) -> Result<AnyNla<'a>, DecodeError> {
+        AnyNla::read(Sockets::Xdp, nla)
+    }
+
+    fn set(&mut self, nla: AnyNla<'a>) {
+        match nla {
+            AnyNla::XdpInfo(info) => set_record(info, &mut self.has_info, &mut self.info),
+            AnyNla::Owner(user) => self.owner.set(user),
+            AnyNla::ReceiveRing(entries) => self.receive_ring.set(entries),
+            AnyNla::SendRing(entries) => self.send_ring.set(entries),
+            AnyNla::Umem(umem) => set_record(umem, &mut self.has_umem, &mut self.umem),
+            AnyNla::FillRing(entries) => self.fill_ring.set(entries),
+            AnyNla::CompletionRing(entries) => self.completion_ring.set(entries),
+            AnyNla::Memory(memory) => self.memory.set(memory),
+            AnyNla::Statistics(counters) => {
+                set_record(counters, &mut self.has_statistics, &mut self.statistics);
+            }
+            // A reply about an XDP socket has no other attributes that are known.
+            _ => {}
         }
     }
 }

@@ -1,4 +1,3 @@
-pub mod PieceWalk
 pub mod RequestsAfterPacket
 pub mod NameCells
 pub mod MessageWalk

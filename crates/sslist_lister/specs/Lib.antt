@@ -1,6 +1,5 @@
 pub mod command_line
 pub mod texts
-pub mod Pieces
 pub mod Messages
 pub mod Requests
 pub mod Lists

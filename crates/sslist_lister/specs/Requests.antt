@@ -14,7 +14,7 @@ use Rattle.sslist_lister.specs.Lists.{ComparedContent, first_request, first_with
 use Rattle.sslist_lister.specs.Lists.{is_repetition}
 use Rattle.sslist_lister.specs.Messages.{MessageParts}
 use Rattle.sslist_lister.specs.Others.{family_numbered}
-use Rattle.sslist_lister.specs.Pieces.{last_of_kind, pieces_in}
+use Rattle.sock_diag_extras.specs.Pieces.{last_of_kind, pieces_in}
 use Rattle.sslist_lister.specs.declared.requests.Query.{Query}
 use Rattle.sslist_lister.specs.declared.requests.Requested.{Requested}
 use Rattle.sslist_lister.specs.declared.requests.Requested.TheVariants as requests

@@ -6,7 +6,7 @@ use Rattle.std.specs.Prelude.{Option, is_some, slice_get, unwrap_or}
 use Rattle.std.specs.Option.{option_map_or}
 use Rattle.sock_diag_records.specs.declared.constants.TheConstants.{INET_DIAG_PEERS, IPPROTO_SCTP}
 use Rattle.sock_diag_records.specs.declared.constants.TheConstants.{TCP_CLOSE, TCP_ESTABLISHED}
-use Rattle.sslist_lister.specs.Pieces.{first_of_kind, pieces_in}
+use Rattle.sock_diag_extras.specs.Pieces.{first_of_kind, pieces_in}
 use Rattle.sslist_lister.specs.declared.sctp.TheConstants.{NO_TCP_STATE}
 use Rattle.sslist_lister.specs.texts.Cells.{state_name}
 

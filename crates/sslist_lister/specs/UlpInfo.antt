@@ -21,7 +21,7 @@ use Rattle.sock_diag_extras.specs.declared.ulp_info.TlsField.TheVariants as tls
 use Rattle.sslist_lister.specs.Facts.{Facts, Outcome, both, facts_of_each, flag_facts, json_group}
 use Rattle.sslist_lister.specs.Facts.{no_facts, number_row_facts, numbers, parsed_outcome}
 use Rattle.sslist_lister.specs.Facts.{text_facts}
-use Rattle.sslist_lister.specs.Pieces.{first_of_kind, pieces_in}
+use Rattle.sock_diag_extras.specs.Pieces.{first_of_kind, pieces_in}
 use Rattle.sslist_lister.specs.declared.facts.Shown.{Shown}
 use Rattle.sslist_lister.specs.declared.facts.Shown.TheVariants.{Always, Bits, Cipher, Closed, Hex}
 use Rattle.sslist_lister.specs.declared.facts.Shown.TheVariants.{Letters, Mode, Never, Version}

@@ -15,8 +15,8 @@ ghost use Rattle.sslist_lister.specs.Collected.{first_in};
 ghost use Rattle.sslist_lister.specs.Collected.{first_valid, is_valid, other_in_piece};
 ghost use Rattle.sslist_lister.specs.Collected.{other_model, slot_attribute, summary_of};
 ghost use Rattle.sslist_lister.specs.Collected.{with_element};
-ghost use Rattle.sslist_lister.specs.Pieces.{AttributeOrError, pieces_in};
-ghost use Rattle.sslist_lister.specs.Pieces.{framing_error_of};
+ghost use Rattle.sock_diag_extras.specs.Pieces.{AttributeOrError, pieces_in};
+ghost use Rattle.sock_diag_extras.specs.Pieces.{framing_error_of};
 
 use crate::attributes::{Sockets, show_attribute};
 use crate::facts::Status;

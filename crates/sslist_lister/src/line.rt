@@ -20,7 +20,7 @@ ghost use Rattle.sslist_lister.specs.JsonListing.{inet_output, unix_output};
 ghost use Rattle.sslist_lister.specs.JsonSockets.{inet_header_members, unix_header_members};
 ghost use Rattle.sslist_lister.specs.Listing.{inet_socket, is_association_in, reply_error};
 ghost use Rattle.sslist_lister.specs.Listing.{reply_lines, payload_error, payload_lines};
-ghost use Rattle.sslist_lister.specs.Pieces.{framing_error_of, pieces_in};
+ghost use Rattle.sock_diag_extras.specs.Pieces.{framing_error_of, pieces_in};
 ghost use Rattle.sslist_lister.specs.Selection.{lists_inet};
 ghost use Rattle.sslist_lister.specs.Table.{inet_columns, inet_first_columns, inet_lines};
 ghost use Rattle.sslist_lister.specs.Table.{info_of_reply, unix_columns, unix_first_columns};

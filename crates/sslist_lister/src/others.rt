@@ -21,7 +21,7 @@ ghost use Rattle.sslist_lister.specs.Others.{other_lines, packet_socket, none_if
 ghost use Rattle.sslist_lister.specs.Others.{user_kind, vsock_socket};
 ghost use Rattle.sslist_lister.specs.Others.{u32_in_first};
 ghost use Rattle.sslist_lister.specs.Others.{xdp_socket};
-ghost use Rattle.sslist_lister.specs.Pieces.{framing_error_of, pieces_in};
+ghost use Rattle.sock_diag_extras.specs.Pieces.{framing_error_of, pieces_in};
 ghost use Rattle.sslist_lister.specs.declared.attributes.Sockets.TheVariants.{Other};
 ghost use Rattle.sslist_lister.specs.declared.others.OtherSocket.{OtherSocket as SocketShown};
 ghost use Rattle.sslist_lister.specs.declared.command_line.options.Family.{Family as SocketFamily};

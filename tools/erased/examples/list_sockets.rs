@@ -2,32 +2,25 @@
 //! socket over IPv4 and IPv6, and for each netlink and packet socket.
 //!
 //! An attribute that is rejected does not hide its socket: the line ends with its kind and its
-//! error. Only a short `INET_DIAG_INFO` of TCP is not reported if it contains the round-trip time.
-//! A reply whose header is rejected is reported. The exit status is 0 if every reply was listed and
+//! error. So does that of an `INET_DIAG_INFO` of TCP that lacks the round-trip time. A reply whose
+//! header is rejected is reported. The exit status is 0 if every reply was listed and
 //! the last dump of each request was complete, and else 1. A protocol that the kernel lacks is
 //! reported, and is not a failure.
 
 use std::io::{self, Write};
 use std::process::ExitCode;
 
+use sockdiag::any::{AnyHeader, AnyNla, AnyNlas, AnyReply, InfoFormat, Rejected};
 use sockdiag::extras::{TcpField, TcpInfoBytes};
-use sockdiag::families::netlink::{
-    NetlinkRequest, NetlinkResponseHeader, NDIAG_PROTO_ALL, NDIAG_SHOW_GROUPS, NETLINK_DIAG_FLAGS,
-    NETLINK_DIAG_GROUPS, NETLINK_DIAG_MEMINFO,
-};
-use sockdiag::families::packet::{
-    PacketInfo, PacketRequest, PacketResponseHeader, PACKET_DIAG_INFO, PACKET_DIAG_MEMINFO,
-    PACKET_DIAG_UID, PACKET_SHOW_INFO,
-};
-use sockdiag::families::RawNla;
+use sockdiag::families::netlink::{NetlinkRequest, NetlinkResponseHeader};
+use sockdiag::families::netlink::{NDIAG_PROTO_ALL, NDIAG_SHOW_GROUPS};
+use sockdiag::families::packet::{PacketRequest, PacketResponseHeader, PACKET_SHOW_INFO};
 use sockdiag::filters::{RequestAttribute, RequestWithAttributes};
-use sockdiag::inet::nlas::{MemInfo, NlaView as InetNla};
-use sockdiag::inet::{ExtensionFlags, InetRequest, SocketId};
-use sockdiag::kernel::{Incomplete, Kernel, LenientView, Reply, Request};
-use sockdiag::lenient::{LenientError, LenientInetReply, LenientReply, LenientUnixReply};
-use sockdiag::unix::nlas::{NameView, NlaView as UnixNla};
-use sockdiag::unix::{ShowFlags, UnixRequest};
-use sockdiag::{inet, parse_u32, unix, DecodeError, NetlinkHeader, NlaBuffer};
+use sockdiag::inet::{ExtensionFlags, InetRequest, InetResponseHeader, SocketId};
+use sockdiag::kernel::{Incomplete, Kernel, Reply, Request};
+use sockdiag::unix::nlas::NameView;
+use sockdiag::unix::{ShowFlags, UnixRequest, UnixResponseHeader};
+use sockdiag::{inet, unix, DecodeError, NetlinkHeader};
 use sockdiag::{AF_INET, AF_INET6, INET_DIAG_INFO, IPPROTO_TCP, IPPROTO_UDP, SOCK_DIAG_BY_FAMILY};
 
 const ENOENT: i32 = 2;
@@ -35,61 +28,45 @@ const EINVAL: i32 = 22;
 const IPPROTO_MPTCP: u32 = 262;
 
 /// Returns the end of a line: the kinds of the attributes that are rejected, with their errors.
-fn rejected<'a, V>(nlas: impl Iterator<Item = Result<V, LenientError<'a>>>) -> String {
-    let text = |it: LenientError<'_>| match it.kind() {
-        Some(kind) => format!(" rejected {kind} ({})", it.error()),
+fn rejected(nlas: AnyNlas<'_>) -> String {
+    let text = |it: Rejected<'_>| match it.attribute() {
+        Some(nla) => format!(" rejected {} ({})", nla.kind(), it.error()),
         None => format!(" rejected ({})", it.error()),
     };
     nlas.filter_map(Result::err).map(text).collect()
 }
 
-/// Returns the same for raw attributes, of which a function checks the values.
-fn rejected_raw<'a>(
-    nlas: impl Iterator<Item = Result<RawNla<'a>, LenientError<'a>>>,
-    check: fn(NlaBuffer<'_>) -> Result<(), DecodeError>,
-) -> String {
-    rejected(nlas.map(|nla| {
-        let RawNla(nla) = nla?;
-        check(nla).map_err(|error| LenientError::Attribute(nla, error))
-    }))
-}
-
-/// Returns the value of the first raw attribute of a kind.
-fn value_of<'a>(
-    nlas: impl Iterator<Item = Result<RawNla<'a>, LenientError<'a>>>,
-    kind: u16,
-) -> Option<&'a [u8]> {
-    nlas.flatten().find(|nla| nla.0.kind() == kind).map(|nla| nla.0.value())
-}
-
 /// Returns the line about a UNIX socket.
-fn unix_line(reply: &LenientUnixReply<'_>) -> String {
-    let it = reply.header();
+fn unix_line(it: &UnixResponseHeader, nlas: AnyNlas<'_>) -> String {
     let line = format!("unix type {} state {} inode {}", it.kind, it.state, it.inode);
     // The texts of the first attribute of each kind, in the order of the line.
     let mut texts = [None, None, None, None];
-    for nla in reply.attributes().flatten() {
+    for (_, nla) in nlas.flatten() {
         let (index, text) = match nla {
-            UnixNla::Name(NameView::Pathname(path)) => (0, format!(" {}", path.escape_ascii())),
-            UnixNla::Name(NameView::Abstract(name)) => (0, format!(" @{}", name.escape_ascii())),
-            UnixNla::Peer(inode) => (1, format!(" peer {inode}")),
+            AnyNla::Name(NameView::Pathname(path)) => (0, format!(" {}", path.escape_ascii())),
+            AnyNla::Name(NameView::Abstract(name)) => (0, format!(" @{}", name.escape_ascii())),
+            AnyNla::Peer(inode) => (1, format!(" peer {inode}")),
             // Of a listening socket: the connections that wait, and how many may.
-            UnixNla::ReceiveQueueLength(received, sent) => {
+            AnyNla::QueueLengths(received, sent) => {
                 (2, format!(" received {received} sent {sent}"))
             }
-            UnixNla::PendingConnections(inodes) => {
+            AnyNla::PendingConnections(inodes) => {
                 (3, inodes.iter().map(|inode| format!(" pending {inode}")).collect())
             }
             _ => continue,
         };
         texts[index].get_or_insert(text);
     }
-    line + &texts.into_iter().flatten().collect::<String>() + &rejected(reply.attributes())
+    line + &texts.into_iter().flatten().collect::<String>()
+}
+
+/// Returns the format of the `INET_DIAG_INFO` of a protocol. Only that of TCP is requested.
+fn info_format(protocol: &str) -> InfoFormat {
+    if protocol == "tcp" { InfoFormat::Tcp } else { InfoFormat::Unknown }
 }
 
 /// Returns the line about an internet socket.
-fn inet_line(protocol: &str, reply: &LenientInetReply<'_>) -> String {
-    let header = reply.header();
+fn inet_line(protocol: &str, header: &InetResponseHeader, reply: &AnyReply<'_>) -> String {
     let id = &header.socket_id;
     let mut line = format!(
         "{protocol} state {} {} {} {} {} uid {} inode {}",
@@ -101,85 +78,66 @@ fn inet_line(protocol: &str, reply: &LenientInetReply<'_>) -> String {
         header.uid,
         header.inode
     );
-    let congestion = |nla| if let InetNla::Congestion(name) = nla { Some(name) } else { None };
-    if let Some(name) = reply.attributes().flatten().find_map(congestion) {
+    let format = info_format(protocol);
+    let congestion = |(_, nla)| if let AnyNla::Congestion(name) = nla { Some(name) } else { None };
+    if let Some(name) = reply.attributes(format).flatten().find_map(congestion) {
         line += &format!(" {}", name.escape_debug());
     }
-    // An MPTCP socket has another struct there.
-    let rtt = if protocol == "tcp" { round_trip_time(reply) } else { None };
-    // 0: not measured, as of a socket that listens.
-    if let Some(rtt) = rtt.filter(|rtt| *rtt != 0) {
-        line += &format!(" rtt {rtt}us");
+    let info = |(_, nla)| if let AnyNla::TcpInfo(info) = nla { Some(info) } else { None };
+    let info = reply.attributes(format).flatten().find_map(info);
+    line + &info.map(round_trip_time).unwrap_or_default()
+}
+
+/// Returns the text about the round-trip time of a TCP connection. Each kernel sends `struct
+/// tcp_info` in its own size.
+fn round_trip_time(info: TcpInfoBytes<'_>) -> String {
+    match info.get(TcpField::Rtt) {
+        // Not measured, as of a socket that listens.
+        Some(0) => String::new(),
+        Some(rtt) => format!(" rtt {rtt}us"),
+        None => format!(" rejected {INET_DIAG_INFO} (no round-trip time)"),
     }
-    let is_reported = |error: &LenientError<'_>| rtt.is_none() || !is_info(error);
-    line + &rejected(reply.attributes().filter(|nla| nla.as_ref().err().map_or(true, is_reported)))
-}
-
-/// Returns whether the rejected attribute is an `INET_DIAG_INFO`.
-fn is_info(error: &LenientError<'_>) -> bool {
-    error.kind() == Some(INET_DIAG_INFO)
-}
-
-/// Returns the round-trip time of a TCP connection in microseconds, if the reply contains it. Each
-/// kernel sends `struct tcp_info` in its own size, and a short one is rejected.
-fn round_trip_time(reply: &LenientInetReply<'_>) -> Option<u64> {
-    let first = reply.attributes().find_map(|nla| match nla {
-        Ok(InetNla::TcpInfo(info)) => Some(Some(info.rtt.into())),
-        Err(error) if is_info(&error) => {
-            Some(TcpInfoBytes::new(error.attribute()?.value()).get(TcpField::Rtt))
-        }
-        _ => None,
-    });
-    first.flatten()
 }
 
 /// Returns the line about a netlink socket. The kernel lists a socket that is in a multicast group
 /// twice, with the same cookie.
-fn netlink_line(reply: &LenientReply<'_, NetlinkResponseHeader>) -> String {
-    let it = reply.header();
+fn netlink_line(it: &NetlinkResponseHeader, nlas: AnyNlas<'_>) -> String {
     let mut line =
         format!("netlink protocol {} port {} inode {}", it.protocol, it.port, it.inode);
     // Each group has a bit: group 1 is the lowest bit of the first byte.
-    let groups = value_of(reply.attributes(), NETLINK_DIAG_GROUPS).unwrap_or_default();
+    let groups = |(_, nla)| if let AnyNla::Groups(groups) = nla { Some(groups) } else { None };
+    let groups = nlas.flatten().find_map(groups).unwrap_or_default();
     let is_member = |group: &usize| groups[(group - 1) / 8] >> ((group - 1) % 8) & 1 != 0;
     for group in (1..=8 * groups.len()).filter(is_member) {
         line += &format!(" group {group}");
     }
-    line + &rejected_raw(reply.attributes(), |nla| match nla.kind() {
-        NETLINK_DIAG_MEMINFO => MemInfo::parse(nla.value()).map(drop),
-        NETLINK_DIAG_FLAGS => parse_u32(nla.value()).map(drop),
-        _ => Ok(()),
-    })
+    line
 }
 
 /// Returns the line about a packet socket. The interface is in an attribute, and not in the header:
 /// a reply may lack it.
-fn packet_line(reply: &LenientReply<'_, PacketResponseHeader>) -> String {
-    let header = reply.header();
+fn packet_line(header: &PacketResponseHeader, nlas: AnyNlas<'_>) -> String {
     let mut line = format!("packet type {} protocol {}", header.kind, header.protocol);
-    let info = value_of(reply.attributes(), PACKET_DIAG_INFO).map(PacketInfo::parse);
-    if let Some(Ok(info)) = info {
+    let info = |(_, nla)| if let AnyNla::PacketInfo(info) = nla { Some(info) } else { None };
+    if let Some(info) = nlas.flatten().find_map(info) {
         line += &format!(" interface {}", info.interface);
     }
-    line += &format!(" inode {}", header.inode);
-    line + &rejected_raw(reply.attributes(), |nla| match nla.kind() {
-        PACKET_DIAG_INFO => PacketInfo::parse(nla.value()).map(drop),
-        PACKET_DIAG_MEMINFO => MemInfo::parse(nla.value()).map(drop),
-        PACKET_DIAG_UID => parse_u32(nla.value()).map(drop),
-        _ => Ok(()),
-    })
+    line + &format!(" inode {}", header.inode)
 }
 
 /// Returns the line about the socket of a reply.
 fn socket_line(protocol: &str, reply: &Reply<'_>) -> Result<String, DecodeError> {
-    Ok(match reply.lenient_view()? {
-        LenientView::Unix(reply) => unix_line(&reply),
-        LenientView::Inet(reply) => inet_line(protocol, &reply),
-        LenientView::Netlink(reply) => netlink_line(&reply),
-        LenientView::Packet(reply) => packet_line(&reply),
+    let reply = reply.any_view()?;
+    let nlas = || reply.attributes(info_format(protocol));
+    let line = match reply.header() {
+        AnyHeader::Unix(header) => unix_line(header, nlas()),
+        AnyHeader::Inet(header) => inet_line(protocol, header, &reply),
+        AnyHeader::Netlink(header) => netlink_line(header, nlas()),
+        AnyHeader::Packet(header) => packet_line(header, nlas()),
         // These are not requested.
-        LenientView::Vsock(_) | LenientView::Xdp(_) => protocol.into(),
-    })
+        AnyHeader::Vsock(_) | AnyHeader::Xdp(_) => protocol.into(),
+    };
+    Ok(line + &rejected(nlas()))
 }
 
 /// Lists sockets.

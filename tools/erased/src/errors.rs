@@ -1,6 +1,6 @@
 //! `Display` and `Error` of the errors that hold another one.
 
-use crate::lenient::LenientError;
+use crate::any::Rejected;
 use crate::{CanonError, DumpError};
 use core::error::Error;
 use core::fmt::{Display, Formatter, Result};
@@ -28,13 +28,13 @@ impl Display for DumpError {
 
 impl Error for DumpError {}
 
-impl Display for LenientError<'_> {
+impl Display for Rejected<'_> {
     fn fmt(&self, f: &mut Formatter<'_>) -> Result {
         match self {
-            LenientError::Attribute(nla, error) => write!(f, "attribute {}: {error}", nla.kind()),
-            LenientError::Framing(error) => error.fmt(f),
+            Rejected::Attribute(nla, error) => write!(f, "attribute {}: {error}", nla.kind()),
+            Rejected::Framing(error) => error.fmt(f),
         }
     }
 }
 
-impl Error for LenientError<'_> {}
+impl Error for Rejected<'_> {}

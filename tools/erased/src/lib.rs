@@ -112,7 +112,6 @@ mod netlink_core;
 mod netlink_packet_sock_diag;
 #[cfg(feature = "std")]
 mod program_streams;
-mod sock_diag_any;
 mod sock_diag_attributes;
 mod sock_diag_extras;
 mod sock_diag_families;
@@ -144,9 +143,9 @@ pub use netlink_packet_sock_diag::*;
 pub use sock_diag_attributes::inet::nlas::InetNla;
 pub use sock_diag_attributes::unix::nlas::{SocketName, UnixNla};
 
-/// Replies about sockets of any family.
+/// Replies about sockets of any family, with everything in them that is known.
 pub mod any {
-    pub use crate::sock_diag_any::*;
+    pub use crate::sock_diag_extras::any::*;
 }
 
 /// What the port leaves raw: all of `struct tcp_info`, more attributes, and constants.
@@ -163,11 +162,6 @@ pub mod families {
 /// family.
 pub mod filters {
     pub use crate::sock_diag_filters::*;
-}
-
-/// Replies whose attributes are parsed independently of each other.
-pub mod lenient {
-    pub use crate::sock_diag_replies::lenient::*;
 }
 
 /// The programs of the package.

@@ -1,6 +1,6 @@
 //! Each value of a message type, a family, a state, a timer, a byte and a type field.
 
-use sockdiag::any::AnySockDiagView;
+use sockdiag::any::{AnyHeader, AnyReply};
 use sockdiag::constants::*;
 use sockdiag::inet::nlas::NlaView as InetNla;
 use sockdiag::inet::{InetResponseHeader, InetResponseView, Timer};
@@ -47,13 +47,12 @@ fn each_family() {
             _ => 72,
         };
         let payload = vec![family; length];
-        let any = AnySockDiagView::parse(&payload, 20);
+        let any = AnyReply::parse(&payload, 20).map(|reply| reply.header().clone());
         let of_port = SockDiagView::parse(&payload, 20);
         let is_right = match (family, &any) {
-            (AF_UNIX, Ok(AnySockDiagView::SockDiag(SockDiagView::UnixResponse(_)))) => true,
-            (2 | 10, Ok(AnySockDiagView::SockDiag(SockDiagView::InetResponse(_)))) => true,
-            (16, Ok(AnySockDiagView::Netlink(_))) | (17, Ok(AnySockDiagView::Packet(_))) => true,
-            (40, Ok(AnySockDiagView::Vsock(_))) | (44, Ok(AnySockDiagView::Xdp(_))) => true,
+            (AF_UNIX, Ok(AnyHeader::Unix(_))) | (2 | 10, Ok(AnyHeader::Inet(_))) => true,
+            (16, Ok(AnyHeader::Netlink(_))) | (17, Ok(AnyHeader::Packet(_))) => true,
+            (40, Ok(AnyHeader::Vsock(_))) | (44, Ok(AnyHeader::Xdp(_))) => true,
             (_, Err(error)) => *error == DecodeError::UnknownFamily { family },
             _ => false,
         };
@@ -61,7 +60,7 @@ fn each_family() {
         assert_eq!(of_port.is_ok(), [1, 2, 10].contains(&family), "{family}");
         for bytes in [&payload[..0], &payload[..1]] {
             let error = DecodeError::MessageTooShort { got: bytes.len() };
-            assert_eq!(AnySockDiagView::parse(bytes, 20), Err(error));
+            assert_eq!(AnyReply::parse(bytes, 20).err(), Some(error));
         }
     }
 }

@@ -9,14 +9,14 @@ use std::process::Command;
 use std::rc::Rc;
 use std::time::Duration;
 
-use sockdiag::any::AnySockDiagView;
+use sockdiag::any::{AnyHeader, InfoFormat, Rejected};
 use sockdiag::extras::constants::{INET_DIAG_REQ_PROTOCOL, NLM_F_DUMP_INTR, NLM_F_MULTI};
 use sockdiag::families::netlink::{NetlinkRequest, NDIAG_PROTO_ALL};
 use sockdiag::families::packet::PacketRequest;
 use sockdiag::families::vsock::VsockRequest;
 use sockdiag::filters::{RequestAttribute, RequestWithAttributes};
 use sockdiag::inet::{ExtensionFlags, InetRequest, SocketId};
-use sockdiag::kernel::{Answer, Connection, Incomplete, Kernel, LenientView, Request, Socket};
+use sockdiag::kernel::{Answer, Connection, Incomplete, Kernel, Request, Socket};
 use sockdiag::kernel::ATTEMPTS;
 use sockdiag::unix::nlas::NameView;
 use sockdiag::unix::{ShowFlags, UnixRequest, UnixResponse, UnixResponseHeader};
@@ -453,24 +453,23 @@ fn replies_are_parsed_as_chosen() {
     let answer = dump(&[&[datagram(&messages)]]).unwrap();
     let results: Vec<_> = answer
         .replies()
-        .map(|it| (it.view().is_ok(), it.any_view().is_ok(), it.lenient_view().is_ok()))
+        .map(|it| (it.view().is_ok(), it.any_view().is_ok()))
         .collect();
-    let (yes, no) = ((true, true, true), (false, false, false));
-    let lenient = (false, false, true);
-    assert_eq!(results, [yes, lenient, (false, true, true), lenient, no, no, no]);
-    let reply = answer.replies().nth(1).unwrap();
-    let LenientView::Netlink(lenient) = reply.lenient_view().unwrap() else { panic!() };
-    let errors: Vec<_> = lenient.attributes().filter_map(Result::err).collect();
-    assert_eq!((lenient.header().state, errors.len(), errors[0].kind()), (7, 1, None));
-    let errors = answer.replies().map(|it| (it.any_view().err(), it.lenient_view().err()));
+    let (yes, lenient, no) = ((true, true), (false, true), (false, false));
+    assert_eq!(results, [yes, lenient, lenient, lenient, no, no, no]);
+    let reply = answer.replies().nth(1).unwrap().any_view().unwrap();
+    let AnyHeader::Netlink(header) = reply.header() else { panic!() };
+    let errors: Vec<_> = reply.attributes(InfoFormat::Unknown).filter_map(Result::err).collect();
+    assert!(header.state == 7 && matches!(errors[..], [Rejected::Framing(_)]));
     // The errors that are not about attributes are equal.
-    assert!(errors.skip(4).all(|(any, lenient)| any.is_some() && any == lenient));
+    let errors = answer.replies().map(|it| (it.view().err(), it.any_view().err()));
+    assert!(errors.skip(4).all(|(strict, any)| any.is_some() && any == strict));
 }
 
 /// Returns the reply about the socket with this abstract name.
 fn find(answer: &Answer, name: &[u8]) -> Option<(u32, [u8; 8])> {
-    answer.replies().find_map(|reply| match reply.any_view().unwrap() {
-        AnySockDiagView::SockDiag(SockDiagView::UnixResponse(reply)) => {
+    answer.replies().find_map(|reply| match reply.view().unwrap() {
+        SockDiagView::UnixResponse(reply) => {
             let header = reply.header();
             let is_it = reply.name() == Some(NameView::Abstract(name));
             is_it.then_some((header.inode, header.cookie))

@@ -2,9 +2,9 @@
 //! methods of a list, errors, and threads.
 #![cfg(feature = "alloc")]
 
+use sockdiag::any::{AnyNlas, AnyReply, Rejected};
 use sockdiag::filters::AssembleError;
 use sockdiag::inet::{InetRequest, InetResponse, SocketId};
-use sockdiag::lenient::{LenientError, LenientInetReply, LenientUnixReply};
 use sockdiag::unix::nlas::{Nla, UnixDiagName};
 use sockdiag::unix::{UnixRequest, UnixResponse};
 use sockdiag::{
@@ -227,8 +227,8 @@ fn errors_have_texts() {
         (Box::new(CanonError::Memory), "out of memory"),
         (Box::new(DumpError::Fault(DecodeError::NameEmpty)), "name is empty"),
         (Box::new(DumpError::Ended), "the dump had ended"),
-        (Box::new(LenientError::Framing(DecodeError::NameEmpty)), "name is empty"),
-        (Box::new(LenientError::Attribute(nla, DecodeError::Memory)), "attribute 2: out of memory"),
+        (Box::new(Rejected::Framing(DecodeError::NameEmpty)), "name is empty"),
+        (Box::new(Rejected::Attribute(nla, DecodeError::Memory)), "attribute 2: out of memory"),
     ];
     for (error, text) in rows {
         assert_eq!(error.to_string(), text);
@@ -256,9 +256,9 @@ fn values_are_shared_by_threads() {
     }
     are_shared!(
         AllocError, AssembleError, CanonError, DecodeError, DumpError, DumpReader, DumpViews<'_>,
-        LenientError<'_>, LenientInetReply<'_>, LenientUnixReply<'_>, LossyDump, MessageView<'_>,
+        AnyNlas<'_>, AnyReply<'_>, Rejected<'_>, LossyDump, MessageView<'_>,
         NetlinkMessage<SockDiagMessage>, SockDiagDestroy, SocketId, InetRequest, InetResponse,
-        sockdiag::any::AnySockDiagView<'_>, sockdiag::extras::AckView<'_>,
+        sockdiag::extras::AckView<'_>,
         sockdiag::filters::AnyRequestView<'_>, sockdiag::inet::InetResponseView<'_>,
         sockdiag::inet::StateFlags, sockdiag::inet::nlas::NlaView<'_>,
         sockdiag::unix::ShowFlags, sockdiag::unix::UnixResponseView<'_>,

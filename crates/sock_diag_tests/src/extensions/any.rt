@@ -2,14 +2,9 @@
 //! 6.18 sent the bytes of the netlink and packet replies. The bytes of the vsock and XDP replies
 //! and of the requests are derived by hand from the kernel's headers.
 
-use super::assert_debug;
-use netlink_core::{DecodeError, Emitable, write_new};
-use sock_diag_any::AnySockDiagView;
-use sock_diag_any::laws::{equal_raw_headers, equal_raw_reply_views};
-use sock_diag_any::netlink::{self, NetlinkResponseView};
-use sock_diag_any::packet::{self, PacketResponseView};
-use sock_diag_any::vsock::VsockResponseView;
-use sock_diag_any::xdp::{self, XdpResponseView};
+use super::{assert_debug, assert_text, items};
+use netlink_core::{Emitable, write_new};
+use sock_diag_extras::any::{AnyNlas, AnyReply, InfoFormat};
 use sock_diag_families::netlink::NetlinkRequest;
 use sock_diag_families::vsock::VsockRequest;
 use std::alloc::Global;
@@ -59,106 +54,100 @@ fn assert_emits<T: Emitable>(rt: &impl Abort, alloc: Global, value: &T, row: &st
     assert!(rt; written == decoded(rt, alloc, row), "{written:?}");
 }
 
-/// Asserts the `Debug` output of a reply after `more` copies of [`OTHER`] are appended to it: the
-/// names of its variant and type (`before`), its bytes, the number of its attributes (`count`
-/// without the copies), and the closing parentheses (`after`).
-fn assert_debug_of_reply(
-    rt: &impl Abort,
-    alloc: Global,
-    row: &str,
-    more: usize,
-    (before, count, after): (&str, usize, &str),
-) {
-    let others = OTHER.repeat(alloc, more).expect(rt, "memory");
-    let digits = [row, others.as_str()].concat(alloc).expect(rt, "memory");
-    let bytes = decoded(rt, alloc, digits.as_str());
-    let count = count.saturating_add(more);
-    let text = format!(in alloc; "{before} {{ bytes: {bytes:?}, count: {count} }}{after}");
-    assert_debug_of_bytes(rt, alloc, &bytes, text.expect(rt, "memory").as_str());
+/// Parses a reply under `SOCK_DIAG_BY_FAMILY` (20).
+fn parsed<'a>(rt: &impl Abort, bytes: &'a [u8]) -> AnyReply<'a> {
+    AnyReply::parse(bytes, 20).expect(rt, "refused")
 }
 
-/// Asserts the `Debug` output of the reply in the bytes, parsed under `SOCK_DIAG_BY_FAMILY` (20).
-fn assert_debug_of_bytes(rt: &impl Abort, alloc: Global, bytes: &[u8], text: &str) {
-    let reply = AnySockDiagView::parse(bytes, 20).expect(rt, "refused");
-    assert_debug(rt, alloc, &reply, text);
-}
+/// A reply of each family, the `Debug` output of its header, and the text of its attributes.
+const REPLIES: [(&str, &str, &str); 6] = [
+    (
+        NETLINK,
+        "Netlink(NetlinkResponseHeader { kind: 3, protocol: 0, state: 7, port: 6250, \
+            destination_port: 0, destination_group: 0, inode: 87039, cookie: 4097 })",
+        "Groups([17, 0, 0, 0, 0, 0, 0, 0]);\
+            Memory(MemInfo { receive_queue: 0, receive_queue_max: 212992, bottom_send_queues: 0, \
+            send_queue_max: 212992, cache: 0, send_queue: 0, options: 0, \
+            backlog_queue_length: Some(0), drops: Some(0) });\
+            NetlinkFlags(32);",
+    ),
+    (
+        PACKET,
+        "Packet(PacketResponseHeader { kind: 3, protocol: 2048, inode: 87040, cookie: 4099 })",
+        "PacketInfo(PacketInfo { interface: 1, version: 0, reserve: 0, copy_threshold: 0, \
+            timestamp: 0, flags: 1 });\
+            Owner(0);\
+            Memberships([1, 0, 0, 0, 1, 0, 0, 0, 0, 0, 6, 0, 1, 0, 94, 0, 0, 251, 0, 0, 0, 0, 0, \
+            0, 0, 0, 0, 0, 0, 0, 0, 0, 0, 0, 0, 0, 0, 0, 0, 0, 0, 0, 0, 0]);\
+            ReceiveFrames(PacketRing { block_size: 4096, blocks: 2, frame_size: 2048, frames: 4, \
+            retire_timeout: 0, private_size: 0, features: 0 });\
+            Fanout(7);\
+            Memory(MemInfo { receive_queue: 0, receive_queue_max: 212992, bottom_send_queues: 0, \
+            send_queue_max: 212992, cache: 0, send_queue: 0, options: 136, \
+            backlog_queue_length: Some(0), drops: Some(0) });\
+            Filter([6, 0, 0, 0, 255, 255, 0, 0]);",
+    ),
+    (
+        VSOCK,
+        "Vsock(VsockResponseHeader { kind: 1, state: 10, shutdown: 0, source_context: 2, \
+            source_port: 22, destination_context: 4294967295, destination_port: 4294967295, \
+            inode: 20490, cookie: 5 })",
+        "",
+    ),
+    (
+        XDP,
+        "Xdp(XdpResponseHeader { kind: 3, inode: 11, cookie: 6 })",
+        "XdpInfo(XdpInfo { interface: 3, queue: 1 });\
+            Owner(1000);\
+            ReceiveRing(2048);\
+            Umem(XdpUmem { size: 4194304, id: 2, pages: 1024, chunk_size: 4096, headroom: 0, \
+            interface: 3, queue: 1, flags: 1, references: 1 });\
+            FillRing(4096);\
+            Statistics(XdpStatistics { received_dropped: 1, received_invalid: 2, \
+            received_full: 3, fill_ring_empty: 4, sent_invalid: 5, send_ring_empty: 6 });",
+    ),
+    (
+        UNIX,
+        "Unix(UnixResponseHeader { kind: 1, state: 10, inode: 20238, cookie: [160, 2, 0, 0, 0, \
+            0, 0, 0] })",
+        "",
+    ),
+    (
+        INET,
+        "Inet(InetResponseHeader { family: 2, state: 1, timer: Some(KeepAlive(24.704s)), \
+            socket_id: SocketId { source_port: 60180, destination_port: 443, \
+            source_address: 192.168.178.60, destination_address: 172.217.23.131, interface_id: 0, \
+            cookie: [82, 3, 0, 0, 0, 0, 0, 0] }, recv_queue: 0, send_queue: 0, uid: 1000, \
+            inode: 2742952 })",
+        "",
+    ),
+];
 
-/// Returns the number of packets dropped at the netlink socket that a reply describes; `None` if
-/// the reply lacks it.
-fn dropped_packets(reply: &[u8]) -> Result<Option<u32>, DecodeError> {
-    let reply = NetlinkResponseView::parse(reply)?;
-    let Some(memory) = netlink::memory(&reply)? else {
-        return Ok(None);
-    };
-    Ok(memory.drops)
+/// Asserts the `Debug` output of the header of a reply, and the text of its attributes.
+fn assert_reply(rt: &impl Abort, alloc: Global, (row, header, nlas): (&str, &str, &str)) {
+    let bytes = decoded(rt, alloc, row);
+    let reply = parsed(rt, &bytes);
+    assert_debug(rt, alloc, reply.header(), header);
+    let found = items(rt, alloc, reply.attributes(InfoFormat::Unknown));
+    assert_text(rt, found.as_str(), nlas);
 }
 
 #[test]
-fn netlink_socket_that_linux_sent(rt: HostRuntime) {
-    let alloc = rt.alloc();
-    let bytes = decoded(&rt, alloc, NETLINK);
-    let reply = NetlinkResponseView::parse(&bytes).expect(&rt, "refused");
-    let text = "RawHeader(NetlinkResponseHeader { kind: 3, protocol: 0, state: 7, port: 6250, \
-        destination_port: 0, destination_group: 0, inode: 87039, cookie: 4097 })";
-    assert_debug(&rt, alloc, &reply.header(), text);
-    assert!(&rt; equal_raw_reply_views(&reply, &reply));
-    assert!(&rt; equal_raw_headers(&reply.header(), &reply.header()));
-    let flags = netlink::flags(&reply).expect(&rt, "refused");
+fn headers_and_attributes(rt: HostRuntime) {
+    for row in &REPLIES {
+        assert_reply(&rt, rt.alloc(), *row);
+    }
+}
+
+#[test]
+fn attribute_with_its_bytes(rt: HostRuntime) {
+    let bytes = decoded(&rt, rt.alloc(), NETLINK);
+    let reply = parsed(&rt, &bytes);
+    let mut nlas = reply.attributes(InfoFormat::Unknown);
     // The bits of the groups 1 and 5 are 1 and 16.
-    let text = "(Some([17, 0, 0, 0, 0, 0, 0, 0]), Some(32))";
-    assert_debug(&rt, alloc, &(netlink::groups(&reply), flags), text);
-    let text = "Some(RawNla(NlaBuffer { type_word: 1, value: [17, 0, 0, 0, 0, 0, 0, 0] }))";
-    assert_debug(&rt, alloc, &reply.attributes().next(), text);
-    assert_debug(&rt, alloc, &dropped_packets(&bytes), "Ok(Some(0))");
-}
-
-#[test]
-fn packet_socket_that_linux_sent(rt: HostRuntime) {
-    let alloc = rt.alloc();
-    let bytes = decoded(&rt, alloc, PACKET);
-    let reply = PacketResponseView::parse(&bytes).expect(&rt, "refused");
-    let text = "RawHeader(PacketResponseHeader { kind: 3, protocol: 2048, inode: 87040, \
-        cookie: 4099 })";
-    assert_debug(&rt, alloc, &reply.header(), text);
-    let text = "Ok(Some(PacketInfo { interface: 1, version: 0, reserve: 0, copy_threshold: 0, \
-        timestamp: 0, flags: 1 }))";
-    assert_debug(&rt, alloc, &packet::info(&reply), text);
-    let text = "Ok(Some(PacketRing { block_size: 4096, blocks: 2, frame_size: 2048, frames: 4, \
-        retire_timeout: 0, private_size: 0, features: 0 }))";
-    assert_debug(&rt, alloc, &packet::receive_ring(&reply), text);
-    let fanout = packet::fanout(&reply).expect(&rt, "refused");
-    let text = "(Some(7), Some([6, 0, 0, 0, 255, 255, 0, 0]))";
-    assert_debug(&rt, alloc, &(fanout, packet::filter(&reply)), text);
-}
-
-#[test]
-fn fields_of_a_vsock_header(rt: HostRuntime) {
-    let bytes = decoded(&rt, rt.alloc(), VSOCK);
-    let reply = VsockResponseView::parse(&bytes).expect(&rt, "refused");
-    let text =
-        "RawHeader(VsockResponseHeader { kind: 1, state: 10, shutdown: 0, source_context: 2, \
-        source_port: 22, destination_context: 4294967295, destination_port: 4294967295, \
-        inode: 20490, cookie: 5 })";
-    assert_debug(&rt, rt.alloc(), &reply.header(), text);
-}
-
-#[test]
-fn fields_of_an_xdp_socket(rt: HostRuntime) {
-    let alloc = rt.alloc();
-    let bytes = decoded(&rt, alloc, XDP);
-    let reply = XdpResponseView::parse(&bytes).expect(&rt, "refused");
-    let text = "RawHeader(XdpResponseHeader { kind: 3, inode: 11, cookie: 6 })";
-    assert_debug(&rt, alloc, &reply.header(), text);
-    let text = "Ok(Some(XdpUmem { size: 4194304, id: 2, pages: 1024, chunk_size: 4096, \
-        headroom: 0, interface: 3, queue: 1, flags: 1, references: 1 }))";
-    assert_debug(&rt, alloc, &xdp::shared_memory(&reply), text);
-    let text = "Ok(Some(XdpInfo { interface: 3, queue: 1 }))";
-    assert_debug(&rt, alloc, &xdp::info(&reply), text);
-    let rings = (xdp::receive_ring(&reply), xdp::send_ring(&reply));
-    assert_debug(&rt, alloc, &rings, "(Ok(Some(2048)), Ok(None))");
-    let text = "Ok(Some(XdpStatistics { received_dropped: 1, received_invalid: 2, \
-        received_full: 3, fill_ring_empty: 4, sent_invalid: 5, send_ring_empty: 6 }))";
-    assert_debug(&rt, alloc, &xdp::statistics(&reply), text);
+    let text = "Some(Ok((NlaBuffer { type_word: 1, value: [17, 0, 0, 0, 0, 0, 0, 0] }, \
+        Groups([17, 0, 0, 0, 0, 0, 0, 0]))))";
+    assert_debug(&rt, rt.alloc(), &nlas.next(), text);
 }
 
 #[test]
@@ -182,53 +171,56 @@ fn requests(rt: HostRuntime) {
     assert_emits(&rt, alloc, &netlink, row);
 }
 
-/// In each row: a reply, and the parts of its `Debug` output: the names of its variant and type,
-/// the number of its attributes, and the closing parentheses, as [`assert_debug_of_reply`] takes
-/// them.
-const REPLIES: [(&str, (&str, usize, &str)); 6] = [
-    (NETLINK, ("Netlink(NetlinkResponseView", 3, ")")),
-    (PACKET, ("Packet(PacketResponseView", 7, ")")),
-    (VSOCK, ("Vsock(VsockResponseView", 0, ")")),
-    (XDP, ("Xdp(XdpResponseView", 6, ")")),
-    (UNIX, ("SockDiag(UnixResponse(UnixResponseView", 0, "))")),
-    (INET, ("SockDiag(InetResponse(InetResponseView", 0, "))")),
+/// Replies, each with the number of its attributes.
+const COUNTS: [(&str, usize); 6] = [
+    (NETLINK, 3),
+    (PACKET, 7),
+    (VSOCK, 0),
+    (XDP, 6),
+    (UNIX, 0),
+    (INET, 0),
 ];
 
-#[test]
-fn debug_texts(rt: HostRuntime) {
-    for (row, parts) in &REPLIES {
-        assert_debug_of_reply(&rt, rt.alloc(), row, 0, *parts);
-        assert_debug_of_reply(&rt, rt.alloc(), row, 1, *parts);
-        assert_debug_of_reply(&rt, rt.alloc(), row, 300, *parts);
-        assert_debug_of_reply(&rt, rt.alloc(), row, 10_000, *parts);
+/// Returns the number of attributes that are accepted.
+fn accepted(nlas: AnyNlas<'_>) -> usize {
+    let mut count = 0usize;
+    for item in nlas {
+        count = count.saturating_add(usize::from(item.is_ok()));
     }
+    count
 }
 
-/// Asserts that a reply of any family serializes to its bytes.
-fn assert_emits_its_bytes(rt: &impl Abort, alloc: Global, row: &str) {
-    let bytes = decoded(rt, alloc, row);
-    let reply = AnySockDiagView::parse(&bytes, 20).expect(rt, "refused");
-    assert_emits(rt, alloc, &reply, row);
+/// Asserts that a reply has `count` attributes, and `more` after so many copies of [`OTHER`] are
+/// appended to it, none of which is rejected.
+fn assert_count(rt: &impl Abort, alloc: Global, row: &str, count: usize, more: usize) {
+    let others = OTHER.repeat(alloc, more).expect(rt, "memory");
+    let digits = [row, others.as_str()].concat(alloc).expect(rt, "memory");
+    let bytes = decoded(rt, alloc, digits.as_str());
+    let reply = parsed(rt, &bytes);
+    let found = accepted(reply.attributes(InfoFormat::Unknown));
+    assert!(rt; found == count.saturating_add(more), "{row} {found}");
+}
+
+#[test]
+fn many_attributes(rt: HostRuntime) {
+    for (row, count) in &COUNTS {
+        assert_count(&rt, rt.alloc(), row, *count, 0);
+        assert_count(&rt, rt.alloc(), row, *count, 1);
+        assert_count(&rt, rt.alloc(), row, *count, 300);
+        assert_count(&rt, rt.alloc(), row, *count, 10_000);
+    }
 }
 
 /// Asserts that a reply is rejected with an error that has this text.
 fn assert_rejected(rt: &impl Abort, alloc: Global, row: &str, text: &str) {
     let bytes = decoded(rt, alloc, row);
-    let error = AnySockDiagView::parse(&bytes, 20)
-        .err()
-        .expect(rt, "accepted");
+    let error = AnyReply::parse(&bytes, 20).err().expect(rt, "accepted");
     let shown = format!(in alloc; "{error}").expect(rt, "memory");
-    assert!(rt; shown.as_str() == text, "{row}");
+    assert_text(rt, shown.as_str(), text);
 }
 
-/// Replies that are in their canonical form.
-const WRITABLE: [&str; 5] = [NETLINK, PACKET, VSOCK, XDP, UNIX];
-
 #[test]
-fn of_any_family(rt: HostRuntime) {
-    for row in &WRITABLE {
-        assert_emits_its_bytes(&rt, rt.alloc(), row);
-    }
+fn rejected_replies(rt: HostRuntime) {
     // A netlink reply (family 16) with a truncated header, and the family 29.
     let cut = "FamilyResponseHeader { family: 16 }: buffer of 5 bytes, at least 28 needed";
     assert_rejected(&rt, rt.alloc(), "1003000701", cut);

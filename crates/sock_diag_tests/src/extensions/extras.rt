@@ -1,16 +1,16 @@
-//! Tests of lenient replies, acknowledgements, and the attributes that the port lacks. The bytes
-//! are derived by hand from sock_diag(7) and `linux/inet_diag.h`, except for the bytes that Linux
-//! sent, as noted below.
+//! Tests of replies with rejected attributes, of acknowledgements, and of the attributes that the
+//! port lacks. The bytes are derived by hand from sock_diag(7) and `linux/inet_diag.h`, except for
+//! the bytes that Linux sent, as noted below.
 
-use super::assert_debug;
-use netlink_core::{DecodeError, FamilyView, NlaBuffer, NlasIterator};
+use super::{assert_debug, items};
+use netlink_core::{DecodeError, NlaBuffer, NlasIterator};
+use sock_diag_extras::any::{AnyReply, InfoFormat};
 use sock_diag_extras::{
     AckAttributes, AckView, AttributeRecord, AttributeRecords, BbrInfo, BpfStorage, DctcpInfo,
     Md5Signature, MptcpField, MptcpInfoBytes, NestedNlas, SocketOption, SocketOptions,
     StoredAddress, SubflowField, SubflowInfo, TcpField, TcpInfoBytes, TlsField, TlsInfo, UlpInfo,
     VegasInfo, read_attribute_record, write_attribute_record,
 };
-use sock_diag_replies::lenient::{LenientInetReply, LenientNlas, LenientUnixReply};
 use std::alloc::Global;
 use std::fmt::Debug;
 use std::process::Abort;
@@ -21,24 +21,6 @@ fn reply(rt: &impl Abort, alloc: Global, family: u8, header: usize, attributes: 
     bytes.resize(header, 0).expect(rt, "memory");
     bytes.extend_from_slice(attributes).expect(rt, "memory");
     bytes
-}
-
-/// Returns the `Debug` output of the view of each attribute, or the kind and the error of a
-/// rejected one.
-fn items<'a, V>(rt: &impl Abort, alloc: Global, attributes: LenientNlas<'a, V>) -> String
-where
-    V: FamilyView<'a> + Debug + Drop,
-{
-    let mut text = String::new(alloc);
-    for item in attributes {
-        let line = match item {
-            Ok(view) => format!(in alloc; "{view:?};"),
-            Err(refused) => format!(in alloc; "{:?} {};", refused.kind(), refused.error()),
-        };
-        text.push_str(line.expect(rt, "memory").as_str())
-            .expect(rt, "memory");
-    }
-    text
 }
 
 /// Returns the `Debug` output of the record in the bytes, and `true` if it serializes to the same
@@ -241,8 +223,8 @@ fn storage(rt: &impl Abort, alloc: Global, nla: &NlaBuffer) -> String {
 /// a number is the flags of an `NLMSG_ERROR`.
 fn content_text(rt: &impl Abort, alloc: Global, word: &str, bytes: &[u8]) -> String {
     match word {
-        "reply" => inet_items(rt, alloc, bytes),
-        "unix" => unix_items(rt, alloc, bytes),
+        "reply" => items_of_reply(rt, alloc, &reply(rt, alloc, 2, 72, bytes)),
+        "unix" => items_of_reply(rt, alloc, &reply(rt, alloc, 1, 16, bytes)),
         "vegas" => record::<VegasInfo>(rt, alloc, bytes),
         "dctcp" => record::<DctcpInfo>(rt, alloc, bytes),
         "bbr" => record::<BbrInfo>(rt, alloc, bytes),
@@ -258,18 +240,10 @@ fn content_text(rt: &impl Abort, alloc: Global, word: &str, bytes: &[u8]) -> Str
     }
 }
 
-/// Returns the items of a reply about an IPv4 socket with these attributes.
-fn inet_items(rt: &impl Abort, alloc: Global, attributes: &[u8]) -> String {
-    let bytes = reply(rt, alloc, 2, 72, attributes);
-    let reply = LenientInetReply::parse(&bytes).expect(rt, "refused");
-    items(rt, alloc, reply.attributes())
-}
-
-/// Returns the items of a reply about a UNIX socket with these attributes.
-fn unix_items(rt: &impl Abort, alloc: Global, attributes: &[u8]) -> String {
-    let bytes = reply(rt, alloc, 1, 16, attributes);
-    let reply = LenientUnixReply::parse(&bytes).expect(rt, "refused");
-    items(rt, alloc, reply.attributes())
+/// Returns the items of a reply under `SOCK_DIAG_BY_FAMILY` (20).
+fn items_of_reply(rt: &impl Abort, alloc: Global, bytes: &[u8]) -> String {
+    let reply = AnyReply::parse(bytes, 20).expect(rt, "refused");
+    items(rt, alloc, reply.attributes(InfoFormat::Unknown))
 }
 
 /// Returns the upper layer protocol of a connection as text, or the text of the error.
@@ -288,10 +262,10 @@ fn error_message(rt: &impl Abort, alloc: Global, flags: &str, bytes: &[u8]) -> S
 }
 
 // A row has a word, bytes in hexadecimal, and after `|` the expected text, which `content_text`
-// makes of the bytes by the word: of `reply` and `unix` the items of a lenient reply with these
-// attributes, each with its value or its error. Linux 6.18 sent the bytes of the rows 512, 256 and
-// `done`, of the first rows 768 and 0, of the `ulp` row about MPTCP, and of the first two rows
-// `mptcp`.
+// makes of the bytes by the word: of `reply` and `unix` the items of a reply about an IPv4 or a
+// UNIX socket with these attributes, each with its value or its error. Linux 6.18 sent the bytes of
+// the rows 512, 256 and `done`, of the first rows 768 and 0, of the `ulp` row about MPTCP, and of
+// the first two rows `mptcp`.
 //
 // A number in place of the word is the flags of an `NLMSG_ERROR`: 256 is `NLM_F_CAPPED`, 512 is
 // `NLM_F_ACK_TLVS`, and 768 is both. The text of an acknowledgement has what `acknowledged`
@@ -318,10 +292,10 @@ unix 060000006100000006000000006200000800020007000000|\
 Name(Pathname([97]));Name(Abstract([98]));Peer(7);
 unix 0c00010005000000060000000c00030008000000090000000c0004000100000002000000|\
 Vfs(Vfs { inode: 5, device: 6 });\
-PendingConnections(NumbersView { bytes: [8, 0, 0, 0, 9, 0, 0, 0] });ReceiveQueueLength(1, 2);
+PendingConnections(NumbersView { bytes: [8, 0, 0, 0, 9, 0, 0, 0] });QueueLengths(1, 2);
 unix 0800050001000000050006000300000008000700e80300000300|\
 Some(5) UnixMemInfo: buffer of 4 bytes, at least 36 needed;Shutdown(3);\
-Other(NlaBuffer { type_word: 7, value: [232, 3, 0, 0] });None attribute header cut: 2 bytes left;
+Owner(1000);None attribute header cut: 2 bytes left;
 vegas 01000000020000000300000004000000|\
 VegasInfo { enabled: 1, rtt_count: 2, rtt: 3, min_rtt: 4 } true
 dctcp 01000200030000000400000005000000|\
@@ -556,8 +530,8 @@ fn acknowledgements_and_items_have_texts(rt: HostRuntime) {
     assert_debug(&rt, alloc, &ack, text);
     // A peer of 1 byte instead of 4, with a flag bit in its type field, and two bytes more.
     let bytes = reply(&rt, alloc, 1, 16, &[5, 0, 2, 128, 7, 0, 0, 0, 0, 0]);
-    let reply = LenientUnixReply::parse(&bytes).expect(&rt, "refused");
-    let mut attributes = reply.attributes();
+    let reply = AnyReply::parse(&bytes, 20).expect(&rt, "refused");
+    let mut attributes = reply.attributes(InfoFormat::Unknown);
     let three = [attributes.next(), attributes.next(), attributes.next()];
     let text = "[Some(Err(Attribute(NlaBuffer { type_word: 32770, value: [7] }, WrongLength { \
         kind: Some(2), got: 1, need: 4 }))), Some(Err(Framing(AttributeHeaderCut { left: 2 }))), \

@@ -1,7 +1,28 @@
-//! The tests of the extensions: other families, newer attributes, lenient replies and filters.
+//! The tests of the extensions: replies of any family, newer attributes and filters.
 
 use crate::port::{assert_debug, assert_text};
+use sock_diag_extras::any::AnyNlas;
+use std::alloc::Global;
+use std::process::Abort;
 
 mod any;
 mod extras;
 mod filters;
+
+/// Returns the `Debug` output of what each attribute says, or the kind and the error of a rejected
+/// one.
+fn items(rt: &impl Abort, alloc: Global, nlas: AnyNlas<'_>) -> String {
+    let mut text = String::new(alloc);
+    for item in nlas {
+        let line = match item {
+            Ok((_, read)) => format!(in alloc; "{read:?};"),
+            Err(rejected) => {
+                let kind = rejected.attribute().map(|nla| nla.kind());
+                format!(in alloc; "{kind:?} {};", rejected.error())
+            }
+        };
+        text.push_str(line.expect(rt, "memory").as_str())
+            .expect(rt, "memory");
+    }
+    text
+}

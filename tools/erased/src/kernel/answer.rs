@@ -1,17 +1,8 @@
 //! The answer to a request.
 
 use super::{io, Vec};
-use crate::any::AnySockDiagView;
-use crate::families::netlink::NetlinkResponseHeader;
-use crate::families::packet::PacketResponseHeader;
-use crate::families::vsock::{VsockResponseHeader, AF_VSOCK};
-use crate::families::xdp::{XdpResponseHeader, AF_XDP};
-use crate::families::RawNla;
-use crate::lenient::{LenientHeader, LenientInetReply, LenientReply, LenientUnixReply};
-use crate::{
-    padded, DecodeError, FramedMessages, NetlinkHeader, SockDiagView, AF_INET, AF_INET6,
-    AF_NETLINK, AF_PACKET, AF_UNIX, NETLINK_HEADER_LEN, SOCK_DIAG_BY_FAMILY,
-};
+use crate::any::AnyReply;
+use crate::{padded, DecodeError, FramedMessages, NetlinkHeader, SockDiagView, NETLINK_HEADER_LEN};
 use std::error::Error;
 use std::fmt::{Display, Formatter};
 
@@ -69,8 +60,8 @@ impl<'a> Iterator for Replies<'a> {
     }
 }
 
-/// A reply: a message of an answer, with a payload that was not checked. Three methods parse it.
-/// None of them allocates.
+/// A reply: a message of an answer, with a payload that was not checked. Two methods parse it.
+/// Neither of them allocates.
 #[derive(Clone, Debug, PartialEq, Eq)]
 pub struct Reply<'a> {
     /// The header of the message.
@@ -85,76 +76,12 @@ impl<'a> Reply<'a> {
         SockDiagView::parse(self.payload, self.header.message_type)
     }
 
-    /// Checks all of a reply about a socket of any family, as [`AnySockDiagView::parse`] does.
-    pub fn any_view(&self) -> Result<AnySockDiagView<'a>, DecodeError> {
-        AnySockDiagView::parse(self.payload, self.header.message_type)
-    }
-
-    /// Parses the header of a reply about a socket of any family. A rejected attribute hides
-    /// neither the socket nor the other attributes.
-    pub fn lenient_view(&self) -> Result<LenientView<'a>, DecodeError> {
-        LenientView::parse(self.payload, self.header.message_type)
+    /// Parses the header of a reply about a socket of any family, as [`AnyReply::parse`] does. A
+    /// rejected attribute hides neither the socket nor the other attributes.
+    pub fn any_view(&self) -> Result<AnyReply<'a>, DecodeError> {
+        AnyReply::parse(self.payload, self.header.message_type)
     }
 }
-
-/// A reply about a socket of any family, whose attributes are parsed independently of each other.
-/// Those of the last four families are raw.
-pub enum LenientView<'a> {
-    /// A reply describing an IPv4 or IPv6 socket.
-    Inet(LenientInetReply<'a>),
-    /// A reply describing a UNIX socket.
-    Unix(LenientUnixReply<'a>),
-    /// A reply describing a netlink socket.
-    Netlink(LenientReply<'a, NetlinkResponseHeader>),
-    /// A reply describing a packet socket.
-    Packet(LenientReply<'a, PacketResponseHeader>),
-    /// A reply describing a vsock socket.
-    Vsock(LenientReply<'a, VsockResponseHeader>),
-    /// A reply describing an XDP socket.
-    Xdp(LenientReply<'a, XdpResponseHeader>),
-}
-
-impl<'a> LenientView<'a> {
-    /// Parses the header of a payload, the bytes after a netlink header, under the message type of
-    /// that header.
-    ///
-    /// Returns the first of these errors that applies:
-    ///
-    /// - `MessageTooShort`, if there are fewer than 2 bytes;
-    /// - `UnknownMessageType`, if the type is not `SOCK_DIAG_BY_FAMILY`;
-    /// - `UnknownFamily`, if the first byte is not a family of this type;
-    /// - `BufferTooSmall`, if there are fewer bytes than the header has.
-    pub fn parse(payload: &'a [u8], message_type: u16) -> Result<LenientView<'a>, DecodeError> {
-        if payload.len() < 2 {
-            return Err(DecodeError::MessageTooShort { got: payload.len() });
-        }
-        if message_type != SOCK_DIAG_BY_FAMILY {
-            return Err(DecodeError::UnknownMessageType { message_type });
-        }
-        Ok(match payload[0] {
-            AF_INET | AF_INET6 => LenientView::Inet(LenientReply::parse(payload)?),
-            AF_UNIX => LenientView::Unix(LenientReply::parse(payload)?),
-            AF_NETLINK => LenientView::Netlink(LenientReply::parse(payload)?),
-            AF_PACKET => LenientView::Packet(LenientReply::parse(payload)?),
-            AF_VSOCK => LenientView::Vsock(LenientReply::parse(payload)?),
-            AF_XDP => LenientView::Xdp(LenientReply::parse(payload)?),
-            family => return Err(DecodeError::UnknownFamily { family }),
-        })
-    }
-}
-
-/// Implements `LenientHeader` for the families with raw attributes.
-macro_rules! raw_attributes {
-    ($($header:ty),*) => {$(
-        impl<'a> LenientHeader<'a> for $header {
-            type View = RawNla<'a>;
-        }
-    )*};
-}
-
-raw_attributes!(
-    NetlinkResponseHeader, PacketResponseHeader, VsockResponseHeader, XdpResponseHeader
-);
 
 /// The error of a request, with the replies that were received before it. As an [`io::Error`], it
 /// is the error by itself.

@@ -47,7 +47,7 @@ mod answer;
 mod request;
 mod socket;
 
-pub use answer::{Answer, Incomplete, LenientView, Replies, Reply};
+pub use answer::{Answer, Incomplete, Replies, Reply};
 pub use request::Request;
 pub use socket::Socket;
 

@@ -1,13 +1,14 @@
-use Rattle.std.proofs.Common.{◌∙◌, ◌++◌, ◌∷◌, ℕ, List, None, Some, Option, [], ap, refl, sym}
+use Rattle.std.proofs.Common.{◌≡◌, ◌∙◌, ◌++◌, ◌∷◌, ℕ, List, None, Some, Option, [], ap, refl, sym}
 use Rattle.std.specs.Prelude.{slice_index}
 use Rattle.std.specs.Option.{option_or}
+use Rattle.std.specs.Result.{result_err}
 use Rattle.netlink_core.specs.Walk.{buffered_attribute}
 use Rattle.netlink_core.specs.declared.error.DecodeError.{DecodeError}
 use Rattle.sock_diag_replies.specs.UnixGetters.{first_content_of}
 use Rattle.sockdiag_c.specs.Family.{error_of_kind, optional_code, value_error}
 use Rattle.sockdiag_c.proofs.Rows.{all_attributes, first_after, first_unchanged, kind_after}
 use Rattle.sockdiag_c.proofs.Rows.{kind_unchanged, no_attributes_yet, one_more_attribute, or_none}
-use Rattle.sockdiag_c.proofs.Rows.{until_framing_error, values_after}
+use Rattle.sockdiag_c.proofs.Rows.{until_framing_error, values_after, values_unchanged}
 use Rattle.sockdiag_c.proofs.details.set_values.Goals as goal
 
 pub loop-item-init : goal.loop-item-init
@@ -23,20 +24,21 @@ loop-item-init g c = let none = c.default.ensures in record {
   kinds = λ k below. none.1.1.1.at k 0 below;
 }
 
-pub loop-item-preserved-in-Ok-set_value : goal.loop-item-preserved-in-Ok-set_value
-loop-item-preserved-in-Ok-set_value g c =
+pub loop-item-preserved-in-Ok-read : goal.loop-item-preserved-in-Ok-read
+loop-item-preserved-in-Ok-read g c =
     let family = g.T.ReplyDetails.family in
     let inv = c.loop-item.invariant in
     let a = buffered_attribute c.in-Ok.nla in
     let start = rw c.in-Ok.is at c.in-Some.ensures.steps in
-    let fine = sym c.in-Ok-set_value.ensures.error in
+    let is = sym c.in-Ok-read.ensures in
+    let fine : value_error family a ≡ None = ap result_err is in
     record {
       so_far = inv.so_far ++ a ∷ [];
       walk = one_more_attribute _ _ _ a inv.so_far start inv.walk;
-      header = c.in-Ok-set_value.ensures.header ∙ inv.header;
-      values = λ values. values_after family.rows _ _ inv.so_far a c.in-Ok-set_value.ensures.values
-          (inv.values values);
-      first = inv.first ∙ first_unchanged (value_error family.rows) inv.so_far a fine;
+      header = c.set.ensures.header ∙ inv.header;
+      values = λ values. values_after family.read family.rows _ _ inv.so_far a _ is
+          c.set.ensures.values (inv.values values);
+      first = inv.first ∙ first_unchanged (value_error family) inv.so_far a fine;
       code = inv.code;
       framing = inv.framing;
       kinds = λ k below. inv.kinds k below ∙ ap optional_code
@@ -48,16 +50,17 @@ loop-item-preserved g c =
     let family = g.T.ReplyDetails.family in
     let inv = c.loop-item.invariant in
     let a = buffered_attribute c.in-Ok.nla in
-    let e = c.in-Err-set_value.error in
+    let e = c.in-Err-read.error in
     let start = rw c.in-Ok.is at c.in-Some.ensures.steps in
-    let error = sym c.in-Err-set_value.ensures.error in
+    let is = sym c.in-Err-read.ensures in
+    let error : value_error family a ≡ Some e = ap result_err is in
     record {
       so_far = inv.so_far ++ a ∷ [];
       walk = one_more_attribute _ _ _ a inv.so_far start inv.walk;
-      header = c.in-Err-set_value.ensures.header ∙ inv.header;
-      values = λ values. values_after family.rows _ _ inv.so_far a
-          c.in-Err-set_value.ensures.values (inv.values values);
-      first = c.add_value.ensures.first ∙ first_after (value_error family.rows) inv.so_far a _ e
+      header = inv.header;
+      values = λ values. values_unchanged family.read family.rows _ inv.so_far a e is
+          (inv.values values);
+      first = c.add_value.ensures.first ∙ first_after (value_error family) inv.so_far a _ e
           inv.first error;
       code = c.add_value.ensures.code inv.code;
       framing = c.add_value.ensures.framing ∙ inv.framing;

@@ -13,9 +13,9 @@ invariant-loop-item g l = record {
   so_far : List Attribute;
   walk : AttributesSoFar l.bytes (unread_bytes l.item-iterator) so_far;
   header : g.T.ReplyDetails.family.header l.details ≡ g.T.ReplyDetails.family.header l.fn.details;
-  values : HasValues g.T.ReplyDetails.family.rows l.fn.details []
-      → HasValues g.T.ReplyDetails.family.rows l.details so_far;
-  first : l.errors.first ≡ first_content_of (value_error g.T.ReplyDetails.family.rows) so_far;
+  values : HasValues g.T.ReplyDetails.family.read g.T.ReplyDetails.family.rows l.fn.details []
+      → HasValues g.T.ReplyDetails.family.read g.T.ReplyDetails.family.rows l.details so_far;
+  first : l.errors.first ≡ first_content_of (value_error g.T.ReplyDetails.family) so_far;
   code : l.errors.rejections.first ≡ optional_code l.errors.first;
   framing : l.errors.rejections.framing ≡ 0;
   kinds : (k : ℕ) → k < REJECTION_KINDS → slice_index l.errors.rejections.errors k

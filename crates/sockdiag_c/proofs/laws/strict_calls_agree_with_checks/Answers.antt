@@ -5,15 +5,14 @@ use Rattle.sockdiag_c.specs.Headers.{inet_header_of, unix_header_of}
 use Rattle.sockdiag_c.specs.InetDetails.{inet_family}
 use Rattle.sockdiag_c.specs.UnixDetails.{unix_family}
 use Rattle.sockdiag_c.proofs.Agreement.{agrees_with_codec}
-use Rattle.sockdiag_c.proofs.RejectedKinds.{inet_error, unix_error}
 use Rattle.sockdiag_c.proofs.laws.strict_calls_agree_with_checks.Goals as goal
 
 pub returns-clause-unix : goal.returns-clause-unix
 returns-clause-unix c =
     agrees_with_codec unix_family unix_response_spec unix_header_of (λ payload. refl) refl
-    unix_error
+    (λ a. refl)
 
 pub returns-clause-inet : goal.returns-clause-inet
 returns-clause-inet c =
     agrees_with_codec inet_family inet_response_spec inet_header_of (λ payload. refl) refl
-    inet_error
+    (λ a. refl)

@@ -1,6 +1,6 @@
 use Rattle.std.proofs.Common.{◌≡◌, length}
-use Rattle.sslist_lister.specs.Pieces.{framing_error_of, attributes_or_error}
-use Rattle.sslist_lister.specs.Pieces.{pieces_left}
+use Rattle.sock_diag_extras.specs.Pieces.{framing_error_of, attributes_or_error}
+use Rattle.sock_diag_extras.specs.Pieces.{pieces_left}
 use Rattle.sslist_lister.proofs.pieces.find_framing_error.Given as goal
 
 -- the error among the remaining pieces is the error among all pieces

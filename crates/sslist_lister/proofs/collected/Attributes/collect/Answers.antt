@@ -1,7 +1,7 @@
 use Rattle.std.proofs.Common.{◌≡◌, [], arith, map, refl, rules}
 use Rattle.sslist_lister.proofs.Slots.{all_is_found}
 use Rattle.sslist_lister.specs.Collected.{other_model}
-use Rattle.sslist_lister.specs.Pieces.{attributes_or_error, pieces_left}
+use Rattle.sock_diag_extras.specs.Pieces.{attributes_or_error, pieces_left}
 use Rattle.sslist_lister.proofs.collected.Attributes.collect.Goals as goal
 
 pub loop-piece-init : goal.loop-piece-init

@@ -2,8 +2,8 @@ use Rattle.std.proofs.Common.{◌≡◌, ◌++◌, ◌<◌, ℕ, None, flat_map,
 use Rattle.std.specs.Option.{option_or}
 use Rattle.sslist_lister.specs.Collected.{first_valid, other_in_piece, other_model}
 use Rattle.sslist_lister.specs.Collected.{slot_attribute}
-use Rattle.sslist_lister.specs.Pieces.{attributes_or_error, pieces_left}
-use Rattle.sslist_lister.specs.Pieces.{framing_error_of}
+use Rattle.sock_diag_extras.specs.Pieces.{attributes_or_error, pieces_left}
+use Rattle.sock_diag_extras.specs.Pieces.{framing_error_of}
 use Rattle.sslist_lister.proofs.collected.Attributes.collect.Given as goal
 
 -- what was found so far, or else in the remaining pieces, is what all pieces have

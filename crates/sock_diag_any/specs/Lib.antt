@@ -1,4 +1,0 @@
-pub mod RawReply
-pub mod AnyMessage
-pub mod Getters
-pub mod laws

@@ -1,2 +1,0 @@
--- Lemmas about the definitions.
-pub mod RawReply
