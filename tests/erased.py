@@ -58,6 +58,7 @@ CHANGES = [
     (r"\(", r"self \. alloc ,", ""),
     (r"\(", r"\* \w+ \. allocator \( \) ,", ""),
     (" let", r"alloc = \* \w+ \. allocator \( \) ; let", ""),
+    ("", r"let alloc = \* \w+ \. allocator \( \) ;", ""),
     (r"vec ! \[|format ! \(", "in alloc ;", ""),
     ("MadeWith", "< Global >", ""),
     ("", "use std :: alloc :: Global ;", ""),

@@ -38,18 +38,19 @@ mapped_step {A} f before after whole rest key long is added so_far =
     ∙ so_far
 
 -- A separator and the text of a key, followed by the keys after it, are the text of all of them.
-pub keys_pushed : (before mid after whole rest : List ℕ) (separator : ℕ) (key : Md5Signature)
-    → 100 ≤ length rest → key ≡ key_at rest → mid ≡ before ++ separator ∷ []
+pub keys_pushed : (before mid after whole rest separator : List ℕ) (key : Md5Signature)
+    → 100 ≤ length rest → key ≡ key_at rest → mid ≡ before ++ separator
     → after ≡ mid ++ md5_key_text key
     → before ++ md5_keys_text separator (md5_keys rest) ≡ whole
-    → after ++ md5_keys_text 44 (md5_keys (take (length rest - 100) (drop 100 rest))) ≡ whole
+    → after ++ md5_keys_text (codes ",") (md5_keys (take (length rest - 100) (drop 100 rest)))
+    ≡ whole
 keys_pushed before mid after whole rest separator key long is first added so_far =
-    let later = md5_keys_text 44 (md5_keys (drop 100 rest)) in
-    ap (λ (b : List ℕ). after ++ md5_keys_text 44 (md5_keys b)) (take_rest rest 100)
-    ∙ ap (λ (t : List ℕ). t ++ later) (added ∙ ap (λ (t : List ℕ). t ++ md5_key_text key) first
-    ∙ append_assoc before (separator ∷ []) (md5_key_text key)
-    ∙ ap (λ (k : Md5Signature). before ++ separator ∷ md5_key_text k) is)
-    ∙ append_assoc before (separator ∷ md5_key_text (key_at rest)) later
+    let later = md5_keys_text (codes ",") (md5_keys (drop 100 rest)) in
+    ap (λ (b : List ℕ). after ++ md5_keys_text (codes ",") (md5_keys b)) (take_rest rest 100)
+    ∙ ap (λ (t : List ℕ). t ++ later) (added ∙ ap (λ (t : List ℕ). t ++ md5_key_text key) first)
+    ∙ ap (λ (k : Md5Signature). ((before ++ separator) ++ md5_key_text k) ++ later) is
+    ∙ append_assoc (before ++ separator) (md5_key_text (key_at rest)) later
+    ∙ append_assoc before separator (md5_key_text (key_at rest) ++ later)
     ∙ sym (ap (λ (ks : List Md5Signature). before ++ md5_keys_text separator ks)
     (keys_step rest long))
     ∙ so_far

@@ -14,7 +14,7 @@ use Rattle.netlink_core.specs.declared.error.DecodeError.{DecodeError}
 use Rattle.sslist_lister.specs.Collected.{first_valid, other_in_piece, slot_attribute}
 use Rattle.sslist_lister.specs.Collected.{Summary, summary_of}
 use Rattle.sock_diag_extras.specs.Pieces.{AttributeOrError, framing_error_of}
-use Rattle.sslist_lister.specs.declared.attributes.Sockets.{Sockets}
+use Rattle.sock_diag_extras.specs.declared.any.nla.Sockets.{Sockets}
 use Rattle.sslist_lister.specs.JsonAttributes.{attributes_members, other_item, valid_members}
 use Rattle.sslist_lister.specs.JsonAttributes.{attribute_members, item_members}
 use Rattle.sslist_lister.proofs.Adding.{appended_texts_concatenate}

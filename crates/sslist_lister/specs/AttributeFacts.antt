@@ -3,62 +3,37 @@
 -- `Outcome`: its facts, or nothing (None) if its type is unknown, or the error of its value. `utf8`
 -- is the option `--utf8`.
 use Rattle.std.specs.Prelude.{ℕ, ◌==◌, nat_le, if◌then◌else◌, List, [], ◌∷◌, codes, length}
-use Rattle.std.specs.Prelude.{Bool, false, None, Some, Ok, Option}
+use Rattle.std.specs.Prelude.{Bool, false, None, Some, Ok, Err, Option, Result}
 use Rattle.std.specs.Option.{option_map_or}
 use Rattle.byteorder.specs.Endian.{little_number}
-use Rattle.netlink_core.specs.Attribute.{Attribute, attribute_kind}
-use Rattle.netlink_core.specs.AttributeSet.{decode_attribute}
-use Rattle.netlink_core.specs.Layout.{parse_record}
-use Rattle.sock_diag_values.specs.MemInfo.{mem_info}
+use Rattle.netlink_core.specs.Attribute.{Attribute}
+use Rattle.netlink_core.specs.declared.error.DecodeError.{DecodeError}
+use Rattle.netlink_core.specs.declared.error.DecodeError.TheVariants.{WrongLength}
 use Rattle.sock_diag_values.specs.declared.inet.legacy_mem_info.LegacyMemInfo.{LegacyMemInfo}
 use Rattle.sock_diag_values.specs.declared.inet.mem_info.MemInfo.{MemInfo}
-use Rattle.sock_diag_attributes.specs.declared.inet.nlas.InetNla.{InetNla}
-use Rattle.sock_diag_attributes.specs.declared.inet.nlas.InetNla.TheVariants as inet_nla
-use Rattle.sock_diag_attributes.specs.declared.unix.name.SocketName.{SocketName}
-use Rattle.sock_diag_attributes.specs.declared.unix.nlas.UnixNla.{UnixNla}
-use Rattle.sock_diag_attributes.specs.declared.unix.nlas.UnixNla.TheVariants as unix_nla
-use Rattle.sock_diag_attributes.specs.InetAttributes.{inet_attribute_set}
-use Rattle.sock_diag_attributes.specs.InetModel.{inet_variant}
-use Rattle.sock_diag_attributes.specs.UnixAttributes.{unix_attribute_set}
-use Rattle.sock_diag_attributes.specs.UnixModel.{unix_variant}
-use Rattle.sock_diag_extras.specs.Congestion.{bbr_info, dctcp_info, vegas_info}
-use Rattle.sock_diag_extras.specs.SocketOptions.{socket_options}
-use Rattle.sock_diag_extras.specs.declared.congestion.BbrInfo.{BbrInfo}
-use Rattle.sock_diag_extras.specs.declared.congestion.DctcpInfo.{DctcpInfo}
-use Rattle.sock_diag_extras.specs.declared.congestion.VegasInfo.{VegasInfo}
-use Rattle.sock_diag_extras.specs.declared.options.SocketOptions.{SocketOptions}
-use Rattle.sock_diag_extras.specs.declared.constants.TheConstants.{INET_DIAG_CGROUP_ID}
-use Rattle.sock_diag_extras.specs.declared.constants.TheConstants.{INET_DIAG_SOCKOPT, UNIX_DIAG_UID}
-use Rattle.sock_diag_extras.specs.declared.constants.TheConstants.{INET_DIAG_ULP_INFO}
-use Rattle.sock_diag_records.specs.declared.constants.TheConstants.{INET_DIAG_BBRINFO}
-use Rattle.sock_diag_records.specs.declared.constants.TheConstants.{INET_DIAG_DCTCPINFO}
-use Rattle.sock_diag_records.specs.declared.constants.TheConstants.{INET_DIAG_INFO}
-use Rattle.sock_diag_records.specs.declared.constants.TheConstants.{INET_DIAG_MD5SIG}
-use Rattle.sock_diag_records.specs.declared.constants.TheConstants.{INET_DIAG_VEGASINFO}
-use Rattle.sock_diag_families.specs.PacketAttributes.{parse_packet_info}
-use Rattle.sock_diag_families.specs.XdpAttributes.{parse_xdp_info}
+use Rattle.sock_diag_records.specs.declared.constants.TheConstants.{INET_DIAG_SKMEMINFO}
+use Rattle.sock_diag_records.specs.declared.constants.TheConstants.{UNIX_DIAG_MEMINFO}
 use Rattle.sock_diag_families.specs.declared.netlink.TheConstants.{NETLINK_DIAG_GROUPS}
 use Rattle.sock_diag_families.specs.declared.netlink.TheConstants.{NETLINK_DIAG_MEMINFO}
 use Rattle.sock_diag_families.specs.declared.packet.TheConstants.{PACKET_DIAG_MEMINFO}
-use Rattle.sock_diag_families.specs.declared.xdp.TheConstants.{XDP_DIAG_MEMINFO}
-use Rattle.sock_diag_families.specs.declared.packet.TheConstants.{PACKET_DIAG_INFO, PACKET_DIAG_UID}
 use Rattle.sock_diag_families.specs.declared.packet.attributes.PacketInfo.{PacketInfo}
-use Rattle.sock_diag_families.specs.declared.xdp.TheConstants.{XDP_DIAG_INFO, XDP_DIAG_UID}
+use Rattle.sock_diag_families.specs.declared.xdp.TheConstants.{XDP_DIAG_MEMINFO}
 use Rattle.sock_diag_families.specs.declared.xdp.attributes.XdpInfo.{XdpInfo}
-use Rattle.sslist_lister.specs.declared.command_line.options.Family.{Family}
-use Rattle.sslist_lister.specs.declared.command_line.options.Family.TheVariants.{Netlink, Packet}
-use Rattle.sslist_lister.specs.declared.command_line.options.Family.TheVariants.{Vsock, Xdp}
-use Rattle.sslist_lister.specs.Facts.{Facts, Outcome, decoded_outcome, flag_facts, flag_number}
-use Rattle.sslist_lister.specs.Facts.{group, hidden_number, json_group, length_outcome, list_facts}
-use Rattle.sslist_lister.specs.Facts.{name_facts, number_facts, number_outcome, numbers}
-use Rattle.sslist_lister.specs.Facts.{parsed_outcome, record_outcome, shown_number, text_facts}
-use Rattle.sslist_lister.specs.Md5Keys.{md5_outcome}
+use Rattle.sock_diag_extras.specs.AnyNla as any
+use Rattle.sock_diag_extras.specs.AnyNla.{AnyValue, and_then, read_any}
+use Rattle.sock_diag_extras.specs.declared.any.nla.Sockets.{Sockets}
+use Rattle.sock_diag_extras.specs.declared.any.nla.Sockets.TheVariants.{Inet, Netlink, Packet}
+use Rattle.sock_diag_extras.specs.declared.any.nla.Sockets.TheVariants.{Unix, Vsock, Xdp}
+use Rattle.sock_diag_extras.specs.declared.congestion.BbrInfo.{BbrInfo}
+use Rattle.sock_diag_extras.specs.declared.congestion.DctcpInfo.{DctcpInfo}
+use Rattle.sock_diag_extras.specs.declared.congestion.VegasInfo.{VegasInfo}
+use Rattle.sslist_lister.specs.Facts.{Facts, Outcome, flag_facts, flag_number, group}
+use Rattle.sslist_lister.specs.Facts.{hidden_number, json_group, list_facts, name_facts}
+use Rattle.sslist_lister.specs.Facts.{number_facts, numbers, parsed_outcome, shown_number}
+use Rattle.sslist_lister.specs.Facts.{text_facts}
+use Rattle.sslist_lister.specs.Md5Keys.{md5_facts}
 use Rattle.sslist_lister.specs.Tcp.{mptcp_info, tcp_info}
 use Rattle.sslist_lister.specs.UlpInfo.{ulp_outcome}
-use Rattle.sslist_lister.specs.declared.attributes.Info.{Info}
-use Rattle.sslist_lister.specs.declared.attributes.Info.TheVariants.{Mptcp, Sctp, Tcp, Unknown}
-use Rattle.sslist_lister.specs.declared.attributes.Sockets.{Sockets}
-use Rattle.sslist_lister.specs.declared.attributes.Sockets.TheVariants.{Inet, Other, Unix}
 use Rattle.sslist_lister.specs.declared.facts.Shown.TheVariants.{Always, Closed, Directions}
 use Rattle.sslist_lister.specs.declared.facts.Shown.TheVariants.{Hex, Never}
 
@@ -86,11 +61,25 @@ memory_group member m backlog drops =
 abbrev pub memory_facts : List ℕ → MemInfo → Facts
 memory_facts member m = memory_group member m m.backlog_queue_length m.drops
 
--- `memory_outcome member a`: the memory in the value of the attribute `a`, as the object `member`
--- in JSON; or the error of its value.
-abbrev pub memory_outcome : List ℕ → Attribute → Outcome
-memory_outcome member a =
-    parsed_outcome (memory_facts member) (parse_record mem_info tt a.value)
+-- `memory_kind sockets`: the type of the attribute with the memory of a socket, an array of the
+-- words SK_MEMINFO_..; None for vsock sockets, which have none
+abbrev pub memory_kind : Sockets → Option ℕ
+memory_kind Unix = Some UNIX_DIAG_MEMINFO
+memory_kind (Inet format) = Some INET_DIAG_SKMEMINFO
+memory_kind Netlink = Some NETLINK_DIAG_MEMINFO
+memory_kind Packet = Some PACKET_DIAG_MEMINFO
+memory_kind Vsock = None
+memory_kind Xdp = Some XDP_DIAG_MEMINFO
+
+-- `is_memory_kind sockets kind`: an attribute of this type has the memory of a socket
+abbrev pub is_memory_kind : Sockets → ℕ → Bool
+is_memory_kind sockets kind =
+    option_map_or (λ of_memory. of_memory == kind) (memory_kind sockets) false
+
+-- the name in JSON of the memory of a socket
+abbrev pub memory_member : Sockets → List ℕ
+memory_member (Inet format) = codes "skmeminfo"
+memory_member other = codes "meminfo"
 
 -- The memory of a socket in the format of old kernels, `struct inet_diag_meminfo`: `idiag_rmem`,
 -- `idiag_wmem`, `idiag_fmem` and `idiag_tmem`.
@@ -123,38 +112,11 @@ queue_facts receive send =
 abbrev pub shutdown_facts : ℕ → Facts
 shutdown_facts n = number_facts Directions [] (Some (codes "shutdown")) n
 
--- `raw_unix_outcome a`: what a raw attribute of a UNIX socket says, which the port leaves
--- undecoded: the user id of the owner, of four bytes, if its type is UNIX_DIAG_UID; or else
--- nothing. Only JSON has the user id here (Never), since the table has a column for it.
-abbrev pub raw_unix_outcome : Attribute → Outcome
-raw_unix_outcome a =
-    if attribute_kind a == UNIX_DIAG_UID
-    then number_outcome 4 (number_facts Never [] (Some (codes "uid"))) a else Ok None
-
--- `decoded_unix_outcome a value`: what the attribute `a` of a UNIX socket says
--- (linux/unix_diag.h), which the port decodes as `value`. Only JSON has the name, the peer and the
--- queues here, since the table has columns for them. `icons` are the inodes of connections that
--- wait to be accepted. The memory is parsed again from `a`, since the decoded value has only three
--- of its nine fields.
-abbrev pub decoded_unix_outcome : Attribute
-    → UnixNla (SocketName (List ℕ)) (List ℕ) Attribute → Outcome
-decoded_unix_outcome a (unix_nla.Name name) = Ok (Some (name_facts name))
-decoded_unix_outcome a (unix_nla.Vfs v) = Ok (Some (vfs_facts v.inode v.device))
-decoded_unix_outcome a (unix_nla.Peer n) = Ok (Some (number_facts Never [] (Some (codes "peer")) n))
-decoded_unix_outcome a (unix_nla.PendingConnections inodes) =
-    Ok (Some (list_facts (codes " pending:") (codes "icons") inodes))
-decoded_unix_outcome a (unix_nla.ReceiveQueueLength receive send) =
-    Ok (Some (queue_facts receive send))
-decoded_unix_outcome a (unix_nla.MemInfo m) = memory_outcome (codes "meminfo") a
-decoded_unix_outcome a (unix_nla.Shutdown n) = Ok (Some (shutdown_facts n))
-decoded_unix_outcome a (unix_nla.Other other) = raw_unix_outcome a
-
--- what an attribute of a UNIX socket says: `decoded_unix_outcome` of its decoded value, or the
--- decode error
-abbrev pub unix_attribute_outcome : Attribute → Outcome
-unix_attribute_outcome a =
-    decoded_outcome (λ v. decoded_unix_outcome a (unix_variant v))
-    (decode_attribute unix_attribute_set a)
+-- `owner_facts sockets user`: the user id of the owner of a socket. Only JSON has that of a UNIX
+-- socket here (Never), since the table has a column for it.
+abbrev pub owner_facts : Sockets → ℕ → Facts
+owner_facts Unix user = number_facts Never [] (Some (codes "uid")) user
+owner_facts other user = number_facts Always (codes " uid:") (Some (codes "uid")) user
 
 -- ---- IPv4 and IPv6 sockets
 
@@ -171,10 +133,6 @@ option_bits bits = numbers (
     flag_number 256 (codes " bind_address_no_port") bits ∷
     flag_number 512 (codes " recverr_rfc4884") bits ∷
     flag_number 1024 (codes " defer_connect") bits ∷ [])
-
--- the options of a socket, by the parsed struct (`option_bits`)
-abbrev pub option_facts : SocketOptions → Facts
-option_facts options = option_bits options.bits
 
 -- the measurements of TCP Vegas, `struct tcpvegas_info`: times in microseconds
 unfoldable pub vegas_facts : VegasInfo → Facts
@@ -206,81 +164,20 @@ bbr_facts v =
     shown_number (codes ",pacing_gain:") (codes "pacing_gain") v.pacing_gain ∷
     shown_number (codes ",cwnd_gain:") (codes "cwnd_gain") v.window_gain ∷ []))
 
--- `raw_inet_outcome a`: what a raw attribute of an IPv4 or IPv6 socket says, which the port leaves
--- undecoded; nothing if its type is unknown here too. INET_DIAG_CGROUP_ID has eight bytes.
-abbrev pub raw_inet_outcome : Attribute → Outcome
-raw_inet_outcome a =
-    if attribute_kind a == INET_DIAG_CGROUP_ID
-    then number_outcome 8 (number_facts Always (codes " cgroup:") (Some (codes "cgroup_id"))) a
-    else if attribute_kind a == INET_DIAG_SOCKOPT
-    then record_outcome socket_options option_facts a
-    else if attribute_kind a == INET_DIAG_VEGASINFO
-    then record_outcome vegas_info vegas_facts a
-    else if attribute_kind a == INET_DIAG_DCTCPINFO then record_outcome dctcp_info dctcp_facts a
-    else if attribute_kind a == INET_DIAG_BBRINFO then record_outcome bbr_info bbr_facts a
-    else if attribute_kind a == INET_DIAG_MD5SIG then md5_outcome a
-    else if attribute_kind a == INET_DIAG_ULP_INFO then ulp_outcome a.value
-    else Ok None
+-- ---- netlink, packet and XDP sockets
 
--- `decoded_inet_outcome utf8 a value`: what the attribute `a` of an IPv4 or IPv6 socket says
--- (linux/inet_diag.h), which the port decodes as `value`. The option `--utf8` (`utf8`) changes only
--- the name of a congestion control algorithm. A `struct tcp_info` is shown from the value of `a`,
--- which may have fields that the decoded value lacks.
-abbrev pub decoded_inet_outcome : Bool → Attribute → InetNla (List ℕ) Attribute → Outcome
-decoded_inet_outcome utf8 a (inet_nla.LegacyMemInfo m) = Ok (Some (legacy_memory_facts m))
-decoded_inet_outcome utf8 a (inet_nla.TcpInfo t) = Ok (Some (tcp_info a.value))
-decoded_inet_outcome utf8 a (inet_nla.Congestion name) =
-    Ok (Some (text_facts utf8 (codes " cong:") (codes "cong") name))
-decoded_inet_outcome utf8 a (inet_nla.Tos n) =
-    Ok (Some (number_facts Hex (codes " tos:0x") (Some (codes "tos")) n))
-decoded_inet_outcome utf8 a (inet_nla.Tc n) =
-    Ok (Some (number_facts Hex (codes " tclass:0x") (Some (codes "tclass")) n))
-decoded_inet_outcome utf8 a (inet_nla.MemInfo m) = Ok (Some (memory_facts (codes "skmeminfo") m))
-decoded_inet_outcome utf8 a (inet_nla.Shutdown n) = Ok (Some (shutdown_facts n))
-decoded_inet_outcome utf8 a (inet_nla.Protocol n) =
-    Ok (Some (number_facts Always (codes " protocol:") (Some (codes "protocol")) n))
-decoded_inet_outcome utf8 a (inet_nla.SkV6Only flag) =
-    Ok (Some (flag_facts Always (codes " v6only:") (codes "skv6only") flag))
-decoded_inet_outcome utf8 a (inet_nla.Mark n) =
-    Ok (Some (number_facts Hex (codes " fwmark:0x") (Some (codes "mark")) n))
-decoded_inet_outcome utf8 a (inet_nla.ClassId n) =
-    Ok (Some (number_facts Hex (codes " class_id:0x") (Some (codes "class_id")) n))
-decoded_inet_outcome utf8 a (inet_nla.Other other) = raw_inet_outcome a
+-- `first_groups bits`: the first 32 groups of a netlink socket, a bit for each, in the first four
+-- bytes of the value of NETLINK_DIAG_GROUPS; WrongLength if there are fewer
+abbrev pub first_groups : List ℕ → Result ℕ DecodeError
+first_groups bits =
+    if nat_le 4 (length bits) then Ok (little_number 4 bits)
+    else Err (WrongLength (Some NETLINK_DIAG_GROUPS) (length bits) 4)
 
--- `port_inet_outcome utf8 a`: what an attribute of an IPv4 or IPv6 socket says, as the port decodes
--- it: `decoded_inet_outcome` of its decoded value, or the decode error
-abbrev pub port_inet_outcome : Bool → Attribute → Outcome
-port_inet_outcome utf8 a = decoded_outcome (λ v. decoded_inet_outcome utf8 a (inet_variant v))
-    (decode_attribute inet_attribute_set a)
-
--- `inet_attribute_outcome utf8 info a`: what an attribute of an IPv4 or IPv6 socket says. `info` is
--- the meaning of INET_DIAG_INFO: for Tcp and Mptcp its value may have any length, for Sctp its type
--- is unknown, and for Unknown the port decodes it.
-abbrev pub inet_attribute_outcome : Bool → Info → Attribute → Outcome
-inet_attribute_outcome utf8 Tcp a =
-    if attribute_kind a == INET_DIAG_INFO then Ok (Some (tcp_info a.value))
-    else port_inet_outcome utf8 a
-inet_attribute_outcome utf8 Mptcp a =
-    if attribute_kind a == INET_DIAG_INFO then Ok (Some (mptcp_info a.value))
-    else port_inet_outcome utf8 a
-inet_attribute_outcome utf8 Sctp a =
-    if attribute_kind a == INET_DIAG_INFO then Ok None else port_inet_outcome utf8 a
-inet_attribute_outcome utf8 Unknown a = port_inet_outcome utf8 a
-
--- ---- netlink, packet, vsock and XDP sockets
-
--- The type of the attribute with the memory of a socket of this family. Vsock sockets have none.
-abbrev pub memory_kind : Family → Option ℕ
-memory_kind Netlink = Some NETLINK_DIAG_MEMINFO
-memory_kind Packet = Some PACKET_DIAG_MEMINFO
-memory_kind Vsock = None
-memory_kind Xdp = Some XDP_DIAG_MEMINFO
-
--- `is_memory_kind family kind`: an attribute of this type has the memory of a socket of this
--- family; always false for vsock, which has no such attribute
-abbrev pub is_memory_kind : Family → ℕ → Bool
-is_memory_kind family kind =
-    option_map_or (λ of_memory. of_memory == kind) (memory_kind family) false
+-- what an attribute NETLINK_DIAG_GROUPS with this value says
+abbrev pub groups_outcome : List ℕ → Outcome
+groups_outcome bits =
+    parsed_outcome (number_facts Hex (codes " groups:0x") (Some (codes "groups")))
+    (first_groups bits)
 
 -- PACKET_DIAG_INFO, `struct packet_diag_info` of linux/packet_diag.h. The table has a name for each
 -- bit PDI_.. of `pdi_flags` that is set.
@@ -304,46 +201,74 @@ xdp_facts x =
     json_group (codes "info") (numbers (
     hidden_number (codes "ifindex") x.interface ∷ hidden_number (codes "queue_id") x.queue ∷ []))
 
--- `uid_outcome a`: the user id of a socket's owner: ` uid:` in the table, `uid` in JSON; an error
--- if the value does not have four bytes
-abbrev pub uid_outcome : Attribute → Outcome
-uid_outcome a = number_outcome 4 (number_facts Always (codes " uid:") (Some (codes "uid"))) a
-
--- the first 32 groups of a netlink socket, a bit for each, in the first four bytes of the value; an
--- error if the value is shorter
-abbrev pub groups_outcome : Attribute → Outcome
-groups_outcome a =
-    if nat_le 4 (length a.value)
-    then Ok (Some
-    (number_facts Hex (codes " groups:0x") (Some (codes "groups")) (little_number 4 a.value)))
-    else length_outcome a 4
-
--- `family_outcome_except_memory family a`: what an attribute of a socket of this family says,
--- except for its memory
-abbrev pub family_outcome_except_memory : Family → Attribute → Outcome
-family_outcome_except_memory Netlink a =
-    if attribute_kind a == NETLINK_DIAG_GROUPS then groups_outcome a else Ok None
-family_outcome_except_memory Packet a =
-    if attribute_kind a == PACKET_DIAG_INFO
-    then parsed_outcome packet_facts (parse_packet_info a.value)
-    else if attribute_kind a == PACKET_DIAG_UID then uid_outcome a else Ok None
-family_outcome_except_memory Vsock a = Ok None
-family_outcome_except_memory Xdp a =
-    if attribute_kind a == XDP_DIAG_INFO then parsed_outcome xdp_facts (parse_xdp_info a.value)
-    else if attribute_kind a == XDP_DIAG_UID then uid_outcome a else Ok None
-
--- `family_attribute_outcome family a`: what an attribute of a netlink, packet, vsock or XDP socket
--- says
-abbrev pub family_attribute_outcome : Family → Attribute → Outcome
-family_attribute_outcome family a =
-    if is_memory_kind family (attribute_kind a) then memory_outcome (codes "meminfo") a
-    else family_outcome_except_memory family a
-
 -- ---- attributes of all kinds
 
--- `attribute_outcome utf8 sockets a`: what an attribute says, by the kind of sockets that the reply
--- is about
+-- `with_facts facts`: an attribute has these facts
+abbrev pub with_facts : Facts → Outcome
+with_facts facts = Ok (Some facts)
+
+-- `any_outcome utf8 sockets value`: what an attribute of a reply about these sockets says, whose
+-- value is read as `value`. Only JSON has the name of a UNIX socket, its peer and its queues here
+-- (Never), since the table has columns for them. `icons` are the inodes of connections that wait to
+-- be accepted. A `struct tcp_info` may have any length. The upper layer protocol may have no valid
+-- name, and the groups of a netlink socket may be too short.
+abbrev pub any_outcome : Bool → Sockets → AnyValue → Outcome
+any_outcome utf8 sockets (any.name n) = with_facts (name_facts n)
+any_outcome utf8 sockets (any.vfs file) = with_facts (vfs_facts file.inode file.device)
+any_outcome utf8 sockets (any.peer inode) =
+    with_facts (number_facts Never [] (Some (codes "peer")) inode)
+any_outcome utf8 sockets (any.pending_connections inodes) =
+    with_facts (list_facts (codes " pending:") (codes "icons") inodes)
+any_outcome utf8 sockets (any.queue_lengths receive send) = with_facts (queue_facts receive send)
+any_outcome utf8 sockets (any.memory m) = with_facts (memory_facts (memory_member sockets) m)
+any_outcome utf8 sockets (any.shutdown directions) = with_facts (shutdown_facts directions)
+any_outcome utf8 sockets (any.owner user) = with_facts (owner_facts sockets user)
+any_outcome utf8 sockets (any.legacy_memory m) = with_facts (legacy_memory_facts m)
+any_outcome utf8 sockets (any.tcp_info bytes) = with_facts (tcp_info bytes)
+any_outcome utf8 sockets (any.mptcp_info bytes) = with_facts (mptcp_info bytes)
+any_outcome utf8 sockets (any.congestion name) =
+    with_facts (text_facts utf8 (codes " cong:") (codes "cong") name)
+any_outcome utf8 sockets (any.tos n) =
+    with_facts (number_facts Hex (codes " tos:0x") (Some (codes "tos")) n)
+any_outcome utf8 sockets (any.traffic_class n) =
+    with_facts (number_facts Hex (codes " tclass:0x") (Some (codes "tclass")) n)
+any_outcome utf8 sockets (any.protocol n) =
+    with_facts (number_facts Always (codes " protocol:") (Some (codes "protocol")) n)
+any_outcome utf8 sockets (any.mark n) =
+    with_facts (number_facts Hex (codes " fwmark:0x") (Some (codes "mark")) n)
+any_outcome utf8 sockets (any.class_id n) =
+    with_facts (number_facts Hex (codes " class_id:0x") (Some (codes "class_id")) n)
+any_outcome utf8 sockets (any.v6_only flag) =
+    with_facts (flag_facts Always (codes " v6only:") (codes "skv6only") flag)
+any_outcome utf8 sockets (any.vegas v) = with_facts (vegas_facts v)
+any_outcome utf8 sockets (any.dctcp v) = with_facts (dctcp_facts v)
+any_outcome utf8 sockets (any.bbr v) = with_facts (bbr_facts v)
+any_outcome utf8 sockets (any.local_addresses records) = Ok None
+any_outcome utf8 sockets (any.peer_addresses records) = Ok None
+any_outcome utf8 sockets (any.md5_signatures records) = with_facts (md5_facts records)
+any_outcome utf8 sockets (any.ulp bytes) = ulp_outcome bytes
+any_outcome utf8 sockets (any.bpf_storages bytes) = Ok None
+any_outcome utf8 sockets (any.cgroup_id n) =
+    with_facts (number_facts Always (codes " cgroup:") (Some (codes "cgroup_id")) n)
+any_outcome utf8 sockets (any.options of_socket) = with_facts (option_bits of_socket.bits)
+any_outcome utf8 sockets (any.groups bits) = groups_outcome bits
+any_outcome utf8 sockets (any.netlink_flags bits) = Ok None
+any_outcome utf8 sockets (any.packet_info p) = with_facts (packet_facts p)
+any_outcome utf8 sockets (any.memberships records) = Ok None
+any_outcome utf8 sockets (any.receive_frames ring) = Ok None
+any_outcome utf8 sockets (any.send_frames ring) = Ok None
+any_outcome utf8 sockets (any.fanout n) = Ok None
+any_outcome utf8 sockets (any.filter instructions) = Ok None
+any_outcome utf8 sockets (any.xdp_info x) = with_facts (xdp_facts x)
+any_outcome utf8 sockets (any.receive_ring entries) = Ok None
+any_outcome utf8 sockets (any.send_ring entries) = Ok None
+any_outcome utf8 sockets (any.fill_ring entries) = Ok None
+any_outcome utf8 sockets (any.completion_ring entries) = Ok None
+any_outcome utf8 sockets (any.umem m) = Ok None
+any_outcome utf8 sockets (any.statistics counters) = Ok None
+any_outcome utf8 sockets (any.unknown a) = Ok None
+
+-- `attribute_outcome utf8 sockets a`: what an attribute of a reply about these sockets says: that
+-- of its value as it is read, or the error of reading it
 abbrev pub attribute_outcome : Bool → Sockets → Attribute → Outcome
-attribute_outcome utf8 Unix a = unix_attribute_outcome a
-attribute_outcome utf8 (Inet info) a = inet_attribute_outcome utf8 info a
-attribute_outcome utf8 (Other family) a = family_attribute_outcome family a
+attribute_outcome utf8 sockets a = and_then (read_any sockets a) (any_outcome utf8 sockets)

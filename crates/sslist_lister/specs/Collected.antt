@@ -12,7 +12,7 @@ use Rattle.netlink_core.specs.declared.error.DecodeError.{DecodeError}
 use Rattle.sslist_lister.specs.AttributeFacts.{attribute_outcome}
 use Rattle.sslist_lister.specs.Facts.{status_of}
 use Rattle.sock_diag_extras.specs.Pieces.{AttributeOrError, framing_error_of}
-use Rattle.sslist_lister.specs.declared.attributes.Sockets.{Sockets}
+use Rattle.sock_diag_extras.specs.declared.any.nla.Sockets.{Sockets}
 use Rattle.sslist_lister.specs.declared.collected.Attributes.{Attributes}
 use Rattle.sslist_lister.specs.declared.collected.TheConstants.{KINDS}
 

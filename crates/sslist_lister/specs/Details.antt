@@ -26,12 +26,11 @@ use Rattle.sock_diag_records.specs.declared.constants.TheConstants.{INET_DIAG_MD
 use Rattle.sock_diag_records.specs.declared.constants.TheConstants.{INET_DIAG_MEMINFO}
 use Rattle.sock_diag_records.specs.declared.constants.TheConstants.{INET_DIAG_SKMEMINFO}
 use Rattle.sock_diag_records.specs.declared.constants.TheConstants.{INET_DIAG_VEGASINFO}
-use Rattle.sock_diag_records.specs.declared.constants.TheConstants.{UNIX_DIAG_MEMINFO}
 use Rattle.sslist_lister.specs.AttributeFacts.{attribute_outcome, is_memory_kind}
 use Rattle.sslist_lister.specs.Collected.{Summary}
 use Rattle.sslist_lister.specs.Facts.{facts_in}
-use Rattle.sslist_lister.specs.declared.attributes.Sockets.{Sockets}
-use Rattle.sslist_lister.specs.declared.attributes.Sockets.TheVariants.{Unix, Inet, Other}
+use Rattle.sock_diag_extras.specs.declared.any.nla.Sockets.{Sockets}
+use Rattle.sock_diag_extras.specs.declared.any.nla.Sockets.TheVariants.{Inet}
 
 -- ---- invalid values
 
@@ -70,14 +69,13 @@ status_text a (Err e) = invalid_attribute_text a e
 -- `detail_group sockets kind`: the group of details of an attribute of this type, in a reply about
 -- these sockets: Memory for the option `-m`, Connection for `-i`, Extended for `-e`
 abbrev pub detail_group : Sockets → ℕ → Detail
-detail_group Unix kind = if kind == UNIX_DIAG_MEMINFO then Memory else Extended
-detail_group (Inet info) kind =
+detail_group (Inet format) kind =
     if (kind == INET_DIAG_MEMINFO) || (kind == INET_DIAG_SKMEMINFO) then Memory
     else if (kind == INET_DIAG_INFO) || (kind == INET_DIAG_VEGASINFO) || (kind == INET_DIAG_CONG)
     || (kind == INET_DIAG_DCTCPINFO) || (kind == INET_DIAG_BBRINFO) || (kind == INET_DIAG_MD5SIG)
     || (kind == INET_DIAG_ULP_INFO)
     then Connection else Extended
-detail_group (Other family) kind = if is_memory_kind family kind then Memory else Extended
+detail_group other kind = if is_memory_kind other kind then Memory else Extended
 
 -- `valid_detail o sockets first`: the text of the facts of the attribute `first`, the first valid
 -- one of its kind. Nothing if there is none (None), or if the options do not select its group of

@@ -7,13 +7,9 @@ use Rattle.std.specs.Prelude.{unwrap_or}
 use Rattle.std.specs.Borrow.{Bor}
 use Rattle.std.specs.Fmt.{digits}
 use Rattle.std.specs.Option.{option_map_or}
-use Rattle.byteorder.specs.Endian.{little_number}
-use Rattle.netlink_core.specs.Attribute.{Attribute, attribute_kind}
 use Rattle.netlink_core.specs.Errors.{map_ok}
 use Rattle.netlink_core.specs.declared.error.DecodeError.{DecodeError}
-use Rattle.netlink_core.specs.declared.error.DecodeError.TheVariants.{WrongLength}
 use Rattle.sock_diag_attributes.specs.declared.unix.name.SocketName.{SocketName}
-use Rattle.sock_diag_extras.specs.RecordTable.{RecordTable, parse_by_table}
 use Rattle.sslist_lister.specs.texts.Escapes.{shown_name}
 use Rattle.sslist_lister.specs.texts.JsonData.{JsonMember, flag_member, numbers_member}
 use Rattle.sslist_lister.specs.texts.JsonData.{object_member, optional_member, text_member}
@@ -199,41 +195,7 @@ facts_in (Err e) = no_facts
 abbrev pub status_of : Outcome → Result Bool DecodeError
 status_of outcome = map_ok is_some outcome
 
--- `AddsOutcome old new outcome status`: the facts of the outcome, if it has any, were appended to
--- the content `old` of a sink, which then is `new`; and `status` is true if it has facts, false if
--- the type of the attribute is unknown, or the error of its value (`status_of`)
-abbrev pub AddsOutcome : {Item : Type 0} {items : Facts → List Item} → SinkContent items
-    → SinkContent items → Outcome → Result Bool DecodeError → Type 0
-AddsOutcome old new outcome =
-    λ status. AddsFacts old new (facts_in outcome) × (status ≡ status_of outcome)
-
--- `decoded_outcome outcome parsed`: what an attribute says whose value was decoded with the result
--- `parsed`: `outcome` of the decoded value, or the decode error
-abbrev pub decoded_outcome : {Value : Type 0} → (Value → Outcome) → Result Value DecodeError
-    → Outcome
-decoded_outcome outcome (Ok value) = outcome value
-decoded_outcome outcome (Err e) = Err e
-
 -- `parsed_outcome facts parsed`: what an attribute says whose value was parsed with the result
 -- `parsed`: `facts` of the parsed value, or the decode error
 abbrev pub parsed_outcome : {Value : Type 0} → (Value → Facts) → Result Value DecodeError → Outcome
 parsed_outcome facts parsed = map_ok (λ value. Some (facts value)) parsed
-
--- `length_outcome a need`: the error of the attribute `a`, whose value does not have `need` bytes
-abbrev pub length_outcome : Attribute → ℕ → Outcome
-length_outcome a need = Err (WrongLength (Some (attribute_kind a)) (length a.value) need)
-
--- `number_outcome width facts a`: what the attribute `a` says, whose value is a little-endian
--- number of `width` bytes: `facts` of this number; an error for any other length
-abbrev pub number_outcome : ℕ → (ℕ → Facts) → Attribute → Outcome
-number_outcome width facts a =
-    if length a.value == width then Ok (Some (facts (little_number width a.value)))
-    else length_outcome a width
-
--- `record_outcome layout facts a`: what the attribute `a` says, whose value begins with a record of
--- this layout: `facts` of this record; an error if the value is too short
-abbrev pub record_outcome : {Value : Type 0} → RecordTable Value → (Value → Facts) → Attribute
-    → Outcome
-record_outcome layout facts a =
-    if nat_le layout.size (length a.value) then Ok (Some (facts (parse_by_table layout a.value)))
-    else length_outcome a layout.size

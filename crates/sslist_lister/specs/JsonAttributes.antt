@@ -11,7 +11,7 @@ use Rattle.sslist_lister.specs.texts.JsonData.{JsonMember, array_member, number_
 use Rattle.sslist_lister.specs.texts.JsonData.{json_text, optional_member, text_member}
 use Rattle.sslist_lister.specs.AttributeFacts.{attribute_outcome}
 use Rattle.sslist_lister.specs.Facts.{facts_in}
-use Rattle.sslist_lister.specs.declared.attributes.Sockets.{Sockets}
+use Rattle.sock_diag_extras.specs.declared.any.nla.Sockets.{Sockets}
 
 -- ---- attributes without members of their own
 

@@ -34,8 +34,8 @@ use Rattle.sslist_lister.specs.Collected.{Summary, summary_of}
 use Rattle.sock_diag_extras.specs.Pieces.{AttributeOrError, framing_error_of, pieces_in}
 use Rattle.sslist_lister.specs.Sctp.{is_association}
 use Rattle.sslist_lister.specs.Table.{info_of_reply}
-use Rattle.sslist_lister.specs.declared.attributes.Sockets.{Sockets}
-use Rattle.sslist_lister.specs.declared.attributes.Sockets.TheVariants.{Inet, Other, Unix}
+use Rattle.sock_diag_extras.specs.declared.any.nla.Sockets.{Sockets}
+use Rattle.sock_diag_extras.specs.declared.any.nla.Sockets.TheVariants as about
 use Rattle.sslist_lister.specs.Headings.{list_heading}
 use Rattle.sslist_lister.specs.Lists.{is_repetition}
 use Rattle.sslist_lister.specs.RequestLine.{request_line_if_selected}
@@ -92,16 +92,16 @@ reply_error layout b =
 -- unknown family (None)
 abbrev pub family_lines : Options → ℕ → Option Family → List ℕ → List ℕ
 family_lines o list (Some Netlink) b =
-    reply_lines netlink_header (Other Netlink)
+    reply_lines netlink_header about.Netlink
     (λ h s. other_output o list (netlink_socket h s) (netlink_header_members h) s) b
 family_lines o list (Some Packet) b =
-    reply_lines packet_header (Other Packet)
+    reply_lines packet_header about.Packet
     (λ h s. other_output o list (packet_socket h s) (packet_header_members h) s) b
 family_lines o list (Some Vsock) b =
-    reply_lines vsock_header (Other Vsock)
+    reply_lines vsock_header about.Vsock
     (λ h s. other_output o list (vsock_socket h s) (vsock_header_members h) s) b
 family_lines o list (Some Xdp) b =
-    reply_lines xdp_header (Other Xdp)
+    reply_lines xdp_header about.Xdp
     (λ h s. other_output o list (xdp_socket h s) (xdp_header_members h) s) b
 family_lines o list None b = []
 
@@ -137,10 +137,10 @@ inet_socket protocol b header = record {
 abbrev pub payload_lines : Options → ℕ → Option ℕ → Result MessageKind DecodeError → List ℕ
     → List ℕ
 payload_lines o list protocol (Ok unix_response) b =
-    reply_lines unix_response_header Unix (unix_output o list) b
+    reply_lines unix_response_header about.Unix (unix_output o list) b
 payload_lines o list protocol (Ok inet_response) b =
     reply_lines inet_response_header
-    (Inet (info_of_reply protocol (is_association_in protocol b)))
+    (about.Inet (info_of_reply protocol (is_association_in protocol b)))
     (λ header s. inet_output o list (inet_socket protocol b header) s) b
 payload_lines o list protocol (Err (UnknownFamily n)) b =
     family_lines o list (family_numbered n) b

@@ -1,9 +1,8 @@
 -- The MD5 keys of a TCP socket, INET_DIAG_MD5SIG: an array of records of 100 bytes. The texts are
 -- those of ss(8), and names in JSON are the kernel's names without the prefix `tcpm_`. Texts are
--- lists of ASCII codes: 44 is a comma, 47 a slash, 58 a colon, 61 an equals sign.
-use Rattle.std.specs.Prelude.{ℕ, zero, suc, ◌==◌, ◌&&◌, ◌/◌, ◌%◌, nat_le, if◌then◌else◌, Bool, List}
-use Rattle.std.specs.Prelude.{[], ◌∷◌, ◌++◌, codes, decimal, drop, flat_map, length, map, Option}
-use Rattle.std.specs.Prelude.{Some, Ok}
+-- lists of ASCII codes: 44 is a comma, 47 a slash, 61 an equals sign.
+use Rattle.std.specs.Prelude.{ℕ, zero, suc, ◌==◌, ◌/◌, if◌then◌else◌, List, [], ◌∷◌, ◌++◌}
+use Rattle.std.specs.Prelude.{codes, decimal, drop, flat_map, length, map, Option}
 use Rattle.std.specs.Option.{option_map_or}
 use Rattle.std.specs.Net.Text.{ip_text}
 use Rattle.std.specs.declared.net.ip_addr.IpAddr.{IpAddr}
@@ -15,8 +14,7 @@ use Rattle.sock_diag_extras.specs.declared.md5_signature.Md5Signature.{Md5Signat
 use Rattle.sslist_lister.specs.texts.Escapes.{byte_digits, escaped_byte}
 use Rattle.sslist_lister.specs.texts.JsonData.{JsonMember, address_member, array_member}
 use Rattle.sslist_lister.specs.texts.JsonData.{number_members, object_of, text_member}
-use Rattle.netlink_core.specs.Attribute.{Attribute}
-use Rattle.sslist_lister.specs.Facts.{Facts, Outcome, length_outcome}
+use Rattle.sslist_lister.specs.Facts.{Facts}
 use Rattle.sslist_lister.specs.declared.md5_keys.TheConstants.{KEY_LENGTH}
 
 -- the record at the start of the bytes
@@ -31,10 +29,6 @@ first_keys (suc count) bytes = key_at bytes ∷ first_keys count (drop KEY_LENGT
 -- `md5_keys bytes`: all whole records in the bytes
 abbrev pub md5_keys : List ℕ → List Md5Signature
 md5_keys bytes = first_keys (length bytes / KEY_LENGTH) bytes
-
--- the bytes are at least one record, and only whole ones
-abbrev pub are_md5_keys : List ℕ → Bool
-are_md5_keys bytes = nat_le KEY_LENGTH (length bytes) && (length bytes % KEY_LENGTH == 0)
 
 -- a byte of a key, escaped as in names; a comma, which separates keys, is escaped too
 abbrev pub key_byte : ℕ → List ℕ
@@ -51,10 +45,11 @@ md5_key_text k =
     peer_text (peer_ip k) ++ 47 ∷ decimal k.prefix_length ++ 61 ∷ flat_map key_byte (used_key k)
 
 -- `md5_keys_text separator keys`: the keys, each after a separator: the first one after
--- `separator`, and each later one after a comma (44)
-abbrev pub md5_keys_text : ℕ → List Md5Signature → List ℕ
+-- `separator`, and each later one after a comma
+abbrev pub md5_keys_text : List ℕ → List Md5Signature → List ℕ
 md5_keys_text separator [] = []
-md5_keys_text separator (k ∷ later) = separator ∷ md5_key_text k ++ md5_keys_text 44 later
+md5_keys_text separator (k ∷ later) =
+    separator ++ (md5_key_text k ++ md5_keys_text (codes ",") later)
 
 -- ---- JSON
 
@@ -73,16 +68,10 @@ md5_key_members k =
 abbrev pub md5_key_value : Md5Signature → Json
 md5_key_value k = object_of (md5_key_members k)
 
--- `md5_facts value`: the keys in the value of an attribute: ` md5keys:` and the keys in the table,
--- the array `md5sig` of their objects in JSON. 58 is the colon before the first key.
+-- `md5_facts value`: the keys in the value of INET_DIAG_MD5SIG: ` md5keys:` and the keys in the
+-- table, or nothing if there are none; the array `md5sig` of their objects in JSON
 unfoldable pub md5_facts : List ℕ → Facts
 md5_facts value = record {
-  text = codes " md5keys" ++ md5_keys_text 58 (md5_keys value);
+  text = md5_keys_text (codes " md5keys:") (md5_keys value);
   members = array_member (codes "md5sig") (map md5_key_value (md5_keys value));
 }
-
--- what an attribute INET_DIAG_MD5SIG says: the keys in its value; an error if the value is not an
--- array of at least one key. The error names the length of one key.
-abbrev pub md5_outcome : Attribute → Outcome
-md5_outcome a =
-    if are_md5_keys a.value then Ok (Some (md5_facts a.value)) else length_outcome a KEY_LENGTH

@@ -157,8 +157,8 @@ abbrev pub other_first_columns : OtherSocket → Summary → FirstColumns
 other_first_columns socket s = record {
   kind = other_kind socket.family socket.kind;
   state = state_name socket.state;
-  receive_queue = u32_in_first (memory_kind socket.family) (4 * SK_MEMINFO_RMEM_ALLOC) s;
-  send_queue = u32_in_first (memory_kind socket.family) (4 * SK_MEMINFO_WMEM_ALLOC) s;
+  receive_queue = u32_in_first (memory_kind s.sockets) (4 * SK_MEMINFO_RMEM_ALLOC) s;
+  send_queue = u32_in_first (memory_kind s.sockets) (4 * SK_MEMINFO_WMEM_ALLOC) s;
   inode = socket.inode;
   uid = u32_in_first (user_kind socket.family) 0 s;
 }

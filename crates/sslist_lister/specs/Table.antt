@@ -29,8 +29,9 @@ use Rattle.sslist_lister.specs.Details.{details}
 use Rattle.sslist_lister.specs.Sctp.{inet_state_name}
 use Rattle.sslist_lister.specs.declared.line.InetSocket.{InetSocket}
 use Rattle.sslist_lister.specs.declared.line.TheConstants.{NO_INTERFACE}
-use Rattle.sslist_lister.specs.declared.attributes.Info.{Info}
-use Rattle.sslist_lister.specs.declared.attributes.Info.TheVariants.{Mptcp, Sctp, Tcp, Unknown}
+use Rattle.sock_diag_extras.specs.declared.any.nla.InfoFormat.{InfoFormat}
+use Rattle.sock_diag_extras.specs.declared.any.nla.InfoFormat.TheVariants.{Mptcp, Sctp, Tcp}
+use Rattle.sock_diag_extras.specs.declared.any.nla.InfoFormat.TheVariants.{Unknown}
 use Rattle.sslist_lister.specs.Collected.{Summary, first_in}
 use Rattle.sock_diag_extras.specs.declared.constants.TheConstants.{UNIX_DIAG_UID}
 
@@ -162,17 +163,17 @@ abbrev pub unix_lines : Options → UnixResponseHeader → Summary → List ℕ
 unix_lines o h s =
     unix_columns o h s ++ details_after_separator o (details o no_timer h.cookie s) ++ 10 ∷ []
 
--- the meaning of INET_DIAG_INFO of a socket, by the protocol of the request; Unknown for any other
+-- the format of INET_DIAG_INFO of a socket, by the protocol of the request; Unknown for any other
 -- protocol, or if it is not known (None)
-abbrev pub info_of_protocol : Option ℕ → Info
+abbrev pub info_of_protocol : Option ℕ → InfoFormat
 info_of_protocol None = Unknown
 info_of_protocol (Some protocol) =
     if protocol == IPPROTO_TCP then Tcp else if protocol == IPPROTO_MPTCP then Mptcp
     else if protocol == IPPROTO_SCTP then Sctp else Unknown
 
--- `info_of_reply protocol is_association`: the meaning of INET_DIAG_INFO of a socket, or of an SCTP
+-- `info_of_reply protocol is_association`: the format of INET_DIAG_INFO of a socket, or of an SCTP
 -- association, whose request may be unknown
-abbrev pub info_of_reply : Option ℕ → Bool → Info
+abbrev pub info_of_reply : Option ℕ → Bool → InfoFormat
 info_of_reply protocol is_association =
     if is_association then Sctp else info_of_protocol protocol
 

@@ -1,94 +1,38 @@
 //! The facts of the attributes of a reply, except for the connection of a TCP socket, its MD5 keys
-//! and its upper layer protocol. A function of this module appends to a sink. If it fails, an
-//! allocation failed, and the content of the sink is not specified. In the contracts, `AddsFacts
-//! old new facts` states that the sink shows these facts after what it showed before. `S.content
-//! sink.old` and `S.content sink.new` are what the sink shows before and after the call.
+//! and its upper layer protocol. A function of this module that appends to a sink may fail: then an
+//! allocation failed, and the content of the sink is not specified.
 //!
-//! A function that returns a [`Status`] appends the facts of an attribute `nla`, which is
-//! `buffered_attribute nla.now` in the contracts. If its type is unknown, or its value is invalid,
-//! it appends nothing. `IfOk result (AddsOutcome old new outcome)` states both: the facts of the
-//! outcome, if it has any, were appended, and the result is its status. JSON allocates temporary
-//! strings by `alloc`. `utf8` is the option `--utf8`.
+//! In the contracts, `AddsFacts old new facts` states that the sink shows these facts after what it
+//! showed before. `S.content sink.old` and `S.content sink.new` are what the sink shows before and
+//! after the call. `any_model value.now` is what an attribute says.
 
-ghost use Rattle.std.specs.Prelude.{◌≡◌, ◌≤◌, IfOk, Ok, OnOk, Some, true};
-ghost use Rattle.std.specs.Result.{result_map_both};
+ghost use Rattle.std.specs.Prelude.{◌≡◌, OnOk, Some, false};
 ghost use Rattle.netlink_core.specs.Walk.{buffered_attribute};
-ghost use Rattle.sock_diag_attributes.specs.InetModel.{inet_nla_view_model as inet_view_model};
-ghost use Rattle.sock_diag_attributes.specs.InetModel.{inet_variant};
-ghost use Rattle.sock_diag_attributes.specs.UnixModel.{unix_nla_view_model as unix_view_model};
-ghost use Rattle.sock_diag_attributes.specs.UnixModel.{unix_variant};
-ghost use Rattle.sock_diag_extras.specs.Congestion.{bbr_info, dctcp_info, vegas_info};
-ghost use Rattle.sock_diag_extras.specs.SocketOptions.{socket_options};
-ghost use Rattle.sock_diag_families.specs.PacketAttributes.{parse_packet_info};
-ghost use Rattle.sock_diag_families.specs.XdpAttributes.{parse_xdp_info};
-ghost use Rattle.sslist_lister.specs.AttributeFacts.{attribute_outcome, bbr_facts};
-ghost use Rattle.sslist_lister.specs.AttributeFacts.{dctcp_facts};
-ghost use Rattle.sslist_lister.specs.AttributeFacts.{family_attribute_outcome};
-ghost use Rattle.sslist_lister.specs.AttributeFacts.{decoded_inet_outcome, decoded_unix_outcome};
-ghost use Rattle.sslist_lister.specs.AttributeFacts.{groups_outcome, inet_attribute_outcome};
+ghost use Rattle.sock_diag_extras.specs.AnyNla.{any_model};
+ghost use Rattle.sock_diag_extras.specs.declared.any.nla.Sockets.{Sockets as SocketsRead};
+ghost use Rattle.sslist_lister.specs.AttributeFacts.{any_outcome, attribute_outcome, bbr_facts};
+ghost use Rattle.sslist_lister.specs.AttributeFacts.{dctcp_facts, first_groups, groups_outcome};
 ghost use Rattle.sslist_lister.specs.AttributeFacts.{legacy_memory_facts, memory_facts};
-ghost use Rattle.sslist_lister.specs.AttributeFacts.{memory_group, memory_kind};
-ghost use Rattle.sslist_lister.specs.AttributeFacts.{memory_outcome, raw_inet_outcome};
-ghost use Rattle.sslist_lister.specs.AttributeFacts.{raw_unix_outcome, option_facts};
-ghost use Rattle.sslist_lister.specs.AttributeFacts.{option_bits, packet_facts};
-ghost use Rattle.sslist_lister.specs.AttributeFacts.{port_inet_outcome, queue_facts};
-ghost use Rattle.sslist_lister.specs.AttributeFacts.{uid_outcome, unix_attribute_outcome};
-ghost use Rattle.sslist_lister.specs.AttributeFacts.{vegas_facts, vfs_facts, xdp_facts};
-ghost use Rattle.sslist_lister.specs.Facts.{AddsFacts, AddsOutcome, length_outcome, number_facts};
-ghost use Rattle.sslist_lister.specs.Facts.{number_outcome, parsed_outcome, record_outcome};
-ghost use Rattle.sslist_lister.specs.Facts.{status_of};
-ghost use Rattle.sslist_lister.specs.Md5Keys.{md5_outcome};
+ghost use Rattle.sslist_lister.specs.AttributeFacts.{memory_group, memory_kind, memory_member};
+ghost use Rattle.sslist_lister.specs.AttributeFacts.{option_bits, owner_facts, packet_facts};
+ghost use Rattle.sslist_lister.specs.AttributeFacts.{queue_facts, vegas_facts, vfs_facts};
+ghost use Rattle.sslist_lister.specs.AttributeFacts.{xdp_facts};
+ghost use Rattle.sslist_lister.specs.Facts.{AddsFacts, facts_in, number_facts, status_of};
 ghost use Rattle.sslist_lister.specs.declared.facts.Shown.TheVariants.{Hex};
 
-use crate::command_line::Family;
 use crate::facts::{FactSink, NumberRow, Shown, Status, show_group, show_json_group, show_numbers};
-use crate::md5_keys::{KEY_LENGTH, has_md5_keys};
 use crate::tcp::{show_mptcp_info, show_tcp_info};
-use crate::ulp_info::show_ulp;
+use crate::ulp_info::{show_ulp, status_of_ulp};
 use byteorder::{ByteOrder, LittleEndian};
 use netlink_core::{DecodeError, NlaBuffer};
-use sock_diag_attributes::inet::nlas::NlaView as InetView;
-use sock_diag_attributes::unix::nlas::NlaView as UnixView;
-use sock_diag_extras::constants::{
-    INET_DIAG_CGROUP_ID, INET_DIAG_SOCKOPT, INET_DIAG_ULP_INFO, UNIX_DIAG_UID,
-};
-use sock_diag_extras::{
-    AttributeRecord, BbrInfo, DctcpInfo, SocketOptions, VegasInfo, read_attribute_record,
-};
+use sock_diag_extras::any::{AnyNla, Sockets};
+use sock_diag_extras::{BbrInfo, DctcpInfo, VegasInfo};
 use sock_diag_families::netlink::{NETLINK_DIAG_GROUPS, NETLINK_DIAG_MEMINFO};
-use sock_diag_families::packet::{
-    PACKET_DIAG_INFO, PACKET_DIAG_MEMINFO, PACKET_DIAG_UID, PacketInfo,
-};
-use sock_diag_families::xdp::{XDP_DIAG_INFO, XDP_DIAG_MEMINFO, XDP_DIAG_UID, XdpInfo};
-use sock_diag_records::constants::{
-    INET_DIAG_BBRINFO, INET_DIAG_DCTCPINFO, INET_DIAG_INFO, INET_DIAG_MD5SIG, INET_DIAG_VEGASINFO,
-};
+use sock_diag_families::packet::{PACKET_DIAG_MEMINFO, PacketInfo};
+use sock_diag_families::xdp::{XDP_DIAG_MEMINFO, XdpInfo};
+use sock_diag_records::constants::{INET_DIAG_SKMEMINFO, UNIX_DIAG_MEMINFO};
 use sock_diag_values::inet::{LegacyMemInfo, MemInfo};
 use std::alloc::{AllocError, Global};
-
-/// The kind of sockets that a reply is about. It selects the meaning of attributes.
-#[derive(Clone, Copy)]
-pub(crate) enum Sockets {
-    /// UNIX sockets.
-    Unix,
-    /// IPv4 and IPv6 sockets, whose `INET_DIAG_INFO` has this meaning.
-    Inet(Info),
-    /// Sockets of another family.
-    Other(Family),
-}
-
-/// The meaning of `INET_DIAG_INFO`, by the protocol.
-#[derive(Clone, Copy)]
-pub(crate) enum Info {
-    /// TCP: `struct tcp_info`, of any length.
-    Tcp,
-    /// MPTCP: `struct mptcp_info`, of any length.
-    Mptcp,
-    /// SCTP: `struct sctp_info`, which is not decoded.
-    Sctp,
-    /// Another protocol, or one that is not known: `struct tcp_info` as the port decodes it.
-    Unknown,
-}
 
 /// A number that the table shows after this text, and JSON has.
 macro_rules! shown {
@@ -116,83 +60,124 @@ macro_rules! flag {
     };
 }
 
-/// Shows the facts of an attribute of a reply about these sockets, if it has any, and returns its
-/// status. The table shows names with letters that are not ASCII if `utf8` is set.
+/// Shows the facts of an attribute of a reply about these sockets. Shows nothing if its kind is
+/// unknown, or if its value is invalid. The table shows names with letters that are not ASCII if
+/// `utf8` is set. JSON allocates temporary strings by `alloc`.
 pub(crate) fn show_attribute<S: FactSink>(
     sink: &mut S,
     alloc: Global,
     utf8: bool,
     sockets: Sockets,
     nla: &NlaBuffer<'_>,
-) -> Result<Status, AllocError>
-    ensures { IfOk result (AddsOutcome (S.content sink.old) (S.content sink.new)
-        (attribute_outcome utf8 sockets (buffered_attribute nla.now))) }
+) -> Result<(), AllocError>
+    ensures { OnOk result (AddsFacts (S.content sink.old) (S.content sink.new)
+        (facts_in (attribute_outcome utf8 sockets (buffered_attribute nla.now)))) }
 {
-    match sockets {
-        Sockets::Unix => show_unix(sink, alloc, nla),
-        Sockets::Inet(info) => show_inet(sink, alloc, utf8, info, nla),
-        Sockets::Other(family) => show_family(sink, family, nla),
+    match AnyNla::read(sockets, nla) {
+        Ok(value) => show_any(sink, alloc, utf8, sockets, &value),
+        Err(_) => Ok(()),
     }
 }
 
-/// Shows the facts of an attribute of a UNIX socket, if it has any, and returns its status.
-fn show_unix<S: FactSink>(
+/// Shows the facts of an attribute that says this, in a reply about these sockets. Shows nothing if
+/// its kind is unknown, or if its value is invalid. Only JSON has the name of a UNIX socket, its
+/// peer, its queues and its owner here, since the table has columns for them.
+fn show_any<S: FactSink>(
     sink: &mut S,
     alloc: Global,
-    nla: &NlaBuffer<'_>,
-) -> Result<Status, AllocError>
-    ensures { IfOk result (AddsOutcome (S.content sink.old) (S.content sink.new)
-        (unix_attribute_outcome (buffered_attribute nla.now))) }
+    utf8: bool,
+    sockets: Sockets,
+    value: &AnyNla<'_>,
+) -> Result<(), AllocError>
+    ensures { OnOk result (AddsFacts (S.content sink.old) (S.content sink.new)
+        (facts_in (any_outcome utf8 sockets (any_model value.now)))) }
 {
-    match UnixView::parse(nla) {
-        Ok(view) => show_unix_view(sink, alloc, nla, &view),
-        Err(error) => Ok(Err(error)),
+    match value {
+        AnyNla::Name(name) => sink.socket_name(alloc, *name),
+        AnyNla::Vfs(file) => show_vfs(sink, file.inode(), file.device()),
+        AnyNla::Peer(inode) => sink.number(Shown::Never, b"", Some("peer"), *inode as u64),
+        AnyNla::PendingConnections(inodes) => sink.list(b" pending:", "icons", inodes),
+        AnyNla::QueueLengths(receive, send) => show_queues(sink, *receive, *send),
+        AnyNla::Memory(memory) => show_memory(sink, memory_member(sockets), memory),
+        AnyNla::Shutdown(directions) => {
+            sink.number(Shown::Directions, b"", Some("shutdown"), *directions as u64)
+        }
+        AnyNla::Owner(user) => show_owner(sink, sockets, *user),
+        AnyNla::LegacyMemory(memory) => show_legacy_memory(sink, memory),
+        AnyNla::TcpInfo(info) => show_tcp_info(sink, info.bytes()),
+        AnyNla::MptcpInfo(info) => show_mptcp_info(sink, info.bytes()),
+        AnyNla::Congestion(name) => sink.name(utf8, b" cong:", "cong", name),
+        AnyNla::Tos(tos) => show_hex(sink, b" tos:0x", "tos", *tos as u64),
+        AnyNla::TrafficClass(class) => show_hex(sink, b" tclass:0x", "tclass", *class as u64),
+        AnyNla::Protocol(protocol) => {
+            sink.number(
+                Shown::Always,
+                b" protocol:",
+                Some("protocol"),
+                *protocol as u64,
+            )
+        }
+        AnyNla::V6Only(only) => sink.flag(Shown::Always, b" v6only:", "skv6only", *only),
+        AnyNla::Mark(mark) => show_hex(sink, b" fwmark:0x", "mark", *mark as u64),
+        AnyNla::ClassId(class) => show_hex(sink, b" class_id:0x", "class_id", *class as u64),
+        AnyNla::Vegas(info) => show_vegas(sink, info),
+        AnyNla::Dctcp(info) => show_dctcp(sink, info),
+        AnyNla::Bbr(info) => show_bbr(sink, info),
+        AnyNla::Md5Signatures(keys) => sink.md5_keys(alloc, keys),
+        AnyNla::Ulp(info) => show_ulp(sink, info.0.bytes()),
+        AnyNla::CgroupId(id) => sink.number(Shown::Always, b" cgroup:", Some("cgroup_id"), *id),
+        AnyNla::Options(options) => show_option_bits(sink, options.bits),
+        AnyNla::Groups(bits) => show_groups(sink, bits),
+        AnyNla::PacketInfo(info) => show_packet(sink, info),
+        AnyNla::XdpInfo(info) => show_xdp(sink, info),
+        AnyNla::LocalAddresses(_)
+        | AnyNla::PeerAddresses(_)
+        | AnyNla::BpfStorages(_)
+        | AnyNla::NetlinkFlags(_)
+        | AnyNla::Memberships(_)
+        | AnyNla::ReceiveFrames(_)
+        | AnyNla::SendFrames(_)
+        | AnyNla::Fanout(_)
+        | AnyNla::Filter(_)
+        | AnyNla::ReceiveRing(_)
+        | AnyNla::SendRing(_)
+        | AnyNla::FillRing(_)
+        | AnyNla::CompletionRing(_)
+        | AnyNla::Umem(_)
+        | AnyNla::Statistics(_)
+        | AnyNla::Unknown(_) => Ok(()),
     }
 }
 
-/// Shows the facts of a decoded attribute of a UNIX socket, if it has any, and returns its status.
-/// Only JSON has the name, the peer and the queues here, since the table has columns for them. The
-/// memory is parsed again, since its view has only three of nine fields.
-fn show_unix_view<S: FactSink>(
-    sink: &mut S,
-    alloc: Global,
-    nla: &NlaBuffer<'_>,
-    view: &UnixView<'_>,
-) -> Result<Status, AllocError>
-    ensures { IfOk result (AddsOutcome (S.content sink.old) (S.content sink.new)
-        (decoded_unix_outcome (buffered_attribute nla.now)
-        (unix_variant (unix_view_model view.now)))) }
+/// Returns the status of an attribute that says this, in a reply about any sockets. It does not
+/// depend on the option `--utf8`, for which the contract passes `false`.
+pub(crate) fn status_of_any(value: &AnyNla<'_>) -> Status
+    ensures { (sockets : SocketsRead)
+        → result ≡ status_of (any_outcome false sockets (any_model value.now)) }
 {
-    match view {
-        UnixView::MemInfo(_) => show_memory_value(sink, "meminfo", nla),
-        UnixView::Other(_) => show_raw_unix(sink, nla),
-        UnixView::Name(name) => shown_status(sink.socket_name(alloc, *name)),
-        UnixView::Vfs(file) => shown_status(show_vfs(sink, file.inode(), file.device())),
-        UnixView::Peer(inode) => {
-            shown_status(sink.number(Shown::Never, b"", Some("peer"), *inode as u64))
-        }
-        UnixView::PendingConnections(inodes) => shown_status(sink.list(
-            b" pending:",
-            "icons",
-            inodes,
-        )),
-        UnixView::ReceiveQueueLength(first, second) => shown_status(show_queues(
-            sink, *first, *second,
-        )),
-        UnixView::Shutdown(state) => {
-            shown_status(sink.number(Shown::Directions, b"", Some("shutdown"), *state as u64))
-        }
-    }
-}
-
-/// Returns the status of an attribute with facts, `Ok(true)`, if they were shown; or the error of
-/// showing them.
-fn shown_status(shown: Result<(), AllocError>) -> Result<Status, AllocError>
-    ensures { result ≡ result_map_both (λ done. Ok true) (λ e. e) shown }
-{
-    match shown {
-        Ok(()) => Ok(Ok(true)),
-        Err(error) => Err(error),
+    match value {
+        AnyNla::Ulp(info) => status_of_ulp(info.0.bytes()),
+        AnyNla::Groups(bits) => match read_groups(bits) {
+            Ok(_) => Ok(true),
+            Err(error) => Err(error),
+        },
+        AnyNla::LocalAddresses(_)
+        | AnyNla::PeerAddresses(_)
+        | AnyNla::BpfStorages(_)
+        | AnyNla::NetlinkFlags(_)
+        | AnyNla::Memberships(_)
+        | AnyNla::ReceiveFrames(_)
+        | AnyNla::SendFrames(_)
+        | AnyNla::Fanout(_)
+        | AnyNla::Filter(_)
+        | AnyNla::ReceiveRing(_)
+        | AnyNla::SendRing(_)
+        | AnyNla::FillRing(_)
+        | AnyNla::CompletionRing(_)
+        | AnyNla::Umem(_)
+        | AnyNla::Statistics(_)
+        | AnyNla::Unknown(_) => Ok(false),
+        _ => Ok(true),
     }
 }
 
@@ -219,129 +204,14 @@ fn show_queues<S: FactSink>(sink: &mut S, first: u32, second: u32) -> Result<(),
     show_json_group(sink, "rqlen", &rows)
 }
 
-/// Shows the facts of a raw attribute of a UNIX socket, which the port leaves undecoded, if it has
-/// any, and returns its status. Only JSON has the user id here, since the table has a column for
-/// it.
-fn show_raw_unix<S: FactSink>(sink: &mut S, nla: &NlaBuffer<'_>) -> Result<Status, AllocError>
-    ensures { IfOk result (AddsOutcome (S.content sink.old) (S.content sink.new)
-        (raw_unix_outcome (buffered_attribute nla.now))) }
+/// Shows the user id of the owner of a socket. Only JSON has that of a UNIX socket here.
+fn show_owner<S: FactSink>(sink: &mut S, sockets: Sockets, user: u32) -> Result<(), AllocError>
+    ensures { OnOk result (AddsFacts (S.content sink.old) (S.content sink.new)
+        (owner_facts sockets user)) }
 {
-    if nla.kind() != UNIX_DIAG_UID {
-        return Ok(Ok(false));
-    }
-    show_number(sink, Shown::Never, b"", "uid", 4, nla)
-}
-
-/// Shows a little-endian number of `width` bytes, which is the whole value: in the table by
-/// `format` after `text`, in JSON under `member`. If the value has another length, shows nothing,
-/// and the status is the error `WrongLength`.
-fn show_number<S: FactSink>(
-    sink: &mut S,
-    format: Shown,
-    text: &[u8],
-    member: &str,
-    width: usize,
-    nla: &NlaBuffer<'_>,
-) -> Result<Status, AllocError>
-    // `read_uint` reads one to eight bytes.
-    requires one { 1 ≤ width }
-    requires eight { width ≤ 8 }
-    ensures { IfOk result (AddsOutcome (S.content sink.old) (S.content sink.new)
-        (number_outcome width (number_facts format text.now (Some member.now))
-        (buffered_attribute nla.now))) }
-{
-    if nla.value().len() != width {
-        return Ok(length_error(nla, width));
-    }
-    let number = LittleEndian::read_uint(nla.value(), width);
-    shown_status(sink.number(format, text, Some(member), number))
-}
-
-/// Returns the status of an attribute whose value does not have `need` bytes: the error
-/// `WrongLength`.
-pub(crate) fn length_error(nla: &NlaBuffer<'_>, need: usize) -> Status
-    ensures { result ≡ status_of (length_outcome (buffered_attribute nla.now) need) }
-{
-    Err(DecodeError::WrongLength {
-        kind: Some(nla.kind()),
-        got: nla.value().len(),
-        need,
-    })
-}
-
-/// Shows the facts of an attribute of an IPv4 or IPv6 socket, if it has any, and returns its
-/// status. `info` is the meaning of `INET_DIAG_INFO`.
-fn show_inet<S: FactSink>(
-    sink: &mut S,
-    alloc: Global,
-    utf8: bool,
-    info: Info,
-    nla: &NlaBuffer<'_>,
-) -> Result<Status, AllocError>
-    ensures { IfOk result (AddsOutcome (S.content sink.old) (S.content sink.new)
-        (inet_attribute_outcome utf8 info (buffered_attribute nla.now))) }
-{
-    let is_info = nla.kind() == INET_DIAG_INFO;
-    match info {
-        Info::Tcp if is_info => shown_status(show_tcp_info(sink, nla.value())),
-        Info::Mptcp if is_info => shown_status(show_mptcp_info(sink, nla.value())),
-        Info::Sctp if is_info => Ok(Ok(false)),
-        _ => show_port_inet(sink, alloc, utf8, nla),
-    }
-}
-
-/// Shows the facts of an attribute of an IPv4 or IPv6 socket, if it has any, and returns its
-/// status. Its value is decoded by the port.
-fn show_port_inet<S: FactSink>(
-    sink: &mut S,
-    alloc: Global,
-    utf8: bool,
-    nla: &NlaBuffer<'_>,
-) -> Result<Status, AllocError>
-    ensures { IfOk result (AddsOutcome (S.content sink.old) (S.content sink.new)
-        (port_inet_outcome utf8 (buffered_attribute nla.now))) }
-{
-    match InetView::parse(nla) {
-        Ok(view) => show_inet_view(sink, alloc, utf8, nla, &view),
-        Err(error) => Ok(Err(error)),
-    }
-}
-
-/// Shows the facts of a decoded attribute of an IPv4 or IPv6 socket, if it has any, and returns its
-/// status. A `struct tcp_info` is shown from its bytes, which may have fields that the view lacks.
-fn show_inet_view<S: FactSink>(
-    sink: &mut S,
-    alloc: Global,
-    utf8: bool,
-    nla: &NlaBuffer<'_>,
-    view: &InetView<'_>,
-) -> Result<Status, AllocError>
-    ensures { IfOk result (AddsOutcome (S.content sink.old) (S.content sink.new)
-        (decoded_inet_outcome utf8 (buffered_attribute nla.now) (inet_variant
-        (inet_view_model view.now)))) }
-{
-    match view {
-        InetView::Other(_) => show_raw_inet(sink, alloc, nla),
-        InetView::LegacyMemInfo(memory) => shown_status(show_legacy_memory(sink, memory)),
-        InetView::TcpInfo(_) => shown_status(show_tcp_info(sink, nla.value())),
-        InetView::Congestion(name) => shown_status(sink.name(utf8, b" cong:", "cong", name)),
-        InetView::Tos(tos) => shown_status(show_hex(sink, b" tos:0x", "tos", *tos as u64)),
-        InetView::Tc(class) => shown_status(show_hex(sink, b" tclass:0x", "tclass", *class as u64)),
-        InetView::MemInfo(memory) => shown_status(show_memory(sink, "skmeminfo", memory)),
-        InetView::Shutdown(state) => {
-            shown_status(sink.number(Shown::Directions, b"", Some("shutdown"), *state as u64))
-        }
-        InetView::Protocol(protocol) => {
-            let number = *protocol as u64;
-            shown_status(sink.number(Shown::Always, b" protocol:", Some("protocol"), number))
-        }
-        InetView::SkV6Only(only) => {
-            shown_status(sink.flag(Shown::Always, b" v6only:", "skv6only", *only))
-        }
-        InetView::Mark(mark) => shown_status(show_hex(sink, b" fwmark:0x", "mark", *mark as u64)),
-        InetView::ClassId(class) => {
-            shown_status(show_hex(sink, b" class_id:0x", "class_id", *class as u64))
-        }
+    match sockets {
+        Sockets::Unix => sink.number(Shown::Never, b"", Some("uid"), user as u64),
+        _ => sink.number(Shown::Always, b" uid:", Some("uid"), user as u64),
     }
 }
 
@@ -374,60 +244,8 @@ fn show_legacy_memory<S: FactSink>(sink: &mut S, memory: &LegacyMemInfo) -> Resu
     show_group(sink, b" mem:(", b")", "meminfo", &rows)
 }
 
-/// Shows the facts of a raw attribute of an IPv4 or IPv6 socket, which the port leaves undecoded,
-/// if it has any, and returns its status.
-fn show_raw_inet<S: FactSink>(
-    sink: &mut S,
-    alloc: Global,
-    nla: &NlaBuffer<'_>,
-) -> Result<Status, AllocError>
-    ensures { IfOk result (AddsOutcome (S.content sink.old) (S.content sink.new)
-        (raw_inet_outcome (buffered_attribute nla.now))) }
-{
-    match nla.kind() {
-        INET_DIAG_CGROUP_ID => {
-            show_number(sink, Shown::Always, b" cgroup:", "cgroup_id", 8, nla)
-        }
-        INET_DIAG_SOCKOPT => show_options(sink, nla),
-        INET_DIAG_VEGASINFO => show_vegas(sink, nla),
-        INET_DIAG_DCTCPINFO => show_dctcp(sink, nla),
-        INET_DIAG_BBRINFO => show_bbr(sink, nla),
-        INET_DIAG_MD5SIG => show_md5_keys(sink, alloc, nla),
-        INET_DIAG_ULP_INFO => show_ulp(sink, nla.value()),
-        _ => Ok(Ok(false)),
-    }
-}
-
-/// Shows the MD5 keys of a TCP socket. If the value is not an array of at least one key, the status
-/// is the error `WrongLength`.
-fn show_md5_keys<S: FactSink>(
-    sink: &mut S,
-    alloc: Global,
-    nla: &NlaBuffer<'_>,
-) -> Result<Status, AllocError>
-    ensures { IfOk result (AddsOutcome (S.content sink.old) (S.content sink.new)
-        (md5_outcome (buffered_attribute nla.now))) }
-{
-    if !has_md5_keys(nla.value()) {
-        return Ok(length_error(nla, KEY_LENGTH));
-    }
-    shown_status(sink.md5_keys(alloc, nla.value()))
-}
-
-/// Shows the options of a socket (`INET_DIAG_SOCKOPT`). If the value is too short, the status is
-/// the error `WrongLength`.
-fn show_options<S: FactSink>(sink: &mut S, nla: &NlaBuffer<'_>) -> Result<Status, AllocError>
-    ensures { IfOk result (AddsOutcome (S.content sink.old) (S.content sink.new)
-        (record_outcome socket_options option_facts (buffered_attribute nla.now))) }
-{
-    match read_attribute_record::<SocketOptions>(nla.value()) {
-        Some(options) => shown_status(show_option_bits(sink, options.bits)),
-        None => Ok(length_error(nla, SocketOptions::size())),
-    }
-}
-
-/// Shows the options of a socket by their bits: as a number in JSON, and the name of each in the
-/// table.
+/// Shows the options of a socket (`INET_DIAG_SOCKOPT`) by their bits: as a number in JSON, and the
+/// name of each in the table.
 #[tactic(auto, unfolding(crate::specs::AttributeFacts::option_bits))]
 fn show_option_bits<S: FactSink>(sink: &mut S, bits: u16) -> Result<(), AllocError>
     ensures { OnOk result (AddsFacts (S.content sink.old) (S.content sink.new) (option_bits bits)) }
@@ -450,21 +268,9 @@ fn show_option_bits<S: FactSink>(sink: &mut S, bits: u16) -> Result<(), AllocErr
     show_numbers(sink, &rows)
 }
 
-/// Shows the measurements of TCP Vegas (`INET_DIAG_VEGASINFO`). If the value is too short, the
-/// status is the error `WrongLength`.
-fn show_vegas<S: FactSink>(sink: &mut S, nla: &NlaBuffer<'_>) -> Result<Status, AllocError>
-    ensures { IfOk result (AddsOutcome (S.content sink.old) (S.content sink.new)
-        (record_outcome vegas_info vegas_facts (buffered_attribute nla.now))) }
-{
-    match read_attribute_record::<VegasInfo>(nla.value()) {
-        Some(info) => shown_status(show_vegas_info(sink, &info)),
-        None => Ok(length_error(nla, VegasInfo::size())),
-    }
-}
-
-/// Shows these measurements of TCP Vegas, as a group.
+/// Shows the measurements of TCP Vegas (`INET_DIAG_VEGASINFO`), as a group.
 #[tactic(auto, unfolding(crate::specs::AttributeFacts::vegas_facts))]
-fn show_vegas_info<S: FactSink>(sink: &mut S, info: &VegasInfo) -> Result<(), AllocError>
+fn show_vegas<S: FactSink>(sink: &mut S, info: &VegasInfo) -> Result<(), AllocError>
     ensures { OnOk result (AddsFacts (S.content sink.old) (S.content sink.new)
         (vegas_facts info.now)) }
 {
@@ -477,21 +283,9 @@ fn show_vegas_info<S: FactSink>(sink: &mut S, info: &VegasInfo) -> Result<(), Al
     show_group(sink, b" vegas:(", b")", "vegasinfo", &rows)
 }
 
-/// Shows the measurements of DCTCP (`INET_DIAG_DCTCPINFO`). If the value is too short, the status
-/// is the error `WrongLength`.
-fn show_dctcp<S: FactSink>(sink: &mut S, nla: &NlaBuffer<'_>) -> Result<Status, AllocError>
-    ensures { IfOk result (AddsOutcome (S.content sink.old) (S.content sink.new)
-        (record_outcome dctcp_info dctcp_facts (buffered_attribute nla.now))) }
-{
-    match read_attribute_record::<DctcpInfo>(nla.value()) {
-        Some(info) => shown_status(show_dctcp_info(sink, &info)),
-        None => Ok(length_error(nla, DctcpInfo::size())),
-    }
-}
-
-/// Shows these measurements of DCTCP, as a group.
+/// Shows the measurements of DCTCP (`INET_DIAG_DCTCPINFO`), as a group.
 #[tactic(auto, unfolding(crate::specs::AttributeFacts::dctcp_facts))]
-fn show_dctcp_info<S: FactSink>(sink: &mut S, info: &DctcpInfo) -> Result<(), AllocError>
+fn show_dctcp<S: FactSink>(sink: &mut S, info: &DctcpInfo) -> Result<(), AllocError>
     ensures { OnOk result (AddsFacts (S.content sink.old) (S.content sink.new)
         (dctcp_facts info.now)) }
 {
@@ -505,21 +299,9 @@ fn show_dctcp_info<S: FactSink>(sink: &mut S, info: &DctcpInfo) -> Result<(), Al
     show_group(sink, b" dctcp:(", b")", "dctcpinfo", &rows)
 }
 
-/// Shows the measurements of BBR (`INET_DIAG_BBRINFO`). If the value is too short, the status is
-/// the error `WrongLength`.
-fn show_bbr<S: FactSink>(sink: &mut S, nla: &NlaBuffer<'_>) -> Result<Status, AllocError>
-    ensures { IfOk result (AddsOutcome (S.content sink.old) (S.content sink.new)
-        (record_outcome bbr_info bbr_facts (buffered_attribute nla.now))) }
-{
-    match read_attribute_record::<BbrInfo>(nla.value()) {
-        Some(info) => shown_status(show_bbr_info(sink, &info)),
-        None => Ok(length_error(nla, BbrInfo::size())),
-    }
-}
-
-/// Shows these measurements of BBR, as a group.
+/// Shows the measurements of BBR (`INET_DIAG_BBRINFO`), as a group.
 #[tactic(auto, unfolding(crate::specs::AttributeFacts::bbr_facts))]
-fn show_bbr_info<S: FactSink>(sink: &mut S, info: &BbrInfo) -> Result<(), AllocError>
+fn show_bbr<S: FactSink>(sink: &mut S, info: &BbrInfo) -> Result<(), AllocError>
     ensures { OnOk result (AddsFacts (S.content sink.old) (S.content sink.new)
         (bbr_facts info.now)) }
 {
@@ -532,56 +314,28 @@ fn show_bbr_info<S: FactSink>(sink: &mut S, info: &BbrInfo) -> Result<(), AllocE
     show_group(sink, b" bbr:(", b")", "bbrinfo", &rows)
 }
 
-/// Returns the kind of the attribute with the memory of a socket of this family. Returns `None` for
-/// vsock sockets, which have none.
-pub(crate) fn memory_kind(family: Family) -> Option<u16>
-    ensures { result ≡ memory_kind family }
+/// Returns the kind of the attribute with the memory of a socket, an array of the words
+/// `SK_MEMINFO_..`. Returns `None` for vsock sockets, which have none.
+pub(crate) fn memory_kind(sockets: Sockets) -> Option<u16>
+    ensures { result ≡ memory_kind sockets }
 {
-    match family {
-        Family::Netlink => Some(NETLINK_DIAG_MEMINFO),
-        Family::Packet => Some(PACKET_DIAG_MEMINFO),
-        Family::Vsock => None,
-        Family::Xdp => Some(XDP_DIAG_MEMINFO),
+    match sockets {
+        Sockets::Unix => Some(UNIX_DIAG_MEMINFO),
+        Sockets::Inet(_) => Some(INET_DIAG_SKMEMINFO),
+        Sockets::Netlink => Some(NETLINK_DIAG_MEMINFO),
+        Sockets::Packet => Some(PACKET_DIAG_MEMINFO),
+        Sockets::Vsock => None,
+        Sockets::Xdp => Some(XDP_DIAG_MEMINFO),
     }
 }
 
-/// Shows the facts of an attribute of a netlink, packet, vsock or XDP socket, if it has any, and
-/// returns its status.
-fn show_family<S: FactSink>(
-    sink: &mut S,
-    family: Family,
-    nla: &NlaBuffer<'_>,
-) -> Result<Status, AllocError>
-    ensures { IfOk result (AddsOutcome (S.content sink.old) (S.content sink.new)
-        (family_attribute_outcome family (buffered_attribute nla.now))) }
+/// Returns the name of that attribute in JSON.
+fn memory_member(sockets: Sockets) -> &'static str
+    ensures { result.now ≡ memory_member sockets }
 {
-    let kind = nla.kind();
-    if memory_kind(family) == Some(kind) {
-        return show_memory_value(sink, "meminfo", nla);
-    }
-    match family {
-        Family::Netlink if kind == NETLINK_DIAG_GROUPS => show_groups(sink, nla),
-        Family::Packet if kind == PACKET_DIAG_INFO => show_packet(sink, nla.value()),
-        Family::Packet if kind == PACKET_DIAG_UID => show_uid(sink, nla),
-        Family::Xdp if kind == XDP_DIAG_INFO => show_xdp(sink, nla.value()),
-        Family::Xdp if kind == XDP_DIAG_UID => show_uid(sink, nla),
-        _ => Ok(Ok(false)),
-    }
-}
-
-/// Shows the memory in the value of an attribute, as the object `member` in JSON. If the value is
-/// invalid, the status is the decode error.
-fn show_memory_value<S: FactSink>(
-    sink: &mut S,
-    member: &str,
-    nla: &NlaBuffer<'_>,
-) -> Result<Status, AllocError>
-    ensures { IfOk result (AddsOutcome (S.content sink.old) (S.content sink.new)
-        (memory_outcome member.now (buffered_attribute nla.now))) }
-{
-    match MemInfo::parse(nla.value()) {
-        Ok(memory) => shown_status(show_memory(sink, member, &memory)),
-        Err(error) => Ok(Err(error)),
+    match sockets {
+        Sockets::Inet(_) => "skmeminfo",
+        _ => "meminfo",
     }
 }
 
@@ -633,21 +387,9 @@ fn widened(number: Option<u32>) -> Option<u64>
     }
 }
 
-/// Shows the settings of a packet socket (`PACKET_DIAG_INFO`), which are the value of an attribute.
-/// If the value is invalid, the status is the decode error.
-fn show_packet<S: FactSink>(sink: &mut S, value: &[u8]) -> Result<Status, AllocError>
-    ensures { IfOk result (AddsOutcome (S.content sink.old) (S.content sink.new)
-        (parsed_outcome packet_facts (parse_packet_info value.now))) }
-{
-    match PacketInfo::parse(value) {
-        Ok(info) => shown_status(show_packet_info(sink, &info)),
-        Err(error) => Ok(Err(error)),
-    }
-}
-
-/// Shows these settings of a packet socket.
+/// Shows the settings of a packet socket (`PACKET_DIAG_INFO`).
 #[tactic(auto, unfolding(crate::specs::AttributeFacts::packet_facts))]
-fn show_packet_info<S: FactSink>(sink: &mut S, info: &PacketInfo) -> Result<(), AllocError>
+fn show_packet<S: FactSink>(sink: &mut S, info: &PacketInfo) -> Result<(), AllocError>
     ensures { OnOk result (AddsFacts (S.content sink.old) (S.content sink.new)
         (packet_facts info.now)) }
 {
@@ -669,22 +411,10 @@ fn show_packet_info<S: FactSink>(sink: &mut S, info: &PacketInfo) -> Result<(), 
     show_json_group(sink, "info", &rows)
 }
 
-/// Shows the interface and the queue of an XDP socket (`XDP_DIAG_INFO`), which are the value of an
-/// attribute. Only JSON has them here, since the table has a column for them. If the value is
-/// invalid, the status is the decode error.
-fn show_xdp<S: FactSink>(sink: &mut S, value: &[u8]) -> Result<Status, AllocError>
-    ensures { IfOk result (AddsOutcome (S.content sink.old) (S.content sink.new)
-        (parsed_outcome xdp_facts (parse_xdp_info value.now))) }
-{
-    match XdpInfo::parse(value) {
-        Ok(info) => shown_status(show_xdp_info(sink, &info)),
-        Err(error) => Ok(Err(error)),
-    }
-}
-
-/// Shows this interface and this queue.
+/// Shows the interface and the queue of an XDP socket (`XDP_DIAG_INFO`). Only JSON has them here,
+/// since the table has a column for them.
 #[tactic(auto, unfolding(crate::specs::AttributeFacts::xdp_facts))]
-fn show_xdp_info<S: FactSink>(sink: &mut S, info: &XdpInfo) -> Result<(), AllocError>
+fn show_xdp<S: FactSink>(sink: &mut S, info: &XdpInfo) -> Result<(), AllocError>
     ensures { OnOk result (AddsFacts (S.content sink.old) (S.content sink.new)
         (xdp_facts info.now)) }
 {
@@ -695,24 +425,28 @@ fn show_xdp_info<S: FactSink>(sink: &mut S, info: &XdpInfo) -> Result<(), AllocE
     show_json_group(sink, "info", &rows)
 }
 
-/// Shows the user id of a socket's owner. If the value does not have four bytes, the status is the
-/// error `WrongLength`.
-fn show_uid<S: FactSink>(sink: &mut S, nla: &NlaBuffer<'_>) -> Result<Status, AllocError>
-    ensures { IfOk result (AddsOutcome (S.content sink.old) (S.content sink.new)
-        (uid_outcome (buffered_attribute nla.now))) }
+/// Shows the first 32 groups of a netlink socket. Shows nothing if there are fewer than four bytes.
+fn show_groups<S: FactSink>(sink: &mut S, bits: &[u8]) -> Result<(), AllocError>
+    ensures { OnOk result (AddsFacts (S.content sink.old) (S.content sink.new)
+        (facts_in (groups_outcome bits.now))) }
 {
-    show_number(sink, Shown::Always, b" uid:", "uid", 4, nla)
+    match read_groups(bits) {
+        Ok(groups) => show_hex(sink, b" groups:0x", "groups", groups as u64),
+        Err(_) => Ok(()),
+    }
 }
 
-/// Shows the first 32 groups of a netlink socket, which are the first four bytes of the value. If
-/// the value is too short, the status is the error `WrongLength`.
-fn show_groups<S: FactSink>(sink: &mut S, nla: &NlaBuffer<'_>) -> Result<Status, AllocError>
-    ensures { IfOk result (AddsOutcome (S.content sink.old) (S.content sink.new)
-        (groups_outcome (buffered_attribute nla.now))) }
+/// Returns the first 32 groups of a netlink socket, which are the first four bytes of the value of
+/// `NETLINK_DIAG_GROUPS`. If there are fewer, the error is `WrongLength`.
+fn read_groups(bits: &[u8]) -> Result<u32, DecodeError>
+    ensures { result ≡ first_groups bits.now }
 {
-    if nla.value().len() < 4 {
-        return Ok(length_error(nla, 4));
+    if bits.len() < 4 {
+        return Err(DecodeError::WrongLength {
+            kind: Some(NETLINK_DIAG_GROUPS),
+            got: bits.len(),
+            need: 4,
+        });
     }
-    let groups = LittleEndian::read_u32(nla.value());
-    shown_status(show_hex(sink, b" groups:0x", "groups", groups as u64))
+    Ok(LittleEndian::read_u32(bits))
 }

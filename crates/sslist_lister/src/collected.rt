@@ -6,7 +6,7 @@
 //! `slot_attribute` is that of the attribute in a slot, or None, and `collected self.now` is what
 //! the attributes in `self` say.
 
-ghost use Rattle.std.specs.Prelude.{◌≡◌, ◌<◌, ◌++◌, ◌∷◌, ℕ, List, IfOk, None, OnOk, Ok, length};
+ghost use Rattle.std.specs.Prelude.{◌≡◌, ◌<◌, ◌++◌, ◌∷◌, ℕ, List, None, OnOk, Ok, length};
 ghost use Rattle.std.specs.Prelude.{map, slice_index_or};
 ghost use Rattle.std.specs.Option.{option_or};
 ghost use Rattle.netlink_core.specs.Walk.{buffered_attribute};
@@ -18,10 +18,11 @@ ghost use Rattle.sslist_lister.specs.Collected.{with_element};
 ghost use Rattle.sock_diag_extras.specs.Pieces.{AttributeOrError, pieces_in};
 ghost use Rattle.sock_diag_extras.specs.Pieces.{framing_error_of};
 
-use crate::attributes::{Sockets, show_attribute};
+use crate::attributes::status_of_any;
 use crate::facts::Status;
 use crate::pieces::next_piece;
 use netlink_core::{DecodeError, NlaBuffer, NlasIterator};
+use sock_diag_extras::any::{AnyNla, Sockets};
 use sock_diag_extras::constants::INET_DIAG_SOCKOPT;
 use std::alloc::{AllocError, Global};
 
@@ -116,7 +117,7 @@ fn add<'a>(
     ensures others { OnOk result (map other_model others.new.items ≡ map other_model
         others.old.items ++ other_in_piece sockets (Ok (buffered_attribute nla.entry))) }
 {
-    let status = status_in(*others.allocator(), sockets, &nla)?;
+    let status = attribute_status(sockets, &nla);
     if is_valid(&status) {
         set_if_none(slots, nla.kind() as usize, nla);
         Ok(())
@@ -125,14 +126,15 @@ fn add<'a>(
     }
 }
 
-/// Returns the status of an attribute. It shows nothing, since the sink is `()`. The status does
-/// not depend on the argument `utf8`, here `false`.
+/// Returns the status of an attribute of a reply about these sockets.
 #[tactic(auto, unfolding(crate::specs::Collected::attribute_status))]
-fn status_in(alloc: Global, sockets: Sockets, nla: &NlaBuffer<'_>) -> Result<Status, AllocError>
-    ensures { IfOk result (λ status.
-        status ≡ attribute_status sockets (buffered_attribute nla.now)) }
+fn attribute_status(sockets: Sockets, nla: &NlaBuffer<'_>) -> Status
+    ensures { result ≡ attribute_status sockets (buffered_attribute nla.now) }
 {
-    show_attribute(&mut (), alloc, false, sockets, nla)
+    match AnyNla::read(sockets, nla) {
+        Ok(value) => status_of_any(&value),
+        Err(error) => Err(error),
+    }
 }
 
 /// Returns whether a status is that of a valid attribute, which has facts.

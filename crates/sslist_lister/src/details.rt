@@ -14,7 +14,7 @@ ghost use Rattle.sock_diag_records.specs.declared.inet.response.TheConstants.{
   INET_RESPONSE_HEADER_LEN,
 };
 
-use crate::attributes::{Sockets, memory_kind, show_attribute};
+use crate::attributes::{memory_kind, show_attribute};
 use crate::collected::Attributes;
 use crate::command_line::{Detail, Options};
 use crate::facts::Status;
@@ -23,10 +23,11 @@ use crate::texts::cells::push_number;
 use crate::texts::parts::{TimerFields, push_pair, push_shown_cookie, push_shown_timer, separator};
 use byteorder::{ByteOrder, LittleEndian};
 use netlink_core::{DecodeError, NlaBuffer};
+use sock_diag_extras::any::Sockets;
 use sock_diag_extras::constants::INET_DIAG_ULP_INFO;
 use sock_diag_records::constants::{
     INET_DIAG_BBRINFO, INET_DIAG_CONG, INET_DIAG_DCTCPINFO, INET_DIAG_INFO, INET_DIAG_MD5SIG,
-    INET_DIAG_MEMINFO, INET_DIAG_SKMEMINFO, INET_DIAG_VEGASINFO, UNIX_DIAG_MEMINFO,
+    INET_DIAG_MEMINFO, INET_DIAG_VEGASINFO,
 };
 use std::alloc::AllocError;
 
@@ -120,9 +121,7 @@ fn push_facts(
         return Ok(());
     }
     let alloc = *text.allocator();
-    // The status of a valid attribute is always `Ok(true)`.
-    let _ = show_attribute(text, alloc, options.utf8, sockets, nla)?;
-    Ok(())
+    show_attribute(text, alloc, options.utf8, sockets, nla)
 }
 
 /// Appends each unknown or invalid attribute, if the options select its group of details.
@@ -149,9 +148,8 @@ fn detail_group(sockets: Sockets, kind: u16) -> Detail
     ensures { result ≡ detail_group sockets kind }
 {
     match (sockets, kind) {
-        (Sockets::Unix, UNIX_DIAG_MEMINFO)
-        | (Sockets::Inet(_), INET_DIAG_MEMINFO | INET_DIAG_SKMEMINFO) => Detail::Memory,
-        (Sockets::Other(family), _) if memory_kind(family) == Some(kind) => Detail::Memory,
+        (Sockets::Inet(_), INET_DIAG_MEMINFO) => Detail::Memory,
+        _ if memory_kind(sockets) == Some(kind) => Detail::Memory,
         (
             Sockets::Inet(_),
             INET_DIAG_INFO

@@ -68,7 +68,7 @@ pub(crate) enum Shown {
     Letters,
 }
 
-/// What facts are shown in: the text of the table, a line of JSON, or `()`, which shows nothing.
+/// What facts are shown in: the text of the table, or a line of JSON.
 pub(crate) trait FactSink {
     // The type of the items that the sink shows: ASCII codes in the table, tokens in JSON.
     ghost Item: { Type 0 };
@@ -238,81 +238,6 @@ impl FactSink for Vec<u8> {
 
     fn end(&mut self, closing: &[u8]) -> Result<(), AllocError> {
         self.extend_from_slice(closing)
-    }
-
-    ghost items_of_none = { refl };
-
-    ghost items_of_both = { λ a b. refl };
-
-    ghost items_of_group = { λ opening closing member facts. refl };
-}
-
-/// A sink that shows nothing, for calls of which only the status is used.
-impl FactSink for () {
-    // There are no items, so the type does not matter.
-    ghost Item = { ℕ };
-
-    ghost items = { λ facts. [] };
-
-    ghost content = { λ none. record { shown = []; text_before = [] } };
-
-    ghost beginning = { λ opening member. [] };
-
-    ghost ending = { λ closing. [] };
-
-    fn number(
-        &mut self,
-        _format: Shown,
-        _text: &[u8],
-        _member: Option<&str>,
-        _number: u64,
-    ) -> Result<(), AllocError> {
-        Ok(())
-    }
-
-    fn flag(
-        &mut self,
-        _format: Shown,
-        _text: &[u8],
-        _member: &str,
-        _flag: bool,
-    ) -> Result<(), AllocError> {
-        Ok(())
-    }
-
-    fn name(
-        &mut self,
-        _utf8: bool,
-        _text: &[u8],
-        _member: &str,
-        _name: &str,
-    ) -> Result<(), AllocError> {
-        Ok(())
-    }
-
-    fn list(
-        &mut self,
-        _text: &[u8],
-        _member: &str,
-        _numbers: &NumbersView<'_>,
-    ) -> Result<(), AllocError> {
-        Ok(())
-    }
-
-    fn socket_name(&mut self, _alloc: Global, _name: NameView<'_>) -> Result<(), AllocError> {
-        Ok(())
-    }
-
-    fn md5_keys(&mut self, _alloc: Global, _value: &[u8]) -> Result<(), AllocError> {
-        Ok(())
-    }
-
-    fn begin(&mut self, _opening: &[u8], _member: &str) -> Result<(), AllocError> {
-        Ok(())
-    }
-
-    fn end(&mut self, _closing: &[u8]) -> Result<(), AllocError> {
-        Ok(())
     }
 
     ghost items_of_none = { refl };

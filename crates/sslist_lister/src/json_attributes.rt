@@ -20,13 +20,14 @@ ghost use Rattle.sslist_lister.specs.texts.JsonData.{JsonMember, array_member, j
 ghost use Rattle.sslist_lister.specs.texts.JsonData.{object_of, optional_member};
 ghost use Rattle.sslist_lister.specs.texts.JsonWriting.{KeepsPrefix, members_tokens};
 
-use crate::attributes::{Sockets, show_attribute};
+use crate::attributes::show_attribute;
 use crate::collected::Attributes;
 use crate::facts::Status;
 use crate::kinds::reason_of;
 use crate::texts::json_writing::{write_numbers, write_optional, write_text};
 use json::Writer;
 use netlink_core::NlaBuffer;
+use sock_diag_extras::any::Sockets;
 use std::alloc::{AllocError, Global};
 use std::mem;
 
@@ -141,8 +142,8 @@ fn write_valid(
 {
     for slot in slots {
         if let Some(nla) = slot {
-            // `false`: JSON does not depend on `--utf8`. The status is always `Ok(true)`.
-            let _ = show_attribute(writer, alloc, false, sockets, nla)?;
+            // `false`: JSON does not depend on `--utf8`.
+            show_attribute(writer, alloc, false, sockets, nla)?;
         }
     }
     Ok(())

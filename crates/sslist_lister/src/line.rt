@@ -25,9 +25,8 @@ ghost use Rattle.sslist_lister.specs.Selection.{lists_inet};
 ghost use Rattle.sslist_lister.specs.Table.{inet_columns, inet_first_columns, inet_lines};
 ghost use Rattle.sslist_lister.specs.Table.{info_of_reply, unix_columns, unix_first_columns};
 ghost use Rattle.sslist_lister.specs.Table.{unix_lines, unix_value, user_id};
-ghost use Rattle.sslist_lister.specs.declared.attributes.Sockets.TheVariants.{Inet, Unix};
+ghost use Rattle.sock_diag_extras.specs.declared.any.nla.Sockets.TheVariants.{Inet, Unix};
 
-use crate::attributes::{Info, Sockets};
 use crate::collected::Attributes;
 use crate::command_line::{IPPROTO_MPTCP, IPPROTO_TCP, Options};
 use crate::details::{push_details, timer_of};
@@ -44,6 +43,7 @@ use crate::texts::cells::{
 use crate::texts::parts::{NO_TIMER, TimerFields};
 use netlink_core::DecodeError;
 use sock_diag_attributes::unix::nlas::{NameView, NlaView};
+use sock_diag_extras::any::{InfoFormat, Sockets};
 use sock_diag_extras::constants::UNIX_DIAG_UID;
 use sock_diag_extras::parse_uid;
 use sock_diag_records::constants::{
@@ -354,17 +354,17 @@ fn lists_inet(options: Options, socket: &InetSocket) -> bool
             .meets_addresses(id.source_address, id.destination_address)
 }
 
-/// Returns the meaning of `INET_DIAG_INFO` of an SCTP association, or else by the protocol:
+/// Returns the format of `INET_DIAG_INFO` of an SCTP association, or else by the protocol:
 /// `Unknown` for any other than TCP, MPTCP and SCTP, and for `None`.
-fn info_of(protocol: Option<u32>, is_association: bool) -> Info
+fn info_of(protocol: Option<u32>, is_association: bool) -> InfoFormat
     ensures { result ≡ info_of_reply protocol is_association }
 {
     match protocol {
-        _ if is_association => Info::Sctp,
-        Some(IPPROTO_TCP) => Info::Tcp,
-        Some(IPPROTO_MPTCP) => Info::Mptcp,
-        Some(number) if number == IPPROTO_SCTP as u32 => Info::Sctp,
-        _ => Info::Unknown,
+        _ if is_association => InfoFormat::Sctp,
+        Some(IPPROTO_TCP) => InfoFormat::Tcp,
+        Some(IPPROTO_MPTCP) => InfoFormat::Mptcp,
+        Some(number) if number == IPPROTO_SCTP as u32 => InfoFormat::Sctp,
+        _ => InfoFormat::Unknown,
     }
 }
 

@@ -2,9 +2,9 @@
 //! text or to a writer may fail: then an allocation failed, and the content is not specified. The
 //! clauses `prefix` state that the bytes before the first token of the writer are unchanged.
 
-ghost use Rattle.std.specs.Prelude.{◌≡◌, ◌≤◌, ◌++◌, OnOk, SomeIff, flat_map, length};
+ghost use Rattle.std.specs.Prelude.{◌≡◌, ◌≤◌, ◌++◌, OnOk, SomeIff, codes, flat_map, length};
 ghost use Rattle.json.specs.Tree.{json_tokens};
-ghost use Rattle.sslist_lister.specs.Md5Keys.{are_md5_keys, key_at, key_byte, md5_facts};
+ghost use Rattle.sslist_lister.specs.Md5Keys.{key_at, key_byte, md5_facts};
 ghost use Rattle.sslist_lister.specs.Md5Keys.{md5_key_members, md5_key_text, md5_key_value};
 ghost use Rattle.sslist_lister.specs.Md5Keys.{md5_keys, md5_keys_text, peer_member, peer_text};
 ghost use Rattle.sslist_lister.specs.texts.JsonWriting.{KeepsPrefix, members_tokens};
@@ -18,21 +18,13 @@ use std::io::Write;
 use std::net::IpAddr;
 
 /// Length of a `struct tcp_diag_md5sig` in bytes.
-pub(crate) const KEY_LENGTH: usize = 100;
+const KEY_LENGTH: usize = 100;
 
-/// Returns whether a value has at least one key, and only whole ones.
-pub(crate) fn has_md5_keys(value: &[u8]) -> bool
-    ensures { result ≡ are_md5_keys value.now }
-{
-    value.len() >= KEY_LENGTH && value.len() % KEY_LENGTH == 0
-}
-
-/// Appends the keys in a value, as the table shows them.
+/// Appends the keys in a value, as the table shows them. Appends nothing if there are none.
 #[tactic(auto, unfolding(crate::specs::Md5Keys::md5_facts))]
 pub(crate) fn push_md5_keys(text: &mut Vec<u8>, value: &[u8]) -> Result<(), AllocError>
     ensures { OnOk result (text.new.items ≡ text.old.items ++ (md5_facts value.now).text) }
 {
-    text.extend_from_slice(b" md5keys")?;
     push_keys(text, value)
 }
 
@@ -45,19 +37,18 @@ fn read_key(bytes: &[u8]) -> Option<Md5Signature>
     read_attribute_record::<Md5Signature>(bytes)
 }
 
-/// Appends a colon and the keys, separated by commas.
+/// Appends ` md5keys:` and the keys, separated by commas. Appends nothing if there are none.
 #[tactic(auto, using(crate::proofs::Md5Keys::key_rules))]
 fn push_keys(text: &mut Vec<u8>, value: &[u8]) -> Result<(), AllocError>
-    // 58 is the colon.
     ensures { OnOk result (text.new.items ≡ text.old.items
-        ++ md5_keys_text 58 (md5_keys value.now)) }
+        ++ md5_keys_text (codes " md5keys:") (md5_keys value.now)) }
 {
-    let mut separator = b':';
+    let mut separator: &[u8] = b" md5keys:";
     let mut remaining = value;
     while let Some(key) = read_key(remaining) {
-        text.push(separator)?;
+        text.extend_from_slice(separator)?;
         push_key(text, &key)?;
-        separator = b',';
+        separator = b",";
         remaining = &remaining[KEY_LENGTH..];
     }
     Ok(())

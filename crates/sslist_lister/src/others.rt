@@ -22,14 +22,11 @@ ghost use Rattle.sslist_lister.specs.Others.{user_kind, vsock_socket};
 ghost use Rattle.sslist_lister.specs.Others.{u32_in_first};
 ghost use Rattle.sslist_lister.specs.Others.{xdp_socket};
 ghost use Rattle.sock_diag_extras.specs.Pieces.{framing_error_of, pieces_in};
-ghost use Rattle.sslist_lister.specs.declared.attributes.Sockets.TheVariants.{Other};
+ghost use Rattle.sock_diag_extras.specs.declared.any.nla.Sockets.{Sockets as SocketsRead};
+ghost use Rattle.sock_diag_extras.specs.declared.any.nla.Sockets.TheVariants as about;
 ghost use Rattle.sslist_lister.specs.declared.others.OtherSocket.{OtherSocket as SocketShown};
-ghost use Rattle.sslist_lister.specs.declared.command_line.options.Family.{Family as SocketFamily};
-ghost use Rattle.sslist_lister.specs.declared.command_line.options.Family.TheVariants.{Netlink};
-ghost use Rattle.sslist_lister.specs.declared.command_line.options.Family.TheVariants.{Packet};
-ghost use Rattle.sslist_lister.specs.declared.command_line.options.Family.TheVariants.{Vsock, Xdp};
 
-use crate::attributes::{Sockets, memory_kind};
+use crate::attributes::memory_kind;
 use crate::collected::Attributes;
 use crate::command_line::{Family, Options};
 use crate::details::push_details;
@@ -42,6 +39,7 @@ use crate::texts::cells::{
 use crate::texts::parts::NO_TIMER;
 use byteorder::{ByteOrder, LittleEndian};
 use netlink_core::{DecodeError, NlaBuffer, Record, read_record};
+use sock_diag_extras::any::Sockets;
 use sock_diag_families::netlink::NetlinkResponseHeader;
 use sock_diag_families::packet::{PACKET_DIAG_INFO, PACKET_DIAG_UID, PacketResponseHeader};
 use sock_diag_families::vsock::{AF_VSOCK, VsockResponseHeader};
@@ -81,15 +79,15 @@ pub(crate) struct OtherSocket {
 
 /// A header of a reply about a netlink, packet, vsock or XDP socket.
 pub(crate) trait Listed: Record<Param = ()> + JsonHeader + Drop {
-    // The family of the socket.
-    ghost listed_family: { SocketFamily };
+    // The sockets of the family.
+    ghost listed_sockets: { SocketsRead };
 
     // The values that a line shows, by the header and what the reply has in its attributes.
     ghost listed: { Self → Summary → SocketShown };
 
-    /// Returns the family of the socket.
-    fn family() -> Family
-        ensures { result ≡ listed_family };
+    /// Returns the sockets of the family.
+    fn sockets() -> Sockets
+        ensures { result ≡ listed_sockets };
 
     /// Returns the values of the socket with this header and the attributes `found`.
     fn socket(&self, found: &Attributes<'_>) -> OtherSocket
@@ -143,7 +141,7 @@ fn push_listed<H: Listed>(
     payload: &[u8],
 ) -> Result<Option<DecodeError>, AllocError>
     ensures lines { OnOk result (text.new.items ≡ text.old.items
-        ++ reply_lines H.layout (Other H.listed_family)
+        ++ reply_lines H.layout H.listed_sockets
         (λ header summary. other_output options list (H.listed header summary)
         (H.json_members header) summary) payload.now) }
     ensures error { IfOk result (λ error. error ≡ reply_error H.layout payload.now) }
@@ -163,14 +161,14 @@ fn push_socket<H: Listed>(
     header: &H,
     bytes: &[u8],
 ) -> Result<Option<DecodeError>, AllocError>
-    ensures lines { let summary = summary_of (Other H.listed_family) (pieces_in bytes.now) in
+    ensures lines { let summary = summary_of H.listed_sockets (pieces_in bytes.now) in
         OnOk result (text.new.items ≡ text.old.items
         ++ other_output options list (H.listed header.now summary) (H.json_members header.now)
         summary) }
     ensures error { IfOk result
         (λ error. error ≡ framing_error_of (pieces_in bytes.now)) }
 {
-    let mut found = Attributes::new(*text.allocator(), Sockets::Other(H::family()));
+    let mut found = Attributes::new(*text.allocator(), H::sockets());
     found.collect(bytes)?;
     let socket = header.socket(&found);
     push_output(text, options, list, header, &socket, &found)?;
@@ -248,7 +246,7 @@ fn push_other_columns(
 fn other_cells(socket: &OtherSocket, found: &Attributes<'_>) -> Cells
     ensures { cells_model result ≡ other_first_columns socket.now (collected found.now) }
 {
-    let memory = memory_kind(socket.family);
+    let memory = memory_kind(found.sockets);
     Cells {
         kind: name_of_other_kind(socket.family, socket.kind).as_bytes(),
         state: name_of_state(socket.state).as_bytes(),
@@ -333,12 +331,12 @@ fn interface_number(found: &Attributes<'_>, kind: u16) -> Option<u32>
 }
 
 impl Listed for NetlinkResponseHeader {
-    ghost listed_family = { Netlink };
+    ghost listed_sockets = { about.Netlink };
 
     ghost listed = { netlink_socket };
 
-    fn family() -> Family {
-        Family::Netlink
+    fn sockets() -> Sockets {
+        Sockets::Netlink
     }
 
     fn socket(&self, _found: &Attributes<'_>) -> OtherSocket {
@@ -361,12 +359,12 @@ impl Listed for NetlinkResponseHeader {
 }
 
 impl Listed for PacketResponseHeader {
-    ghost listed_family = { Packet };
+    ghost listed_sockets = { about.Packet };
 
     ghost listed = { packet_socket };
 
-    fn family() -> Family {
-        Family::Packet
+    fn sockets() -> Sockets {
+        Sockets::Packet
     }
 
     fn socket(&self, found: &Attributes<'_>) -> OtherSocket {
@@ -385,12 +383,12 @@ impl Listed for PacketResponseHeader {
 }
 
 impl Listed for VsockResponseHeader {
-    ghost listed_family = { Vsock };
+    ghost listed_sockets = { about.Vsock };
 
     ghost listed = { vsock_socket };
 
-    fn family() -> Family {
-        Family::Vsock
+    fn sockets() -> Sockets {
+        Sockets::Vsock
     }
 
     fn socket(&self, _found: &Attributes<'_>) -> OtherSocket {
@@ -414,12 +412,12 @@ impl Listed for VsockResponseHeader {
 }
 
 impl Listed for XdpResponseHeader {
-    ghost listed_family = { Xdp };
+    ghost listed_sockets = { about.Xdp };
 
     ghost listed = { xdp_socket };
 
-    fn family() -> Family {
-        Family::Xdp
+    fn sockets() -> Sockets {
+        Sockets::Xdp
     }
 
     fn socket(&self, found: &Attributes<'_>) -> OtherSocket {

@@ -6,10 +6,10 @@
 //! showed before, and `AddsItems` states it of items. `S.content sink.old` and `S.content sink.new`
 //! are what the sink shows before and after the call.
 
-ghost use Rattle.std.specs.Prelude.{◌≡◌, ◌≤◌, IfOk, OnOk, codes, flat_map, map, option_map};
+ghost use Rattle.std.specs.Prelude.{◌≡◌, ◌≤◌, OnOk, codes, flat_map, map, option_map};
 ghost use Rattle.netlink_core.specs.Errors.{map_ok};
-ghost use Rattle.sslist_lister.specs.Facts.{AddsFacts, AddsItems, AddsOutcome, facts_of_each};
-ghost use Rattle.sslist_lister.specs.Facts.{json_group};
+ghost use Rattle.sslist_lister.specs.Facts.{AddsFacts, AddsItems, facts_in, facts_of_each};
+ghost use Rattle.sslist_lister.specs.Facts.{json_group, status_of};
 ghost use Rattle.sslist_lister.specs.UlpInfo.{nested_group, nested_number, nested_value};
 ghost use Rattle.sslist_lister.specs.UlpInfo.{presence_facts, tokens_in};
 ghost use Rattle.sslist_lister.specs.UlpInfo.{subflow_facts, subflow_rows, tls_facts};
@@ -94,19 +94,26 @@ static SUBFLOW_ROWS: [UlpRow; 10] = [
     subflow!(Never, b"", "id_loc", LocalId),
 ];
 
-/// Shows the upper layer protocol in the value of an attribute, and returns the status of the
-/// attribute. If the value has no valid name, shows nothing, and the status is the error of the
+/// Returns the status of an attribute with this value: if it has no valid name, the error of the
 /// name.
-pub(crate) fn show_ulp<S: FactSink>(sink: &mut S, value: &[u8]) -> Result<Status, AllocError>
-    ensures { IfOk result (AddsOutcome (S.content sink.old) (S.content sink.new)
-        (ulp_outcome value.now)) }
+pub(crate) fn status_of_ulp(value: &[u8]) -> Status
+    ensures { result ≡ status_of (ulp_outcome value.now) }
 {
     match name_of_protocol(value) {
-        Ok(name) => {
-            show_ulp_info(sink, name, value)?;
-            Ok(Ok(true))
-        }
-        Err(error) => Ok(Err(error)),
+        Ok(_) => Ok(true),
+        Err(error) => Err(error),
+    }
+}
+
+/// Shows the upper layer protocol in the value of an attribute. Shows nothing if the value has no
+/// valid name.
+pub(crate) fn show_ulp<S: FactSink>(sink: &mut S, value: &[u8]) -> Result<(), AllocError>
+    ensures { OnOk result (AddsFacts (S.content sink.old) (S.content sink.new)
+        (facts_in (ulp_outcome value.now))) }
+{
+    match name_of_protocol(value) {
+        Ok(name) => show_ulp_info(sink, name, value),
+        Err(_) => Ok(()),
     }
 }
 

@@ -8,5 +8,5 @@ loop-key-preserved c =
     let remaining = c.loop-key.remaining.now in
     let long : 100 ≤ length remaining = search rules in
     let is : c.in-Some.key ≡ key_at remaining = search rules in
-    keys_pushed _ _ _ _ remaining c.loop-key.separator c.in-Some.key long is
-    c.in_ok-push.ensures.items c.in_ok-push_key.ensures c.loop-key.invariant
+    keys_pushed _ _ _ _ remaining c.loop-key.separator.now c.in-Some.key long is
+    c.in_ok-extend_from_slice.ensures.items c.in_ok-push_key.ensures c.loop-key.invariant

@@ -3,7 +3,7 @@ use Rattle.sslist_lister.proofs.others.push_socket.Goals as goal
 pub returns-clause-lines : goal.returns-clause-lines
 returns-clause-lines g c =
     rw (
-      ← c.family.ensures,
+      ← c.sockets.ensures,
       ← c.new-found.ensures.sockets,
       ← c.in_ok-collect.ensures.summary,
       ← c.socket-socket.ensures,
