@@ -501,7 +501,7 @@ class Outline:
     def declaration(path, name):
         """Returns the file and the line of a type or a constant of the code, and its name."""
         file = path.with_suffix(".rt") if path.with_suffix(".rt").is_file() else path / "mod.rt"
-        declares = re.compile(rf"\b(?:struct|enum|const|type|trait) {re.escape(name)}\b")
+        declares = re.compile(rf"\b(?:struct|enum|const|static|type|trait) {re.escape(name)}\b")
         lines = file.read_text("utf-8").splitlines() if file.is_file() else []
         at = next((number for number, line in enumerate(lines, 1) if declares.search(line)), "")
         return f"{file.relative_to(ROOT.parent)}:{at}: {name}"

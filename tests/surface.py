@@ -26,7 +26,9 @@ A line ends with the names of the clauses, ghost members and invariants, and wit
 text, without comments, and of the imports that rename by `as` what the text names. So a contract
 that changes is a difference. Each definition that a promise reaches, by the rules of believed.py,
 has a line too, with its module, its name and a sum of its text and of what its names refer to. So a
-definition that becomes weaker is a difference, if no contract that names it changes.
+definition that becomes weaker is a difference, if no contract that names it changes. So has each
+constant that such a definition names, if no path reaches it: a sum of its declaration, and of the
+macros of its module if it calls one.
 """
 
 import difflib
@@ -395,12 +397,30 @@ def facts_of(item):
     return text + "".join(f"; {it}" for it in item.attributes if not QUIET.match(it))
 
 
-def definition_lines():
-    """Yields the line of each definition that a promise reaches."""
+def definition_lines(crates):
+    """Yields the line of each definition that a promise reaches, and of each constant that one of
+    them names and no path reaches."""
     _, specs = believed.follow_promises()
+    named, crates = set(), {crate.name: crate for crate in crates}
     for module, item in specs.reached(believed.CRATES + believed.OTHERS):
         if item.kind != "module":
             yield f"{module.name}: {item.name}; {short_sum(module.text_of(item))}"
+            named.update(constants_named(module, item))
+    for crate, path in named:
+        found = crates[crate].root.find(path) if crate in crates else None
+        if isinstance(found, Item) and found not in crates[crate].paths:
+            macros = [text_of(it.body) for it in found.module.macros if "!(" in found.text]
+            yield f"{crate}::{path}: {found.kind}; {short_sum(found.text + ''.join(macros))}"
+
+
+def constants_named(module, item):
+    """Yields the crate and the path of each constant of the code that a definition names."""
+    for path in item.paths():
+        head, *rest = path.split(".")
+        target, name = module.names.get(head, ("", ""))
+        found = re.fullmatch(r"Rattle\.(\w+)\.specs\.declared\.((?:\w+\.)*)TheConstants", target)
+        if found:
+            yield found[1], found[2].replace(".", "::") + (name or rest[0])
 
 
 def header_lines(text, contracts):
@@ -443,7 +463,8 @@ def main():
     contracts = {it.name: sum_of([*it.contract()], it.module) for it in exports}
     header = (TOP / "include/sockdiag.h").read_text(encoding="utf-8")
     lists = {
-        "surface.txt": [*definition_lines(), *(line for crate in crates for line in crate.lines)],
+        "surface.txt": [*definition_lines(crates),
+            *(line for crate in crates for line in crate.lines)],
         "surface_c.txt": header_lines(header, contracts),
     }
     outdated = sum(not is_current(name, lines, writes) for name, lines in lists.items())

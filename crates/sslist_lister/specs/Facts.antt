@@ -2,7 +2,7 @@
 -- parenthesis and 44 a comma.
 use Rattle.std.specs.Prelude.{◌≡◌, ℕ, ◌==◌, ◌/◌, ◌%◌, ◌||◌, if◌then◌else◌, Bool, List, [], ◌∷◌}
 use Rattle.std.specs.Prelude.{◌++◌, bit_and, codes, decimal, false, flat_map, is_some}
-use Rattle.std.specs.Prelude.{length, nat_le, Option, None, Some, option_map, Result, Ok, Err}
+use Rattle.std.specs.Prelude.{Option, None, Some, option_map, Result, Ok, Err}
 use Rattle.std.specs.Prelude.{unwrap_or}
 use Rattle.std.specs.Borrow.{Bor}
 use Rattle.std.specs.Fmt.{digits}

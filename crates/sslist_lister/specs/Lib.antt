@@ -8,8 +8,10 @@ pub mod Selection
 pub mod Table
 pub mod Md5Keys
 pub mod UlpInfo
+pub mod Rows
 pub mod Facts
 pub mod Tcp
+pub mod TcpRows
 pub mod AttributeFacts
 pub mod UlpNames
 pub mod Collected

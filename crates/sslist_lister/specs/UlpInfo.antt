@@ -2,9 +2,10 @@
 -- of attributes, which may consist of attributes again. Of each type the first one counts. Names in
 -- JSON are the kernel's names without the prefixes `INET_ULP_INFO_`, `TLS_INFO_` and
 -- `MPTCP_SUBFLOW_ATTR_`; the texts are those of ss(8).
-use Rattle.std.specs.Prelude.{ℕ, ◌==◌, if◌then◌else◌, List, [], ◌∷◌, codes, is_some, length, Option}
-use Rattle.std.specs.Prelude.{None, Some, Result, Err, false, option_and_then, option_map}
+use Rattle.std.specs.Prelude.{ℕ, ◌==◌, if◌then◌else◌, Bool, List, codes, is_some, length}
+use Rattle.std.specs.Prelude.{Option, None, Some, Result, Err, false, option_and_then, option_map}
 use Rattle.std.specs.Borrow.{Bor}
+use Rattle.std.specs.List.{list_all}
 use Rattle.std.specs.Option.{option_map_or}
 use Rattle.byteorder.specs.Endian.{little_number}
 use Rattle.netlink_core.specs.Parse.{parse_text}
@@ -16,15 +17,14 @@ use Rattle.sock_diag_extras.specs.declared.constants.TheConstants.{INET_ULP_INFO
 use Rattle.sock_diag_extras.specs.declared.constants.TheConstants.{INET_ULP_INFO_TLS}
 use Rattle.sock_diag_extras.specs.declared.constants.TheConstants.{TLS_INFO_RX_NO_PAD}
 use Rattle.sock_diag_extras.specs.declared.constants.TheConstants.{TLS_INFO_ZC_RO_TX}
-use Rattle.sock_diag_extras.specs.declared.ulp_info.SubflowField.TheVariants as subflow
-use Rattle.sock_diag_extras.specs.declared.ulp_info.TlsField.TheVariants as tls
 use Rattle.sslist_lister.specs.Facts.{Facts, Outcome, both, facts_of_each, flag_facts, json_group}
-use Rattle.sslist_lister.specs.Facts.{no_facts, number_row_facts, numbers, parsed_outcome}
-use Rattle.sslist_lister.specs.Facts.{text_facts}
+use Rattle.sslist_lister.specs.Facts.{no_facts, number_facts, parsed_outcome, text_facts}
 use Rattle.sock_diag_extras.specs.Pieces.{first_of_kind, pieces_in}
+use Rattle.sslist_lister.specs.Rows.{Text, text_of}
 use Rattle.sslist_lister.specs.declared.facts.Shown.{Shown}
-use Rattle.sslist_lister.specs.declared.facts.Shown.TheVariants.{Always, Bits, Cipher, Closed, Hex}
-use Rattle.sslist_lister.specs.declared.facts.Shown.TheVariants.{Letters, Mode, Never, Version}
+use Rattle.sslist_lister.specs.declared.facts.Shown.TheVariants.{Bits}
+use Rattle.sslist_lister.specs.declared.ulp_info.TheConstants.{FLAG_ROWS, SUBFLOW_ROWS, TLS_ROWS}
+use Rattle.sslist_lister.specs.declared.ulp_info.TheConstants.{TOKEN_ROWS}
 use Rattle.sslist_lister.specs.declared.ulp_info.UlpField.{UlpField}
 use Rattle.sslist_lister.specs.declared.ulp_info.UlpField.TheVariants.{Subflow, Tls}
 
@@ -56,36 +56,31 @@ ulp_name value = option_map_or parse_text (nested_value INET_ULP_INFO_NAME value
 
 -- ---- rows
 
--- a row: how the table shows a number (`.0`), its text there (`.1`), its name in JSON (`.2`), and
--- its field (`.3`)
+-- a row of `src/ulp_info.rt`: how the table shows a number (`.0`), its text there (`.1`), its name
+-- in JSON (`.2`), and its field (`.3`)
 abbrev pub UlpRow : Type 0
-UlpRow = Shown × List ℕ × Option (List ℕ) × UlpField
+UlpRow = Shown × Text × Option Text × UlpField
 
--- the model of a row in the program (`UlpRow` of `src/ulp_info.rt`), whose texts are borrowed
+-- a row that the code borrows, as a constant has it
 abbrev pub ulp_row_of : Shown × Bor (List ℕ) × Option (Bor (List ℕ)) × UlpField → UlpRow
-ulp_row_of row = (row.0, row.1.now, option_map (λ member. member.now) row.2, row.3)
+ulp_row_of row = (row.0, text_of row.1, option_map text_of row.2, row.3)
 
 -- `ulp_row bytes row`: the fact of a row; no fact if the nested attributes `bytes` do not have its
 -- field
 unfoldable pub ulp_row : List ℕ → UlpRow → Facts
-ulp_row bytes row = number_row_facts (row.0, row.1, row.2, ulp_number bytes row.3)
+ulp_row bytes row =
+    option_map_or (number_facts row.0 row.1.now (option_map (λ member. member.now) row.2))
+    (ulp_number bytes row.3) no_facts
+
+-- `has_fields bytes rows`: the nested attributes have the field of each row
+abbrev pub has_fields : List ℕ → List UlpRow → Bool
+has_fields bytes rows = list_all (λ row. is_some (ulp_number bytes row.3)) rows
+
+-- `ulp_rows bytes rows`: the facts of those rows whose field the nested attributes have, in order
+unfoldable pub ulp_rows : List ℕ → List UlpRow → Facts
+ulp_rows bytes rows = facts_of_each (ulp_row bytes) rows
 
 -- ---- TLS in the kernel
-
--- The numbers about TLS. `rxconf` has two rows, since the table shows it before `txconf`, and JSON
--- has it after.
-unfoldable pub tls_rows : List UlpRow
-tls_rows =
-    (Version, codes " version:", Some (codes "version"), Tls tls.Version) ∷
-    (Cipher, codes " cipher:", Some (codes "cipher"), Tls tls.Cipher) ∷
-    (Mode, codes " rxconf:", None, Tls tls.Receiving) ∷
-    (Mode, codes " txconf:", Some (codes "txconf"), Tls tls.Sending) ∷
-    (Never, [], Some (codes "rxconf"), Tls tls.Receiving) ∷ (
-      Always,
-      codes " tx_max_payload_len:",
-      Some (codes "tx_max_payload_len"),
-      Tls tls.SendingMaxPayload,
-    ) ∷ []
 
 -- `presence_facts kind text member bytes`: whether the nested attributes `bytes` have one of this
 -- type. The table shows `text` if they do (`Bits 1` of the number 0 or 1). JSON has `member`.
@@ -95,48 +90,24 @@ presence_facts kind text member bytes =
 
 -- the facts of the nested attributes about TLS: the numbers, and whether each flag is present
 unfoldable pub tls_facts : List ℕ → Facts
-tls_facts bytes = both (facts_of_each (ulp_row bytes) tls_rows)
+tls_facts bytes = both (ulp_rows bytes TLS_ROWS)
     (both (presence_facts TLS_INFO_ZC_RO_TX (codes " zc_ro_tx") (codes "zc_ro_tx") bytes)
     (presence_facts TLS_INFO_RX_NO_PAD (codes " no_pad_rx") (codes "rx_no_pad") bytes))
 
 -- ---- subflows of MPTCP connections
 
--- `token_facts remote remote_id local local_id`: the tokens of a connection, and the ids of the
--- addresses. The table has ` token:REMOTE(id:ID)/LOCAL(id:ID)` if all four are present; `Closed`
--- adds the closing parenthesis. JSON has them by `subflow_rows` instead, hence `None`.
-abbrev pub token_facts : Option ℕ → Option ℕ → Option ℕ → Option ℕ → Facts
-token_facts (Some remote) (Some remote_id) (Some local) (Some local_id) = numbers (
-    (Hex, codes " token:", None, Some remote) ∷ (Closed, codes "(id:", None, Some remote_id) ∷
-    (Hex, codes "/", None, Some local) ∷ (Closed, codes "(id:", None, Some local_id) ∷ [])
-token_facts _ _ _ _ = no_facts
-
--- the tokens and the ids in the nested attributes
-abbrev pub tokens_in : List ℕ → Facts
-tokens_in bytes = token_facts (ulp_number bytes (Subflow subflow.RemoteToken))
-    (ulp_number bytes (Subflow subflow.RemoteId)) (ulp_number bytes (Subflow subflow.LocalToken))
-    (ulp_number bytes (Subflow subflow.LocalId))
-
--- The numbers of a subflow. The table shows the flags, the tokens and the ids by other rows, which
--- `subflow_facts` puts before these.
-unfoldable pub subflow_rows : List UlpRow
-subflow_rows =
-    (Never, [], Some (codes "token_rem"), Subflow subflow.RemoteToken) ∷
-    (Never, [], Some (codes "token_loc"), Subflow subflow.LocalToken) ∷
-    (Never, [], Some (codes "relwrite_seq"), Subflow subflow.RelativeWriteSequence) ∷
-    (Hex, codes " seq:", Some (codes "map_seq"), Subflow subflow.MapSequence) ∷
-    (Hex, codes " sfseq:", Some (codes "map_sfseq"), Subflow subflow.MapSubflowSequence) ∷
-    (Hex, codes " ssnoff:", Some (codes "ssn_offset"), Subflow subflow.SequenceOffset) ∷
-    (Hex, codes " maplen:", Some (codes "map_datalen"), Subflow subflow.MapLength) ∷
-    (Never, [], Some (codes "flags"), Subflow subflow.Flags) ∷
-    (Never, [], Some (codes "id_rem"), Subflow subflow.RemoteId) ∷
-    (Never, [], Some (codes "id_loc"), Subflow subflow.LocalId) ∷ []
+-- The tokens of a connection, and the ids of the addresses. The table has
+-- ` token:REMOTE(id:ID)/LOCAL(id:ID)` if all four are present, or else nothing. JSON has them by
+-- `SUBFLOW_ROWS`.
+abbrev pub token_facts : List ℕ → Facts
+token_facts bytes =
+    if has_fields bytes TOKEN_ROWS then ulp_rows bytes TOKEN_ROWS else no_facts
 
 -- the facts of the nested attributes of a subflow: the letters of the flags, the tokens with the
 -- ids, and then the other numbers
 unfoldable pub subflow_facts : List ℕ → Facts
 subflow_facts bytes =
-    both (ulp_row bytes (Letters, codes " flags:", None, Subflow subflow.Flags))
-    (both (tokens_in bytes) (facts_of_each (ulp_row bytes) subflow_rows))
+    both (ulp_rows bytes FLAG_ROWS) (both (token_facts bytes) (ulp_rows bytes SUBFLOW_ROWS))
 
 -- ---- the attribute
 

@@ -4,6 +4,7 @@ pub mod AddressText
 pub mod EqualFilter
 pub mod EqualOptions
 pub mod LongNames
+pub mod StateGroups
 pub mod EqualListError
 pub mod MemberTokens
 pub mod Constants

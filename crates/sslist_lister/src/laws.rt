@@ -1,6 +1,11 @@
-//! Properties of types that have no `Exact`: `clone`.
+//! Properties of types that have no `Exact`: `clone`. And which fields the rows of [`crate::tcp`]
+//! are about.
 
-ghost use Rattle.std.specs.Prelude.{◌≡◌, IsOk, IfOk};
+ghost use Rattle.std.specs.Prelude.{◌≡◌, [], ◌∷◌, ◌++◌, map, IsOk, IfOk};
+ghost use Rattle.sock_diag_extras.specs.MptcpFields.{mptcp_fields, mptcp_span_of};
+ghost use Rattle.sock_diag_extras.specs.TcpFields.{tcp_span_of};
+ghost use Rattle.sslist_lister.specs.TcpRows.{spans_of_rows, tcp_number_fields, tcp_rows};
+ghost use Rattle.sslist_lister.specs.declared.tcp.TheConstants.{MPTCP_ROWS};
 
 use crate::command_line::Choice;
 use crate::texts::cells::Cells;
@@ -21,3 +26,11 @@ pub fn copied_cells(v: &Cells) -> Result<Cells, AllocError>
 {
     v.clone()
 }
+
+/// States that the rows of each struct are about all of its fields, in order, at their offsets and
+/// with their widths.
+pub fn rows_are_fields()
+    // The last rows of `struct tcp_info` are about the byte at 276, which has its first bit fields.
+    ensures tcp { spans_of_rows tcp_rows ≡ map tcp_span_of tcp_number_fields ++ (276, 1) ∷ [] }
+    ensures mptcp { spans_of_rows MPTCP_ROWS ≡ map mptcp_span_of mptcp_fields }
+{}

@@ -3,16 +3,15 @@
 //! the content of the sink is not specified. In the contracts, `AddsFacts old new facts` states
 //! that the sink shows these facts after what it showed before, and `AddsItems` states it of items.
 //! `S.content sink.old` and `S.content sink.new` are what the sink shows before and after the call.
-//! A function that returns rows has a definition of the same name, with the same rows. The
-//! definition names the fields of the struct instead of their offsets.
+//!
+//! The definitions name the tables of this module. [`crate::laws::rows_are_fields`] states which
+//! fields their rows are about.
 
 ghost use Rattle.std.specs.Prelude.{◌≡◌, OnOk, flat_map, map, option_map};
 ghost use Rattle.sslist_lister.specs.Facts.{AddsFacts, AddsItems};
-ghost use Rattle.sslist_lister.specs.Tcp.{part_bits, bytes_from, field_facts, field_in};
-ghost use Rattle.sslist_lister.specs.Tcp.{field_row_of};
-ghost use Rattle.sslist_lister.specs.Tcp.{has_scales, mptcp_info, mptcp_rows, number_in};
-ghost use Rattle.sslist_lister.specs.Tcp.{row_facts, tcp_fields, tcp_info, tcp_metric_rows};
-ghost use Rattle.sslist_lister.specs.Tcp.{tcp_rate_rows, tcp_state_rows};
+ghost use Rattle.sslist_lister.specs.Tcp.{bytes_from, field_facts, field_in, field_row_of};
+ghost use Rattle.sslist_lister.specs.Tcp.{has_scales, mptcp_info, number_in, part_bits, row_facts};
+ghost use Rattle.sslist_lister.specs.Tcp.{tcp_fields, tcp_info};
 
 use crate::facts::{FactSink, Shown};
 use byteorder::{ByteOrder, LittleEndian};
@@ -244,9 +243,9 @@ fn show_tcp_fields<S: FactSink>(sink: &mut S, bytes: &[u8]) -> Result<(), AllocE
     ensures { OnOk result (AddsFacts (S.content sink.old) (S.content sink.new)
         (tcp_fields bytes.now)) }
 {
-    show_fields(sink, bytes, tcp_state_rows())?;
-    show_fields(sink, bytes, tcp_metric_rows())?;
-    show_fields(sink, bytes, tcp_rate_rows())
+    show_fields(sink, bytes, &TCP_STATE_ROWS)?;
+    show_fields(sink, bytes, &TCP_METRIC_ROWS)?;
+    show_fields(sink, bytes, &TCP_RATE_ROWS)
 }
 
 /// Shows the fields of `struct mptcp_info` that the bytes contain, as the group `info`.
@@ -255,40 +254,8 @@ pub(crate) fn show_mptcp_info<S: FactSink>(sink: &mut S, bytes: &[u8]) -> Result
         (mptcp_info bytes.now)) }
 {
     sink.begin(b"", "info")?;
-    show_fields(sink, bytes, mptcp_rows())?;
+    show_fields(sink, bytes, &MPTCP_ROWS)?;
     sink.end(b"")
-}
-
-/// Returns the rows of the first eight bytes of `struct tcp_info`.
-#[tactic(auto, unfolding(crate::specs::Tcp::tcp_state_rows))]
-fn tcp_state_rows() -> &'static [FieldRow]
-    ensures { map field_row_of result.now ≡ tcp_state_rows }
-{
-    &TCP_STATE_ROWS
-}
-
-/// Returns the rows of the times and metrics in `struct tcp_info`.
-#[tactic(auto, unfolding(crate::specs::Tcp::tcp_metric_rows))]
-fn tcp_metric_rows() -> &'static [FieldRow]
-    ensures { map field_row_of result.now ≡ tcp_metric_rows }
-{
-    &TCP_METRIC_ROWS
-}
-
-/// Returns the rows of the rates and counters in `struct tcp_info`.
-#[tactic(auto, unfolding(crate::specs::Tcp::tcp_rate_rows))]
-fn tcp_rate_rows() -> &'static [FieldRow]
-    ensures { map field_row_of result.now ≡ tcp_rate_rows }
-{
-    &TCP_RATE_ROWS
-}
-
-/// Returns the rows of `struct mptcp_info`.
-#[tactic(auto, unfolding(crate::specs::Tcp::mptcp_rows))]
-fn mptcp_rows() -> &'static [FieldRow]
-    ensures { map field_row_of result.now ≡ mptcp_rows }
-{
-    &MPTCP_ROWS
 }
 
 /// Shows the facts of those of these rows whose number the bytes have, in the order of the rows.
@@ -300,7 +267,7 @@ fn show_fields<S: FactSink>(sink: &mut S, bytes: &[u8], rows: &[FieldRow]) -> Re
 }
 
 /// Does what [`show_fields`] does. The contract states it of items, as the loop appends them.
-#[tactic(auto, unfolding(crate::specs::Tcp::row_facts))]
+#[tactic(auto, using(crate::proofs::Rows::same_bytes), unfolding(crate::specs::Tcp::row_facts))]
 fn show_rows<S: FactSink>(sink: &mut S, bytes: &[u8], rows: &[FieldRow]) -> Result<(), AllocError>
     ensures { OnOk result (AddsItems (S.content sink.old) (S.content sink.new)
         (flat_map (λ row. S.items (row_facts bytes.now (field_row_of row))) rows.now)) }

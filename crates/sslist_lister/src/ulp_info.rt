@@ -8,15 +8,15 @@
 
 ghost use Rattle.std.specs.Prelude.{◌≡◌, ◌≤◌, OnOk, codes, flat_map, map, option_map};
 ghost use Rattle.netlink_core.specs.Errors.{map_ok};
-ghost use Rattle.sslist_lister.specs.Facts.{AddsFacts, AddsItems, facts_in, facts_of_each};
-ghost use Rattle.sslist_lister.specs.Facts.{json_group, status_of};
-ghost use Rattle.sslist_lister.specs.UlpInfo.{nested_group, nested_number, nested_value};
-ghost use Rattle.sslist_lister.specs.UlpInfo.{presence_facts, tokens_in};
-ghost use Rattle.sslist_lister.specs.UlpInfo.{subflow_facts, subflow_rows, tls_facts};
-ghost use Rattle.sslist_lister.specs.UlpInfo.{tls_rows, token_facts, ulp_name, ulp_number};
+ghost use Rattle.sslist_lister.specs.Facts.{AddsFacts, AddsItems, facts_in, json_group, status_of};
+ghost use Rattle.sslist_lister.specs.Rows.{text_of};
+ghost use Rattle.sslist_lister.specs.UlpInfo.{has_fields, nested_group, nested_number};
+ghost use Rattle.sslist_lister.specs.UlpInfo.{nested_value, presence_facts, subflow_facts};
+ghost use Rattle.sslist_lister.specs.UlpInfo.{tls_facts, token_facts, ulp_name, ulp_number};
 ghost use Rattle.sslist_lister.specs.UlpInfo.{ulp_outcome, ulp_parts, ulp_row, ulp_row_of};
+ghost use Rattle.sslist_lister.specs.UlpInfo.{ulp_rows};
 
-use crate::facts::{FactSink, NumberRow, Shown, Status, show_numbers};
+use crate::facts::{FactSink, Shown, Status};
 use crate::pieces::find_kind;
 use byteorder::{ByteOrder, LittleEndian};
 use netlink_core::{DecodeError, parse_str};
@@ -53,11 +53,11 @@ macro_rules! tls {
 
 /// A number of a subflow.
 macro_rules! subflow {
-    ($format:ident, $text:literal, $member:literal, $field:ident) => {
+    ($format:ident, $text:literal, $member:expr, $field:ident) => {
         (
             Shown::$format,
             $text,
-            Some($member),
+            $member,
             UlpField::Subflow(SubflowField::$field),
         )
     };
@@ -79,19 +79,31 @@ static TLS_ROWS: [UlpRow; 6] = [
     ),
 ];
 
-/// The numbers of a subflow. The table shows the flags, the tokens and the ids before these, by
-/// [`show_subflow_parts`].
+/// The flags of a subflow in the table, as letters.
+static FLAG_ROWS: [UlpRow; 1] = [subflow!(Letters, b" flags:", None, Flags)];
+
+/// The tokens of a connection and the ids of the addresses in the table, which has
+/// ` token:REMOTE(id:ID)/LOCAL(id:ID)`.
+static TOKEN_ROWS: [UlpRow; 4] = [
+    subflow!(Hex, b" token:", None, RemoteToken),
+    subflow!(Closed, b"(id:", None, RemoteId),
+    subflow!(Hex, b"/", None, LocalToken),
+    subflow!(Closed, b"(id:", None, LocalId),
+];
+
+/// The numbers of a subflow. The table shows the flags, the tokens and the ids before these, by the
+/// rows above.
 static SUBFLOW_ROWS: [UlpRow; 10] = [
-    subflow!(Never, b"", "token_rem", RemoteToken),
-    subflow!(Never, b"", "token_loc", LocalToken),
-    subflow!(Never, b"", "relwrite_seq", RelativeWriteSequence),
-    subflow!(Hex, b" seq:", "map_seq", MapSequence),
-    subflow!(Hex, b" sfseq:", "map_sfseq", MapSubflowSequence),
-    subflow!(Hex, b" ssnoff:", "ssn_offset", SequenceOffset),
-    subflow!(Hex, b" maplen:", "map_datalen", MapLength),
-    subflow!(Never, b"", "flags", Flags),
-    subflow!(Never, b"", "id_rem", RemoteId),
-    subflow!(Never, b"", "id_loc", LocalId),
+    subflow!(Never, b"", Some("token_rem"), RemoteToken),
+    subflow!(Never, b"", Some("token_loc"), LocalToken),
+    subflow!(Never, b"", Some("relwrite_seq"), RelativeWriteSequence),
+    subflow!(Hex, b" seq:", Some("map_seq"), MapSequence),
+    subflow!(Hex, b" sfseq:", Some("map_sfseq"), MapSubflowSequence),
+    subflow!(Hex, b" ssnoff:", Some("ssn_offset"), SequenceOffset),
+    subflow!(Hex, b" maplen:", Some("map_datalen"), MapLength),
+    subflow!(Never, b"", Some("flags"), Flags),
+    subflow!(Never, b"", Some("id_rem"), RemoteId),
+    subflow!(Never, b"", Some("id_loc"), LocalId),
 ];
 
 /// Returns the status of an attribute with this value: if it has no valid name, the error of the
@@ -164,7 +176,7 @@ fn show_tls_parts<S: FactSink>(sink: &mut S, bytes: &[u8]) -> Result<(), AllocEr
     ensures { OnOk result (AddsFacts (S.content sink.old) (S.content sink.new)
         (tls_facts bytes.now)) }
 {
-    show_tls_numbers(sink, bytes)?;
+    show_fields(sink, bytes, &TLS_ROWS)?;
     show_presence(sink, bytes, TLS_INFO_ZC_RO_TX, b" zc_ro_tx", "zc_ro_tx")?;
     show_presence(sink, bytes, TLS_INFO_RX_NO_PAD, b" no_pad_rx", "rx_no_pad")
 }
@@ -184,22 +196,6 @@ fn show_presence<S: FactSink>(
     let is_present = find_value(bytes, kind).is_some();
     // The flag is the number 0 or 1, so `Bits(1)` shows the text if it is set.
     sink.flag(Shown::Bits(1), text, member, is_present)
-}
-
-/// Shows the numbers about TLS.
-fn show_tls_numbers<S: FactSink>(sink: &mut S, bytes: &[u8]) -> Result<(), AllocError>
-    ensures { OnOk result (AddsFacts (S.content sink.old) (S.content sink.new)
-        (facts_of_each (ulp_row bytes.now) tls_rows)) }
-{
-    show_rows(sink, bytes, list_tls_rows())
-}
-
-/// Returns the rows of the numbers about TLS.
-#[tactic(auto, unfolding(crate::specs::UlpInfo::tls_rows))]
-fn list_tls_rows() -> &'static [UlpRow]
-    ensures { map ulp_row_of result.now ≡ tls_rows }
-{
-    &TLS_ROWS
 }
 
 /// Shows what MPTCP reports, if the value has it.
@@ -228,71 +224,45 @@ fn show_subflow_parts<S: FactSink>(sink: &mut S, bytes: &[u8]) -> Result<(), All
     ensures { OnOk result (AddsFacts (S.content sink.old) (S.content sink.new)
         (subflow_facts bytes.now)) }
 {
-    let flags = UlpField::Subflow(SubflowField::Flags);
-    show_row(sink, bytes, Shown::Letters, b" flags:", None, flags)?;
+    show_fields(sink, bytes, &FLAG_ROWS)?;
     show_tokens(sink, bytes)?;
-    show_subflow_numbers(sink, bytes)
-}
-
-/// Shows the numbers of a subflow.
-fn show_subflow_numbers<S: FactSink>(sink: &mut S, bytes: &[u8]) -> Result<(), AllocError>
-    ensures { OnOk result (AddsFacts (S.content sink.old) (S.content sink.new)
-        (facts_of_each (ulp_row bytes.now) subflow_rows)) }
-{
-    show_rows(sink, bytes, list_subflow_rows())
-}
-
-/// Returns the rows of the numbers of a subflow.
-#[tactic(auto, unfolding(crate::specs::UlpInfo::subflow_rows))]
-fn list_subflow_rows() -> &'static [UlpRow]
-    ensures { map ulp_row_of result.now ≡ subflow_rows }
-{
-    &SUBFLOW_ROWS
+    show_fields(sink, bytes, &SUBFLOW_ROWS)
 }
 
 /// In the table, shows the tokens of a connection and the ids of the addresses, if all four are
 /// present. JSON has them among the numbers of the subflow.
 fn show_tokens<S: FactSink>(sink: &mut S, bytes: &[u8]) -> Result<(), AllocError>
     ensures { OnOk result (AddsFacts (S.content sink.old) (S.content sink.new)
-        (tokens_in bytes.now)) }
+        (token_facts bytes.now)) }
 {
-    show_four(
-        sink,
-        number_of(bytes, UlpField::Subflow(SubflowField::RemoteToken)),
-        number_of(bytes, UlpField::Subflow(SubflowField::RemoteId)),
-        number_of(bytes, UlpField::Subflow(SubflowField::LocalToken)),
-        number_of(bytes, UlpField::Subflow(SubflowField::LocalId)),
-    )
-}
-
-/// Shows these two tokens and two ids in the table, if all four are present, or else nothing.
-fn show_four<S: FactSink>(
-    sink: &mut S,
-    remote: Option<u64>,
-    remote_id: Option<u64>,
-    local: Option<u64>,
-    local_id: Option<u64>,
-) -> Result<(), AllocError>
-    ensures { OnOk result (AddsFacts (S.content sink.old) (S.content sink.new)
-        (token_facts remote remote_id local local_id)) }
-{
-    match (remote, remote_id, local, local_id) {
-        (Some(remote), Some(remote_id), Some(local), Some(local_id)) => {
-            // The table has ` token:REMOTE(id:ID)/LOCAL(id:ID)`.
-            let rows: [NumberRow<'_>; 4] = [
-                (Shown::Hex, b" token:", None, Some(remote)),
-                (Shown::Closed, b"(id:", None, Some(remote_id)),
-                (Shown::Hex, b"/", None, Some(local)),
-                (Shown::Closed, b"(id:", None, Some(local_id)),
-            ];
-            show_numbers(sink, &rows)
-        }
-        _ => Ok(()),
+    if has_fields(bytes, &TOKEN_ROWS) {
+        show_fields(sink, bytes, &TOKEN_ROWS)
+    } else {
+        Ok(())
     }
 }
 
-/// Shows the number of each row, if the nested attributes have its field. The contract states this
-/// of items, as the loop appends them.
+/// Returns whether the nested attributes have the field of each row.
+fn has_fields(bytes: &[u8], rows: &[UlpRow]) -> bool
+    ensures { result ≡ has_fields bytes.now (map ulp_row_of rows.now) }
+{
+    for &(_, _, _, field) in rows {
+        if number_of(bytes, field).is_none() {
+            return false;
+        }
+    }
+    true
+}
+
+/// Shows the number of each row, if the nested attributes have its field, in the order of the rows.
+fn show_fields<S: FactSink>(sink: &mut S, bytes: &[u8], rows: &[UlpRow]) -> Result<(), AllocError>
+    ensures { OnOk result (AddsFacts (S.content sink.old) (S.content sink.new)
+        (ulp_rows bytes.now (map ulp_row_of rows.now))) }
+{
+    show_rows(sink, bytes, rows)
+}
+
+/// Does what [`show_fields`] does. The contract states it of items, as the loop appends them.
 fn show_rows<S: FactSink>(sink: &mut S, bytes: &[u8], rows: &[UlpRow]) -> Result<(), AllocError>
     ensures { OnOk result (AddsItems (S.content sink.old) (S.content sink.new)
         (flat_map (λ row. S.items (ulp_row bytes.now (ulp_row_of row))) rows.now)) }
@@ -305,7 +275,7 @@ fn show_rows<S: FactSink>(sink: &mut S, bytes: &[u8], rows: &[UlpRow]) -> Result
 
 /// Shows a number, if the nested attributes `bytes` have its field. The table shows it by `format`,
 /// after `text`. JSON has it under `member`, or not at all for `None`.
-#[tactic(auto, unfolding(crate::specs::UlpInfo::ulp_row))]
+#[tactic(auto, using(crate::proofs::Rows::same_bytes), unfolding(crate::specs::UlpInfo::ulp_row))]
 fn show_row<S: FactSink>(
     sink: &mut S,
     bytes: &[u8],
@@ -315,7 +285,12 @@ fn show_row<S: FactSink>(
     field: UlpField,
 ) -> Result<(), AllocError>
     ensures { OnOk result (AddsFacts (S.content sink.old) (S.content sink.new)
-        (ulp_row bytes.now (format, text.now, option_map (λ m. m.now) member.entry, field))) }
+        (ulp_row bytes.now (
+          format,
+          record { now = text.now },
+          option_map text_of member.entry,
+          field,
+        ))) }
 {
     match number_of(bytes, field) {
         Some(number) => sink.number(format, text, member, number),

@@ -3,7 +3,6 @@ use Rattle.std.specs.Prelude.{◌≡◌, ◌≢◌, ℕ, ◌+◌, ◌-◌, ◌||
 use Rattle.std.specs.Prelude.{false, List, [], ◌∷◌, Option, Some, None, bytes_eq, codes, drop, find}
 use Rattle.std.specs.Prelude.{fold, is_some, length, nat_eq, nat_lt, option_map, slice_index, take}
 use Rattle.std.specs.Prelude.{bit_or, unwrap_or}
-use Rattle.std.specs.Borrow.{Bor}
 use Rattle.std.specs.List.{ends_with, list_any, starts_with}
 use Rattle.std.specs.Option.{option_map_or}
 use Rattle.sslist_lister.specs.declared.command_line.addresses.AddressCondition.{AddressCondition}
@@ -15,6 +14,8 @@ use Rattle.sslist_lister.specs.declared.command_line.arguments.Valued.{Valued}
 use Rattle.sslist_lister.specs.declared.command_line.arguments.Valued.TheVariants as valued
 use Rattle.sslist_lister.specs.declared.command_line.arguments.Place.{Place}
 use Rattle.sslist_lister.specs.declared.command_line.arguments.Place.TheVariants as places
+use Rattle.sslist_lister.specs.declared.command_line.arguments.TheConstants.{FAMILIES, FLAGS}
+use Rattle.sslist_lister.specs.declared.command_line.arguments.TheConstants.{LETTERS, VALUED}
 use Rattle.sslist_lister.specs.declared.command_line.choice.Choice.{Choice}
 use Rattle.sslist_lister.specs.declared.command_line.choice.Choice.TheVariants as choices
 use Rattle.sslist_lister.specs.declared.command_line.choice.Rejection.{Rejection}
@@ -27,6 +28,7 @@ use Rattle.sslist_lister.specs.declared.command_line.options.AnyFamily.TheVarian
 use Rattle.sslist_lister.specs.declared.command_line.options.AnyFamily.TheVariants.{Unix, Vsock}
 use Rattle.sslist_lister.specs.declared.command_line.options.AnyFamily.TheVariants.{Xdp}
 use Rattle.sslist_lister.specs.declared.command_line.options.Options.{Options}
+use Rattle.sslist_lister.specs.Rows.{Text}
 use Rattle.sslist_lister.specs.command_line.Addresses.{address_condition}
 use Rattle.sslist_lister.specs.command_line.Filter.{port_condition, states_named}
 use Rattle.sslist_lister.specs.command_line.Text.{index_of}
@@ -54,11 +56,10 @@ ends_in_f letters = ends_with nat_eq letters (codes "f")
 abbrev pub without_last_f : List ℕ → List ℕ
 without_last_f letters = if ends_in_f letters then take (length letters - 1) letters else letters
 
--- the first of the letters that is not an option; None if there is none. Options are -t, -u, -x,
--- -M, -0, -4, -6, -o, -e, -m, -i, -O, -H, -l, -n and -a.
+-- the first of the letters that is not an option, one of `LETTERS`; None if there is none
 abbrev pub first_unknown_letter : List ℕ → Option ℕ
 first_unknown_letter letters =
-    find (λ letter. not (contains_letter letter (codes "tuxM046oemiOHlna"))) letters
+    find (λ letter. not (contains_letter letter LETTERS.now)) letters
 
 -- The first letter because of which the letters are rejected: one that is not an option. The last
 -- letter may also be f, which needs the name of a family as the next argument. None if there is no
@@ -110,84 +111,23 @@ with_letters letters options = with_sockets letters (with_details letters option
 
 -- `value_of rows name`: the value (`.1`) of the first row with this name (`.0`); None if there is
 -- none
-abbrev pub value_of : {Value : Type 0} → List (List ℕ × Value) → List ℕ → Option Value
+abbrev pub value_of : {Value : Type 0} → List (Text × Value) → List ℕ → Option Value
 value_of [] name = None
-value_of (row ∷ later) name = if bytes_eq name row.0 then Some row.1 else value_of later name
-
--- a row of the program, with its name as a list of bytes
-abbrev pub named_row : {Value : Type 0} → Bor (List ℕ) × Value → List ℕ × Value
-named_row row = (row.0.now, row.1)
-
--- `long_name name letter`: the long name `name` (`.0`), which is parsed as the letter in the text
--- `letter` (`.1`)
-abbrev pub long_name : List ℕ → List ℕ → List ℕ × Argument
-long_name name letter = (name, parsed_as.Letter (letter_of letter))
-
--- The options without a value that are a whole argument, and what they are parsed as: `-h` and
--- `-V`, which are options only alone, and long names. Those of letters are as in ss(8).
-abbrev pub flags : List (List ℕ × Argument)
-flags =
-    (codes "-h", parsed_as.Help) ∷
-    (codes "--help", parsed_as.Help) ∷
-    (codes "-V", parsed_as.Version) ∷
-    (codes "--version", parsed_as.Version) ∷
-    (codes "--utf8", parsed_as.Utf8) ∷
-    (codes "--requests", parsed_as.Requests) ∷
-    (codes "--json", parsed_as.Json) ∷
-    (codes "--vsock", parsed_as.Sockets Vsock) ∷
-    (codes "--xdp", parsed_as.Sockets Xdp) ∷
-    long_name (codes "--numeric") (codes "n") ∷
-    long_name (codes "--all") (codes "a") ∷
-    long_name (codes "--listening") (codes "l") ∷
-    long_name (codes "--options") (codes "o") ∷
-    long_name (codes "--extended") (codes "e") ∷
-    long_name (codes "--memory") (codes "m") ∷
-    long_name (codes "--info") (codes "i") ∷
-    long_name (codes "--ipv4") (codes "4") ∷
-    long_name (codes "--ipv6") (codes "6") ∷
-    long_name (codes "--packet") (codes "0") ∷
-    long_name (codes "--tcp") (codes "t") ∷
-    long_name (codes "--udp") (codes "u") ∷
-    long_name (codes "--unix") (codes "x") ∷
-    long_name (codes "--mptcp") (codes "M") ∷
-    long_name (codes "--no-header") (codes "H") ∷
-    long_name (codes "--oneline") (codes "O") ∷ []
+value_of (row ∷ later) name = if bytes_eq name row.0.now then Some row.1 else value_of later name
 
 -- what an option without a value that is a whole argument is parsed as; None for any other argument
 unfoldable pub flag_argument : List ℕ → Option Argument
-flag_argument argument = value_of flags argument
-
--- the options with a value, and what they are about
-abbrev pub valued_options : List (List ℕ × Valued)
-valued_options =
-    (codes "--family", valued.Family) ∷
-    (codes "--state", valued.State) ∷
-    (codes "--sport", valued.Port Local) ∷
-    (codes "--dport", valued.Port Remote) ∷
-    (codes "--src", valued.Address Local) ∷
-    (codes "--dst", valued.Address Remote) ∷ []
+flag_argument argument = value_of FLAGS argument
 
 -- what the option with this name is about, which needs a value; None if there is no such option
 unfoldable pub valued_option : List ℕ → Option Valued
-valued_option name = value_of valued_options name
+valued_option name = value_of VALUED name
 
 -- ---- families
 
--- the families by their names, as the option -f of ss(8) has them
-abbrev pub families : List (List ℕ × AnyFamily)
-families =
-    (codes "inet", Inet) ∷
-    (codes "inet6", Inet6) ∷
-    (codes "unix", Unix) ∷
-    (codes "netlink", Netlink) ∷
-    (codes "link", Packet) ∷
-    (codes "packet", Packet) ∷
-    (codes "vsock", Vsock) ∷
-    (codes "xdp", Xdp) ∷ []
-
 -- the family of this name; None if there is none
 unfoldable pub family_named : List ℕ → Option AnyFamily
-family_named name = value_of families name
+family_named name = value_of FAMILIES name
 
 -- `with_family family options`: `options`, and the option that selects sockets of the family
 abbrev pub with_family : AnyFamily → Options → Options
@@ -251,7 +191,7 @@ named_value name value =
     (parsed_as.Rejected (if is_some (flag_argument name) then rejections.UnexpectedValue
     else rejections.UnknownOption))
 
--- what an argument is parsed as that begins with two hyphens and is not in `flags`: the name of an
+-- what an argument is parsed as that begins with two hyphens and is not in `FLAGS`: the name of an
 -- option, an equals sign (61) and its value; any other one is rejected
 abbrev pub long_argument : List ℕ → Argument
 long_argument argument =

@@ -1,21 +1,17 @@
 -- Conditions on the sockets that are listed: on their states, ports and addresses.
 use Rattle.std.specs.Prelude.{ℕ, ◌+◌, ◌-◌, ◌^◌, ◌==◌, ◌&&◌, ◌||◌, not, nat_le, nat_lt, Bool, true}
 use Rattle.std.specs.Prelude.{if◌then◌else◌, List, [], ◌∷◌, bit_and, bytes_eq, codes, drop, is_some}
-use Rattle.std.specs.Prelude.{length, map, nat_eq, option_map, sum_by, take, Option, None, Some}
+use Rattle.std.specs.Prelude.{length, map, nat_eq, option_map, take, Option, None, Some}
 use Rattle.std.specs.Char.{to_ascii_lowercase}
 use Rattle.std.specs.List.{ends_with, starts_with}
 use Rattle.std.specs.Option.{option_map_or, option_or}
 use Rattle.std.specs.declared.net.ip_addr.IpAddr.{IpAddr}
-use Rattle.sock_diag_records.specs.declared.constants.TheConstants.{TCP_CLOSE, TCP_CLOSE_WAIT}
-use Rattle.sock_diag_records.specs.declared.constants.TheConstants.{TCP_CLOSING, TCP_ESTABLISHED}
-use Rattle.sock_diag_records.specs.declared.constants.TheConstants.{TCP_FIN_WAIT1, TCP_FIN_WAIT2}
-use Rattle.sock_diag_records.specs.declared.constants.TheConstants.{TCP_LAST_ACK, TCP_LISTEN}
-use Rattle.sock_diag_records.specs.declared.constants.TheConstants.{TCP_SYN_RECV, TCP_SYN_SENT}
-use Rattle.sock_diag_records.specs.declared.constants.TheConstants.{TCP_TIME_WAIT}
+use Rattle.sslist_lister.specs.Rows.{Text}
 use Rattle.sslist_lister.specs.command_line.Addresses.{meets_address}
 use Rattle.sslist_lister.specs.command_line.Text.{index_of, decimal_u16}
 use Rattle.sslist_lister.specs.declared.command_line.filter.PortCondition.{PortCondition}
 use Rattle.sslist_lister.specs.declared.command_line.filter.SocketFilter.{SocketFilter}
+use Rattle.sslist_lister.specs.declared.command_line.filter.TheConstants.{GROUPS, STATES}
 
 -- ---- states
 
@@ -31,50 +27,20 @@ has_state states state = not (bit_and states (state_bit state) == 0)
 abbrev pub is_name : List ℕ → List ℕ → Bool
 is_name name text = bytes_eq (map to_ascii_lowercase name) (map to_ascii_lowercase text)
 
--- the name is one of the names of the state TCP_CLOSE
-abbrev pub is_closed_name : List ℕ → Bool
-is_closed_name name =
-    is_name name (codes "closed") || is_name name (codes "close")
-    || is_name name (codes "unconnected") || is_name name (codes "unconn")
+-- `value_named rows name`: the value (`.1`) of the first row whose name (`.0`) is this one
+-- (`is_name`); None if there is none
+abbrev pub value_named : {Value : Type 0} → List (Text × Value) → List ℕ → Option Value
+value_named [] name = None
+value_named (row ∷ later) name =
+    if is_name name row.0.now then Some row.1 else value_named later name
 
--- the state with this name, which is one of the filter `state` of ss(8) or of its column State;
--- None if there is none
-abbrev pub state_named : List ℕ → Option ℕ
-state_named name =
-    if is_name name (codes "established") || is_name name (codes "estab") then Some TCP_ESTABLISHED
-    else if is_name name (codes "syn-sent") then Some TCP_SYN_SENT
-    else if is_name name (codes "syn-recv") || is_name name (codes "syn-rcv") then Some TCP_SYN_RECV
-    else if is_name name (codes "fin-wait-1") then Some TCP_FIN_WAIT1
-    else if is_name name (codes "fin-wait-2") then Some TCP_FIN_WAIT2
-    else if is_name name (codes "time-wait") then Some TCP_TIME_WAIT
-    else if is_closed_name name then Some TCP_CLOSE
-    else if is_name name (codes "close-wait") then Some TCP_CLOSE_WAIT
-    else if is_name name (codes "last-ack") then Some TCP_LAST_ACK
-    else if is_name name (codes "listening") || is_name name (codes "listen") then Some TCP_LISTEN
-    else if is_name name (codes "closing") then Some TCP_CLOSING
-    else None
+-- the state with this name; None if there is none
+unfoldable pub state_named : List ℕ → Option ℕ
+state_named name = value_named STATES name
 
--- the set of these states, a bit for each; no state may occur twice, because the bits are added
-abbrev pub only_states : List ℕ → ℕ
-only_states states = sum_by state_bit states
-
--- the set of all states except these
-abbrev pub all_states_except : List ℕ → ℕ
-all_states_except states = 0xffffffff - only_states states
-
--- the set of the states in the group of this name, as in ss(8); None if there is none
-abbrev pub group_named : List ℕ → Option ℕ
-group_named name =
-    if is_name name (codes "all") then Some (all_states_except [])
-    else if is_name name (codes "connected")
-    then Some (all_states_except (TCP_CLOSE ∷ TCP_LISTEN ∷ []))
-    else if is_name name (codes "synchronized")
-    then Some (all_states_except (TCP_CLOSE ∷ TCP_LISTEN ∷ TCP_SYN_SENT ∷ []))
-    else if is_name name (codes "bucket")
-    then Some (only_states (TCP_SYN_RECV ∷ TCP_TIME_WAIT ∷ []))
-    else if is_name name (codes "big")
-    then Some (all_states_except (TCP_SYN_RECV ∷ TCP_TIME_WAIT ∷ []))
-    else None
+-- the set of the states in the group of this name; None if there is none
+unfoldable pub group_named : List ℕ → Option ℕ
+group_named name = value_named GROUPS name
 
 -- the set of the states with this name, a bit for each: one state, or else a group; None if there
 -- is none

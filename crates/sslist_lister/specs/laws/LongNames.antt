@@ -3,10 +3,11 @@ use Rattle.std.proofs.Common.{◌≡◌, ℕ, List, [], ◌∷◌, None, rules}
 use Rattle.std.specs.Prelude.{⊤}
 use Rattle.std.specs.List.{AllByRecursion}
 use Rattle.sslist_lister.specs.command_line.Choice.{first_deciding_argument, last_place}
-use Rattle.sslist_lister.specs.command_line.Choice.{flag_argument, flags, options_after}
+use Rattle.sslist_lister.specs.command_line.Choice.{flag_argument, options_after}
 use Rattle.sslist_lister.specs.declared.command_line.arguments.Argument.{Argument}
 use Rattle.sslist_lister.specs.declared.command_line.arguments.Argument.TheVariants.{Letter}
 use Rattle.sslist_lister.specs.declared.command_line.arguments.Place.TheVariants.{Any}
+use Rattle.sslist_lister.specs.declared.command_line.arguments.TheConstants.{FLAGS}
 use Rattle.sslist_lister.specs.declared.command_line.options.Options.{Options}
 
 -- the argument that is a hyphen (45) and this letter
@@ -30,6 +31,6 @@ MeansItsLetter name (Letter letter) = HaveSameEffect name (letter_argument lette
 MeansItsLetter name parsed = ⊤
 
 -- Each long name of a letter has the effect of a hyphen and the letter.
-pub long_name_means_letter : AllByRecursion (λ row. MeansItsLetter row.0 row.1) flags
+pub long_name_means_letter : AllByRecursion (λ row. MeansItsLetter row.0.now row.1) FLAGS
 unfolding flag_argument
 long_name_means_letter = search rules

@@ -1,6 +1,6 @@
 -- JSON values, and the texts of lines of JSON. A JSON value (`Json`) is one of RFC 8259. Its text
 -- (`print`, `json_tokens`) has no spaces.
-use Rattle.std.specs.Prelude.{ℕ, List, [], ◌∷◌, ◌++◌, map, decimal, false, codes, Option, None}
+use Rattle.std.specs.Prelude.{ℕ, List, [], ◌∷◌, map, decimal, false, codes, Option, None}
 use Rattle.std.specs.Prelude.{Some, if◌then◌else◌, Bool}
 use Rattle.std.specs.Fmt.{digits}
 use Rattle.std.specs.Str.{is_utf8}

@@ -1,11 +1,12 @@
 //! Conditions on the sockets that are listed: on their states, ports and addresses.
 
-ghost use Rattle.std.specs.Prelude.{◌≡◌};
+ghost use Rattle.std.specs.Prelude.{◌≡◌, map};
+ghost use Rattle.sslist_lister.specs.Rows.{named_row};
 ghost use Rattle.sslist_lister.specs.command_line.Filter.{closed_range, group_named, port_range};
 ghost use Rattle.sslist_lister.specs.command_line.Filter.{has_endpoint_condition, has_state};
-ghost use Rattle.sslist_lister.specs.command_line.Filter.{is_closed_name, is_name, meets_addresses};
-ghost use Rattle.sslist_lister.specs.command_line.Filter.{meets_port, meets_ports, port_condition};
-ghost use Rattle.sslist_lister.specs.command_line.Filter.{state_bit, state_named, states_named};
+ghost use Rattle.sslist_lister.specs.command_line.Filter.{is_name, meets_addresses, meets_port};
+ghost use Rattle.sslist_lister.specs.command_line.Filter.{meets_ports, port_condition, state_bit};
+ghost use Rattle.sslist_lister.specs.command_line.Filter.{state_named, states_named, value_named};
 
 use crate::command_line::addresses::{AddressCondition, meets_address};
 use crate::command_line::text::{decimal_u16, index_of};
@@ -15,20 +16,44 @@ use sock_diag_records::constants::{
 };
 use std::net::IpAddr;
 
-/// The states of the group `all` of ss(8), a bit for each.
+/// The states by their names: those of the filter `state` of ss(8), and of the column State.
+const STATES: [(&str, u8); 17] = [
+    ("established", TCP_ESTABLISHED),
+    ("estab", TCP_ESTABLISHED),
+    ("syn-sent", TCP_SYN_SENT),
+    ("syn-recv", TCP_SYN_RECV),
+    ("syn-rcv", TCP_SYN_RECV),
+    ("fin-wait-1", TCP_FIN_WAIT1),
+    ("fin-wait-2", TCP_FIN_WAIT2),
+    ("time-wait", TCP_TIME_WAIT),
+    ("closed", TCP_CLOSE),
+    ("close", TCP_CLOSE),
+    ("unconnected", TCP_CLOSE),
+    ("unconn", TCP_CLOSE),
+    ("close-wait", TCP_CLOSE_WAIT),
+    ("last-ack", TCP_LAST_ACK),
+    ("listening", TCP_LISTEN),
+    ("listen", TCP_LISTEN),
+    ("closing", TCP_CLOSING),
+];
+
+/// The groups of states of ss(8) by their names, with a bit for each state.
+const GROUPS: [(&str, u32); 5] = [
+    ("all", ALL),
+    ("connected", CONNECTED),
+    ("synchronized", CONNECTED & !(1 << TCP_SYN_SENT)),
+    ("bucket", BUCKET),
+    ("big", ALL & !BUCKET),
+];
+
+/// All states.
 const ALL: u32 = u32::MAX;
 
 /// The states of the group `connected`.
 const CONNECTED: u32 = ALL & !(1 << TCP_CLOSE) & !(1 << TCP_LISTEN);
 
-/// The states of the group `synchronized`.
-const SYNCHRONIZED: u32 = CONNECTED & !(1 << TCP_SYN_SENT);
-
 /// The states of the group `bucket`.
 const BUCKET: u32 = 1 << TCP_SYN_RECV | 1 << TCP_TIME_WAIT;
-
-/// The states of the group `big`: all except those of `bucket`.
-const BIG: u32 = ALL & !BUCKET;
 
 /// Conditions on a socket, which is listed only if it meets all of them.
 #[derive(Clone, Copy, Debug, Default, PartialEq, Eq)]
@@ -118,71 +143,39 @@ pub(crate) fn states_named(name: &[u8]) -> Option<u32>
     }
 }
 
+/// Returns the state with this name, or `None` if there is none.
+#[tactic(auto, unfolding(crate::specs::command_line::Filter::state_named))]
+fn state_named(name: &[u8]) -> Option<u8>
+    ensures { result ≡ state_named name.now }
+{
+    value_named(&STATES, name)
+}
+
+/// Returns the states in the group of states with this name, or `None` if there is none.
+#[tactic(auto, unfolding(crate::specs::command_line::Filter::group_named))]
+fn group_named(name: &[u8]) -> Option<u32>
+    ensures { result ≡ group_named name.now }
+{
+    value_named(&GROUPS, name)
+}
+
+/// Returns the value in the first row with this name, or `None` if there is none.
+fn value_named<T: Copy>(rows: &[(&str, T)], name: &[u8]) -> Option<T>
+    ensures { result ≡ value_named (map named_row rows.now) name.now }
+{
+    for &(other, value) in rows {
+        if is_name(name, other) {
+            return Some(value);
+        }
+    }
+    None
+}
+
 /// Returns whether a name is equal to a text, except for the case of ASCII letters.
 fn is_name(name: &[u8], text: &str) -> bool
     ensures { result ≡ is_name name.now text.now }
 {
     name.eq_ignore_ascii_case(text.as_bytes())
-}
-
-/// Returns the state with this name, or `None` if there is none.
-fn state_named(name: &[u8]) -> Option<u8>
-    ensures { result ≡ state_named name.now }
-{
-    if is_name(name, "established") || is_name(name, "estab") {
-        Some(TCP_ESTABLISHED)
-    } else if is_name(name, "syn-sent") {
-        Some(TCP_SYN_SENT)
-    } else if is_name(name, "syn-recv") || is_name(name, "syn-rcv") {
-        Some(TCP_SYN_RECV)
-    } else if is_name(name, "fin-wait-1") {
-        Some(TCP_FIN_WAIT1)
-    } else if is_name(name, "fin-wait-2") {
-        Some(TCP_FIN_WAIT2)
-    } else if is_name(name, "time-wait") {
-        Some(TCP_TIME_WAIT)
-    } else if is_closed_name(name) {
-        Some(TCP_CLOSE)
-    } else if is_name(name, "close-wait") {
-        Some(TCP_CLOSE_WAIT)
-    } else if is_name(name, "last-ack") {
-        Some(TCP_LAST_ACK)
-    } else if is_name(name, "listening") || is_name(name, "listen") {
-        Some(TCP_LISTEN)
-    } else if is_name(name, "closing") {
-        Some(TCP_CLOSING)
-    } else {
-        None
-    }
-}
-
-/// Returns whether a name is that of the state `TCP_CLOSE`.
-fn is_closed_name(name: &[u8]) -> bool
-    ensures { result ≡ is_closed_name name.now }
-{
-    is_name(name, "closed")
-        || is_name(name, "close")
-        || is_name(name, "unconnected")
-        || is_name(name, "unconn")
-}
-
-/// Returns the states in the group of states with this name, or `None` if there is none.
-fn group_named(name: &[u8]) -> Option<u32>
-    ensures { result ≡ group_named name.now }
-{
-    if is_name(name, "all") {
-        Some(ALL)
-    } else if is_name(name, "connected") {
-        Some(CONNECTED)
-    } else if is_name(name, "synchronized") {
-        Some(SYNCHRONIZED)
-    } else if is_name(name, "bucket") {
-        Some(BUCKET)
-    } else if is_name(name, "big") {
-        Some(BIG)
-    } else {
-        None
-    }
 }
 
 /// Parses a condition on a port: `N` for the port N, `N-M` for a port from N to M, `N-` for one

@@ -7,8 +7,7 @@ pub returns : goal.returns
 unfolding tcp_fields
 returns g c =
     let sink = g.S.FactSink in
-    rw (← c.tcp_state_rows.ensures, ← c.tcp_metric_rows.ensures, ← c.tcp_rate_rows.ensures)
-    (on_ok_weaker c.show_fields-3.result
+    on_ok_weaker c.show_fields-3.result
     (shown_three sink.content g.met.S.FactSink.items_of_both _ _ _ _ _ _ _
     c.in_ok-show_fields.ensures c.in_ok-show_fields-2.ensures)
-    c.show_fields-3.ensures)
+    c.show_fields-3.ensures

@@ -7,7 +7,7 @@ pub returns : goal.returns
 unfolding subflow_facts
 returns g c =
     let sink = g.S.FactSink in
-    on_ok_weaker c.show_subflow_numbers.result
+    on_ok_weaker c.show_fields-2.result
     (shown_three sink.content g.met.S.FactSink.items_of_both _ _ _ _ _ _ _
-    c.in_ok-show_row.ensures c.in_ok-show_tokens.ensures)
-    c.show_subflow_numbers.ensures
+    c.in_ok-show_fields.ensures c.in_ok-show_tokens.ensures)
+    c.show_fields-2.ensures

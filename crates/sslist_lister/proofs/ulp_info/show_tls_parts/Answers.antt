@@ -9,5 +9,5 @@ returns g c =
     let sink = g.S.FactSink in
     on_ok_weaker c.show_presence-2.result
     (shown_three sink.content g.met.S.FactSink.items_of_both _ _ _ _ _ _ _
-    c.in_ok-show_tls_numbers.ensures c.in_ok-show_presence.ensures)
+    c.in_ok-show_fields.ensures c.in_ok-show_presence.ensures)
     c.show_presence-2.ensures

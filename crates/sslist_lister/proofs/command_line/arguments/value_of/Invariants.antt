@@ -1,5 +1,6 @@
 use Rattle.std.proofs.Common.{◌≡◌, drop, map}
-use Rattle.sslist_lister.specs.command_line.Choice.{named_row, value_of}
+use Rattle.sslist_lister.specs.Rows.{named_row}
+use Rattle.sslist_lister.specs.command_line.Choice.{value_of}
 use Rattle.sslist_lister.proofs.command_line.arguments.value_of.Given as goal
 
 -- the first row with the name among the remaining ones is the first among all
