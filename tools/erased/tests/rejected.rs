@@ -70,7 +70,7 @@ fn assert_row(header: &[u8], row: Row) {
     assert!(SockDiagView::parse(&without, 20).is_ok());
     let (reply, others) = (AnyReply::parse(&bytes, 20), AnyReply::parse(&without, 20));
     let (reply, others) = (reply.unwrap(), others.unwrap());
-    assert_eq!(reply.header(), others.header());
+    assert_eq!(text(reply.header()), text(others.header()));
     let mut attributes = reply.attributes(InfoFormat::Unknown);
     let rejected = attributes.next().unwrap().unwrap_err();
     assert_eq!(rejected.error(), error);
