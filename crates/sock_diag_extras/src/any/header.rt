@@ -2,6 +2,7 @@
 
 ghost use Rattle.std.specs.Prelude.{◌≡◌, ◌≤◌, IfOk, length};
 ghost use Rattle.netlink_core.specs.Layout.{parse_record};
+ghost use Rattle.sock_diag_records.specs.InetResponse.{inet_response_header};
 ghost use Rattle.sock_diag_extras.specs.AnyHeader.{any_header, header_of_family, header_of_type};
 ghost use Rattle.sock_diag_extras.specs.AnyHeader.{header_size, sockets_of};
 
@@ -65,20 +66,14 @@ impl AnyHeader {
     }
 
     // Parses the header at the start of the payload of a `SOCK_DIAG_BY_FAMILY` of this family.
-    #[tactic(
-        auto,
-        unfolding(
-            crate::specs::AnyHeader::header_of_family,
-            sock_diag_records::specs::InetResponse::inet_response_header
-        )
-    )]
+    #[tactic(auto, unfolding(crate::specs::AnyHeader::header_of_family))]
     fn of_family(family: u8, payload: &[u8]) -> Result<AnyHeader, DecodeError>
         ensures header { result ≡ header_of_family family payload.now }
         ensures long { IfOk result (λ header. header_size header ≤ length payload.now) }
     {
         match family {
             AF_UNIX => Ok(AnyHeader::Unix(parse(payload)?)),
-            AF_INET | AF_INET6 => Ok(AnyHeader::Inet(parse(payload)?)),
+            AF_INET | AF_INET6 => Ok(AnyHeader::Inet(parse_inet(payload)?)),
             AF_NETLINK => Ok(AnyHeader::Netlink(parse(payload)?)),
             AF_PACKET => Ok(AnyHeader::Packet(parse(payload)?)),
             AF_VSOCK => Ok(AnyHeader::Vsock(parse(payload)?)),
@@ -89,13 +84,7 @@ impl AnyHeader {
 
     // Parses the header at the start of the payload of a message of this type. The payload must not
     // be empty.
-    #[tactic(
-        auto,
-        unfolding(
-            crate::specs::AnyHeader::header_of_type,
-            sock_diag_records::specs::InetResponse::inet_response_header
-        )
-    )]
+    #[tactic(auto, unfolding(crate::specs::AnyHeader::header_of_type))]
     fn of_type(message_type: u16, payload: &[u8]) -> Result<AnyHeader, DecodeError>
         requires { 1 ≤ length payload.now }
         ensures header { result ≡ header_of_type message_type payload.now }
@@ -103,7 +92,7 @@ impl AnyHeader {
     {
         match message_type {
             SOCK_DIAG_BY_FAMILY => AnyHeader::of_family(payload[0], payload),
-            TCPDIAG_GETSOCK | DCCPDIAG_GETSOCK => Ok(AnyHeader::Inet(parse(payload)?)),
+            TCPDIAG_GETSOCK | DCCPDIAG_GETSOCK => Ok(AnyHeader::Inet(parse_inet(payload)?)),
             message_type => Err(DecodeError::UnknownMessageType { message_type }),
         }
     }
@@ -145,4 +134,13 @@ fn parse<T: Record<Param = ()>>(payload: &[u8]) -> Result<T, DecodeError>
     ensures long { IfOk result (λ header. T.layout.least ≤ length payload.now) }
 {
     read_record(payload, ())
+}
+
+// Parses the header of a reply about an IPv4 or IPv6 socket.
+#[tactic(auto, unfolding(sock_diag_records::specs::InetResponse::inet_response_header))]
+fn parse_inet(payload: &[u8]) -> Result<InetResponseHeader, DecodeError>
+    ensures value { result ≡ parse_record inet_response_header tt payload.now }
+    ensures long { IfOk result (λ header. INET_RESPONSE_HEADER_LEN ≤ length payload.now) }
+{
+    parse(payload)
 }
