@@ -1,6 +1,3 @@
 mod FirstFound
 mod ErrorTest
 mod Owning
-pub mod CompleteLenientIteration
-mod OneLenientIteration
-mod LenientAgreement

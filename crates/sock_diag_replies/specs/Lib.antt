@@ -4,7 +4,5 @@ pub mod InetResponseSpec
 pub mod ReplyFormat
 pub mod ResponseModel
 pub mod ViewModel
-pub mod Lenient
-pub mod LenientModel
 pub mod laws
 pub mod private

@@ -2,7 +2,6 @@
 #![tactic(auto)]
 
 pub mod inet;
-pub mod lenient;
 mod reply;
 mod response;
 pub mod unix;
