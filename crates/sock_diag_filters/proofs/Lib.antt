@@ -9,3 +9,4 @@ pub mod RequestFamily
 pub mod AnyReadBack
 pub mod Finding
 pub mod Verdicts
+mod Ending

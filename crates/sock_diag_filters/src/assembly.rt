@@ -2,10 +2,11 @@
 //! state that each number of a condition fits its Rust type. This is so for all Rust values; they
 //! are stated since `laws::programs_select_by_filter` assumes it.
 
-ghost use Rattle.std.specs.Prelude.{◌≡◌, ◌+◌, ◌<◌, ◌≤◌, ℕ, List, Bool, length, IfOk, IfErr, OnOk};
+ghost use Rattle.std.specs.Prelude.{◌≡◌, ◌+◌, ◌++◌, ◌<◌, ◌≤◌, ℕ, List, Bool, length, IfOk, IfErr};
+ghost use Rattle.std.specs.Prelude.{OnOk};
 ghost use Rattle.sock_diag_filters.specs.Audit.{IsAudited};
-ghost use Rattle.sock_diag_filters.specs.private.Assembly.{operation_header_bytes, operation};
-ghost use Rattle.sock_diag_filters.specs.private.Assembly.{program_of};
+ghost use Rattle.sock_diag_filters.specs.private.Assembly.{EndsWith, operation_header_bytes};
+ghost use Rattle.sock_diag_filters.specs.private.Assembly.{jump, operation, program_of};
 ghost use Rattle.sock_diag_filters.specs.Filters.{meaning, program_size};
 ghost use Rattle.sock_diag_filters.specs.Conditions.{arguments, code_of};
 ghost use Rattle.sock_diag_filters.specs.Run.{Runs};
@@ -76,13 +77,16 @@ pub fn assemble(alloc: Global, filter: &Filter) -> Result<Vec<u8>, AssembleError
     Ok(program)
 }
 
-// Writes the program of a filter to a buffer of its length. A run continues at the end of the
-// program for a selected socket, and `far` bytes after the end for any other socket. The distance
-// from the start of the program to there has to fit 16 bits: no jump of the program is longer.
-fn write_program(filter: &Filter, far: usize, buffer: &mut [u8])
-    requires whole { length buffer.old ≡ program_size filter.now }
+// Writes the program of a filter to the end of a buffer, and returns its length. A run continues at
+// the end of the program for a selected socket, and `far` bytes after the end for any other socket.
+// The distance from the start of the program to there has to fit 16 bits: no jump of the program is
+// longer. The second part of a filter is written first, since the jumps of the first part depend on
+// its length.
+fn write_program(filter: &Filter, far: usize, buffer: &mut [u8]) -> usize
+    requires whole { program_size filter.now ≤ length buffer.old }
     requires near { program_size filter.now + far ≤ MAX_DISTANCE }
-    ensures written { buffer.new ≡ program_of filter.now far }
+    ensures len { result ≡ program_size filter.now }
+    ensures written { EndsWith buffer.old (program_of filter.now far) buffer.new }
     ensures in_range { AreConditionsInRange filter.now }
 {
     match filter {
@@ -90,40 +94,58 @@ fn write_program(filter: &Filter, far: usize, buffer: &mut [u8])
         // If `first` does not select the socket, the run continues `far` bytes after the end of
         // `second`, else at the start of `second`.
         Filter::And(first, second) => {
-            let (first_program, second_program) = buffer.split_at_mut(first.len());
-            write_program(first, second_program.len() + far, first_program);
-            write_program(second, far, second_program);
+            let second_len = write_program(second, far, buffer);
+            let end = buffer.len() - second_len;
+            second_len + write_program(first, second_len + far, &mut buffer[..end])
         }
         // If `first` selects the socket, the run reaches the jump, which leads to the end.
-        // Otherwise it continues after the jump. The condition of `INET_DIAG_BC_JMP` is never met.
+        // Otherwise it continues after the jump.
         Filter::Or(first, second) => {
-            let (first_program, rest) = buffer.split_at_mut(first.len());
-            let (jump, second_program) = rest.split_at_mut(OPERATION_HEADER_LEN);
-            write_program(first, OPERATION_HEADER_LEN, first_program);
-            write_operation(INET_DIAG_BC_JMP, 0, second_program.len(), jump);
-            write_program(second, far, second_program);
+            let second_len = write_program(second, far, buffer);
+            let end = buffer.len() - second_len;
+            write_jump(second_len, &mut buffer[..end]);
+            let start = end - OPERATION_HEADER_LEN;
+            let first_len = write_program(first, OPERATION_HEADER_LEN, &mut buffer[..start]);
+            first_len + OPERATION_HEADER_LEN + second_len
         }
         // If `filter` selects the socket, the run reaches the jump, which leads `far` bytes after
         // the end. Otherwise it continues at the end.
         Filter::Not(filter) => {
-            let (program, jump) = buffer.split_at_mut(filter.len());
-            write_program(filter, OPERATION_HEADER_LEN, program);
-            write_operation(INET_DIAG_BC_JMP, 0, far, jump);
+            write_jump(far, buffer);
+            let end = buffer.len() - OPERATION_HEADER_LEN;
+            write_program(filter, OPERATION_HEADER_LEN, &mut buffer[..end]) + OPERATION_HEADER_LEN
         }
     }
 }
 
-// Writes the operation of a condition to a buffer of its length. If the condition is not met, it
-// jumps to `far` bytes after its end. The distance from its start to there has to fit 16 bits.
-fn write_condition(condition: Condition, far: usize, buffer: &mut [u8])
-    requires whole { length buffer.old ≡ OPERATION_HEADER_LEN + length (arguments condition) }
+// Writes a jump of `far` bytes to the end of a buffer: an operation whose condition is never met.
+// The distance from its start to the target of the jump has to fit 16 bits.
+fn write_jump(far: usize, buffer: &mut [u8])
+    requires whole { OPERATION_HEADER_LEN ≤ length buffer.old }
+    requires near { OPERATION_HEADER_LEN + far ≤ MAX_DISTANCE }
+    ensures { EndsWith buffer.old (jump far) buffer.new }
+{
+    let start = buffer.len() - OPERATION_HEADER_LEN;
+    write_operation(INET_DIAG_BC_JMP, 0, far, &mut buffer[start..]);
+}
+
+// Writes the operation of a condition to the end of a buffer, and returns its length. If the
+// condition is not met, it jumps to `far` bytes after its end. The distance from its start to there
+// has to fit 16 bits.
+fn write_condition(condition: Condition, far: usize, buffer: &mut [u8]) -> usize
+    requires whole { OPERATION_HEADER_LEN + length (arguments condition) ≤ length buffer.old }
     requires near { OPERATION_HEADER_LEN + length (arguments condition) + far ≤ MAX_DISTANCE }
-    ensures written { buffer.new ≡ operation (code_of condition) (arguments condition) far }
+    ensures len { result ≡ OPERATION_HEADER_LEN + length (arguments condition) }
+    ensures written { EndsWith buffer.old (operation (code_of condition) (arguments condition) far)
+        buffer.new }
     ensures in_range { IsConditionInRange condition }
 {
-    let (header, arguments) = buffer.split_at_mut(OPERATION_HEADER_LEN);
+    let len = OPERATION_HEADER_LEN + condition.arguments_len();
+    let (_, operation) = buffer.split_at_mut(buffer.len() - len);
+    let (header, arguments) = operation.split_at_mut(OPERATION_HEADER_LEN);
     condition.write_arguments(arguments);
     write_operation(condition.code(), arguments.len(), far, header);
+    len
 }
 
 // Writes the start of an operation, `struct inet_diag_bc_op`. `arguments_len` bytes of arguments

@@ -1,8 +1,8 @@
 //! Filters: conditions combined by `And`, `Or` and `Not`.
 
-ghost use Rattle.std.specs.Prelude.{◌≡◌, ◌≤◌, SomeIff};
+ghost use Rattle.std.specs.Prelude.{◌≤◌, SomeIff};
 
-use crate::codes::{MAX_DISTANCE, OPERATION_HEADER_LEN};
+use crate::codes::OPERATION_HEADER_LEN;
 use crate::condition::Condition;
 
 /// A filter, which selects sockets. It borrows its parts.
@@ -48,15 +48,6 @@ impl Filter<'_> {
                 Some(filter_len + jump_len)
             }
         }
-    }
-
-    // Returns the length of the filter's program in bytes (`program_size`). It must be at most
-    // `MAX_DISTANCE`: the programs that `assemble` writes are not longer.
-    pub(crate) fn len(&self) -> usize
-        requires { program_size self.now ≤ MAX_DISTANCE }
-        ensures { result ≡ program_size self.now }
-    {
-        self.len_within(MAX_DISTANCE).unwrap()
     }
 }
 

@@ -1,5 +1,5 @@
 -- The program of a filter, as the assembler writes it.
-use Rattle.std.specs.Prelude.{ℕ, ◌+◌, List, [], ◌∷◌, ◌++◌, length}
+use Rattle.std.specs.Prelude.{◌≡◌, ℕ, ◌+◌, ◌-◌, List, [], ◌∷◌, ◌++◌, length, take}
 use Rattle.byteorder.specs.Endian.{little_bytes}
 use Rattle.sock_diag_filters.specs.declared.codes.TheConstants.{INET_DIAG_BC_JMP}
 use Rattle.sock_diag_filters.specs.declared.codes.TheConstants.{OPERATION_HEADER_LEN}
@@ -45,3 +45,8 @@ program_of (parts.Or' p first q second) far =
     program_of first OPERATION_HEADER_LEN
     ++ (jump (program_size second) ++ program_of second far)
 program_of (parts.Not' p filter) far = program_of filter OPERATION_HEADER_LEN ++ jump far
+
+-- `EndsWith old written new`: a buffer that contained `old` contains `new`: the bytes `written` at
+-- its end, and before them what it contained before.
+abbrev pub EndsWith : List ℕ → List ℕ → List ℕ → Type 0
+EndsWith old written new = new ≡ take (length old - length written) old ++ written
