@@ -97,6 +97,9 @@ HEADERS = [
     "a1b2c3d400020004000000000000000000001000000000fd",
 ]
 
+# A file header with a longer limit of packets.
+WIDE_HEADER = "d4c3b2a102000400000000000000000000000400fd000000"
+
 # Replies about sockets of other families, each with its lines and with its object in JSON: the
 # replies of a kernel about a netlink and a packet socket, and replies about a listening vsock
 # socket, an XDP socket and a netlink socket with groups, which were written by hand from the
@@ -107,12 +110,12 @@ FAMILIES = [
         "0000002800000000000000004003000000000000400300000000000000000000000000000000000000"
         "00000800040000000000",
         "nl    UNCONN     0      0      4          -     0:0                            *\n"
-        "\t sk:3 skmem:(r0,rb212992,t0,tb212992,f0,w0,o0,bl0,d0) unknown:(4,4)\n",
+        "\t sk:3 skmem:(r0,rb212992,t0,tb212992,f0,w0,o0,bl0,d0)\n",
         "{\"netid\":\"nl\",\"state_name\":\"UNCONN\",\"family\":16,\"type\":2,\"protocol\":"
         "0,\"state\":7,\"portid\":0,\"dst_portid\":0,\"dst_group\":0,\"ino\":4,\"cookie\":"
         "\"3\",\"meminfo\":{\"rmem_alloc\":0,\"rcvbuf\":212992,\"wmem_alloc\":0,\"sndbuf\":"
         "212992,\"fwd_alloc\":0,\"wmem_queued\":0,\"optmem\":0,\"backlog\":0,\"drops\":0},"
-        "\"other_attributes\":[{\"kind\":4,\"length\":4}]}",
+        "\"flags\":0,\"other_attributes\":[]}",
     ),
     (
         "70000000140002000700000093400000110303001bb0030002300000000000001c0000000100000000"
@@ -150,10 +153,70 @@ FAMILIES = [
         "3800000014000200070000000000000010020000921000000000000000000000090000000100000000"
         "0000000c0001001100000002000000",
         "nl    UNCONN     -      -      9          -     0:4242                         *\n"
-        "\t sk:1 groups:0x11\n",
+        "\t sk:1 groups:1,5,34\n",
         "{\"netid\":\"nl\",\"state_name\":\"UNCONN\",\"family\":16,\"type\":2,\"protocol\":"
         "0,\"state\":0,\"portid\":4242,\"dst_portid\":0,\"dst_group\":0,\"ino\":9,\"cookie"
-        "\":\"1\",\"groups\":17,\"other_attributes\":[]}",
+        "\":\"1\",\"groups\":[1,5,34],\"other_attributes\":[]}",
+    ),
+]
+
+# Headers of replies about a netlink, a packet and an XDP socket, each with its columns, and with
+# attributes. Of each attribute: the type, the digits of the value, the detail, the name of the
+# member in JSON and its value.
+FAMILY_VALUES = [
+    (
+        "2c000000140002000700000000000000100200009210000000000000000000000900000001000000"
+        "00000000",
+        "nl    UNCONN     -      -      9          -     0:4242                         * sk:1",
+        [
+            (1, "0100000001000080" + "00" * 7 + "80", " groups:1,33,64,128", "groups",
+             [1, 33, 64, 128]),
+            (1, "", "", "groups", []),
+            (1, "00" * 8191 + "80", " groups:65536", "groups", [65536]),
+            (4, "3f000000",
+             " cb_running pktinfo broadcast_error no_enobufs listen_all_nsid cap_ack", "flags", 63),
+            (4, "14000000", " broadcast_error listen_all_nsid", "flags", 20),
+            (4, "00000080", "", "flags", 1 << 31),
+        ],
+    ),
+    (
+        "20000000140002000700000000000000110303001bb003000230000000000000",
+        "p_raw UNCONN     -      -      241691     -     3:*                            * sk:3002",
+        [
+            (2, "0040000004000000000800002000000000000000" "0d0000001f000000",
+             " ring_rx(blk_size:16384,blk_nr:4,frm_size:2048,frm_nr:32,tmo:0,features:0x1f)",
+             "rx_ring", {"block_size": 16384, "block_nr": 4, "frame_size": 2048, "frame_nr": 32,
+                         "retire_tmo": 0, "sizeof_priv": 13, "features": 31}),
+            (3, "01000000020000000300000004000000" "050000000600000000000000ff",
+             " ring_tx(blk_size:1,blk_nr:2,frm_size:3,frm_nr:4,tmo:5,features:0x0)",
+             "tx_ring", {"block_size": 1, "block_nr": 2, "frame_size": 3, "frame_nr": 4,
+                         "retire_tmo": 5, "sizeof_priv": 6, "features": 0}),
+            (4, "07000100", " fanout(id:7,type:lb)", "fanout", {"id": 7, "type": 1}),
+            (4, "ffff0400", " fanout(id:65535,type:random)", "fanout", {"id": 65535, "type": 4}),
+            (4, "00000700", " fanout(id:0,type:0x7)", "fanout", {"id": 0, "type": 7}),
+        ],
+    ),
+    (
+        "200000001400020007000000000000002c030000070000000800000000000000",
+        "xdp   UNCONN     -      -      7          -     *:*                            * sk:8",
+        [
+            (3, "00080000", " rx(entries:2048)", "rx_ring", {"entries": 2048}),
+            (4, "01000000", " tx(entries:1)", "tx_ring", {"entries": 1}),
+            (5, "00000000010000000200000003000000" "04000000050000000600000007000000"
+             "0300000008000000",
+             " umem(id:2,size:4294967296,num_pages:3,chunk_size:4,headroom:5,ifindex:6,qid:7,zc:1,"
+             "refs:8)",
+             "umem", {"id": 2, "size": 1 << 32, "num_pages": 3, "chunk_size": 4, "headroom": 5,
+                      "ifindex": 6, "queue_id": 7, "flags": 3, "refs": 8}),
+            (6, "02000000", " fr(entries:2)", "umem_fill_ring", {"entries": 2}),
+            (7, "03000000", " cr(entries:3)", "umem_completion_ring", {"entries": 3}),
+            (9, "010000000000000002000000000000000300000000000000" "040000000000000005000000000000"
+             "000600000000000000",
+             " stats(rx dropped:1,rx invalid:2,rx queue full:3,rx fill ring empty:4,tx invalid:5,"
+             "tx ring empty:6)",
+             "stats", {"rx_dropped": 1, "rx_invalid": 2, "rx_full": 3, "fill_ring_empty": 4,
+                       "tx_invalid": 5, "tx_ring_empty": 6}),
+        ],
     ),
 ]
 
@@ -503,6 +566,23 @@ def lists_other_families(sslist):
         sslist.run(pcap(HEADERS[0], (SOCK_DIAG, reply)), lines=[line])
 
 
+def lists_values_of_other_families(sslist):
+    """Groups, flags, rings, fanout groups, memory and counters of netlink, packet and XDP sockets.
+    Of groups only bits that are set count."""
+    for header, columns, values in FAMILY_VALUES:
+        for kind, value, detail, member, shown in values:
+            capture = pcap(WIDE_HEADER, (SOCK_DIAG, with_attributes(header, (kind, value))))
+            sslist.run(capture, ["-O"], [columns, detail, "\n"])
+            found = sslist.objects(capture)[0]
+            assert list(found)[-2:] == [member, "other_attributes"], found
+            assert list_of(found[member]) == list_of(shown), found
+
+
+def list_of(value):
+    """Returns the members of an object in their order, or another value."""
+    return list(value.items()) if isinstance(value, dict) else value
+
+
 def lists_attributes_of_newer_kernels(sslist):
     """Attributes that the port leaves undecoded have details, and the user id of a UNIX socket has
     a column."""
@@ -739,8 +819,7 @@ def separates_lists(sslist):
 
 def lists_a_long_datagram(sslist):
     """A packet with a thousand messages."""
-    header = "d4c3b2a102000400000000000000000000000400fd000000"
-    sslist.run(pcap(header, (SOCK_DIAG, UNIX * 1000)), lines=[UNIX_LINE] * 1000)
+    sslist.run(pcap(WIDE_HEADER, (SOCK_DIAG, UNIX * 1000)), lines=[UNIX_LINE] * 1000)
 
 
 def reports_where_a_capture_is_truncated(sslist):
@@ -847,7 +926,8 @@ def reports_invalid_blocks(sslist):
 def main():
     sslist, failed = Lister(sys.argv[1]), 0
     for check in (
-        lists_captures_of_both_orders, lists_other_families, lists_attributes_of_newer_kernels,
+        lists_captures_of_both_orders, lists_other_families, lists_values_of_other_families,
+        lists_attributes_of_newer_kernels,
         lists_the_first_valid_attribute,
         lists_short_tcp_info, lists_bit_fields_of_tcp_info, lists_the_payload_limit_of_tls,
         lists_the_last_endpoints_of_mptcp_info, lists_sctp_associations, lists_sctp_sockets,

@@ -2,23 +2,17 @@
 -- the prefix that all names of a struct or an enum have. `a` is an attribute. What it says is an
 -- `Outcome`: its facts, or nothing (None) if its type is unknown, or the error of its value. `utf8`
 -- is the option `--utf8`.
-use Rattle.std.specs.Prelude.{ℕ, ◌==◌, nat_le, if◌then◌else◌, List, [], ◌∷◌, codes, length}
-use Rattle.std.specs.Prelude.{Bool, false, None, Some, Ok, Err, Option, Result}
+use Rattle.std.specs.Prelude.{ℕ, ◌==◌, List, [], ◌∷◌, codes}
+use Rattle.std.specs.Prelude.{Bool, false, None, Some, Ok, Option}
 use Rattle.std.specs.Option.{option_map_or}
-use Rattle.byteorder.specs.Endian.{little_number}
 use Rattle.netlink_core.specs.Attribute.{Attribute}
-use Rattle.netlink_core.specs.declared.error.DecodeError.{DecodeError}
-use Rattle.netlink_core.specs.declared.error.DecodeError.TheVariants.{WrongLength}
 use Rattle.sock_diag_values.specs.declared.inet.legacy_mem_info.LegacyMemInfo.{LegacyMemInfo}
 use Rattle.sock_diag_values.specs.declared.inet.mem_info.MemInfo.{MemInfo}
 use Rattle.sock_diag_records.specs.declared.constants.TheConstants.{INET_DIAG_SKMEMINFO}
 use Rattle.sock_diag_records.specs.declared.constants.TheConstants.{UNIX_DIAG_MEMINFO}
-use Rattle.sock_diag_families.specs.declared.netlink.TheConstants.{NETLINK_DIAG_GROUPS}
 use Rattle.sock_diag_families.specs.declared.netlink.TheConstants.{NETLINK_DIAG_MEMINFO}
 use Rattle.sock_diag_families.specs.declared.packet.TheConstants.{PACKET_DIAG_MEMINFO}
-use Rattle.sock_diag_families.specs.declared.packet.attributes.PacketInfo.{PacketInfo}
 use Rattle.sock_diag_families.specs.declared.xdp.TheConstants.{XDP_DIAG_MEMINFO}
-use Rattle.sock_diag_families.specs.declared.xdp.attributes.XdpInfo.{XdpInfo}
 use Rattle.sock_diag_extras.specs.AnyNla as any
 use Rattle.sock_diag_extras.specs.AnyNla.{AnyValue, and_then, read_any}
 use Rattle.sock_diag_extras.specs.declared.any.nla.Sockets.{Sockets}
@@ -29,8 +23,10 @@ use Rattle.sock_diag_extras.specs.declared.congestion.DctcpInfo.{DctcpInfo}
 use Rattle.sock_diag_extras.specs.declared.congestion.VegasInfo.{VegasInfo}
 use Rattle.sslist_lister.specs.Facts.{Facts, Outcome, flag_facts, flag_number, group}
 use Rattle.sslist_lister.specs.Facts.{hidden_number, json_group, list_facts, name_facts}
-use Rattle.sslist_lister.specs.Facts.{number_facts, numbers, parsed_outcome, shown_number}
-use Rattle.sslist_lister.specs.Facts.{text_facts}
+use Rattle.sslist_lister.specs.Facts.{number_facts, numbers, shown_number, text_facts}
+use Rattle.sslist_lister.specs.FamilyFacts.{fanout_facts, groups_facts, netlink_flags_facts}
+use Rattle.sslist_lister.specs.FamilyFacts.{packet_facts, packet_ring_facts, umem_facts}
+use Rattle.sslist_lister.specs.FamilyFacts.{xdp_facts, xdp_ring_facts, xdp_statistics_facts}
 use Rattle.sslist_lister.specs.Md5Keys.{md5_facts}
 use Rattle.sslist_lister.specs.Tcp.{mptcp_info, tcp_info}
 use Rattle.sslist_lister.specs.UlpInfo.{ulp_outcome}
@@ -164,43 +160,6 @@ bbr_facts v =
     shown_number (codes ",pacing_gain:") (codes "pacing_gain") v.pacing_gain ∷
     shown_number (codes ",cwnd_gain:") (codes "cwnd_gain") v.window_gain ∷ []))
 
--- ---- netlink, packet and XDP sockets
-
--- `first_groups bits`: the first 32 groups of a netlink socket, a bit for each, in the first four
--- bytes of the value of NETLINK_DIAG_GROUPS; WrongLength if there are fewer
-abbrev pub first_groups : List ℕ → Result ℕ DecodeError
-first_groups bits =
-    if nat_le 4 (length bits) then Ok (little_number 4 bits)
-    else Err (WrongLength (Some NETLINK_DIAG_GROUPS) (length bits) 4)
-
--- what an attribute NETLINK_DIAG_GROUPS with this value says
-abbrev pub groups_outcome : List ℕ → Outcome
-groups_outcome bits =
-    parsed_outcome (number_facts Hex (codes " groups:0x") (Some (codes "groups")))
-    (first_groups bits)
-
--- PACKET_DIAG_INFO, `struct packet_diag_info` of linux/packet_diag.h. The table has a name for each
--- bit PDI_.. of `pdi_flags` that is set.
-unfoldable pub packet_facts : PacketInfo → Facts
-packet_facts p =
-    json_group (codes "info") (numbers (
-    hidden_number (codes "index") p.interface ∷
-    shown_number (codes " ver:") (codes "version") p.version ∷
-    hidden_number (codes "reserve") p.reserve ∷
-    shown_number (codes " cpy_thresh:") (codes "copy_thresh") p.copy_threshold ∷
-    hidden_number (codes "tstamp") p.timestamp ∷
-    hidden_number (codes "flags") p.flags ∷
-    flag_number 1 (codes " running") p.flags ∷ flag_number 2 (codes " auxdata") p.flags ∷
-    flag_number 4 (codes " origdev") p.flags ∷ flag_number 8 (codes " vnethdr") p.flags ∷
-    flag_number 16 (codes " loss") p.flags ∷ []))
-
--- XDP_DIAG_INFO, `struct xdp_diag_info` of linux/if_xdp.h. Only JSON has it here, since the table
--- has a column for it.
-unfoldable pub xdp_facts : XdpInfo → Facts
-xdp_facts x =
-    json_group (codes "info") (numbers (
-    hidden_number (codes "ifindex") x.interface ∷ hidden_number (codes "queue_id") x.queue ∷ []))
-
 -- ---- attributes of all kinds
 
 -- `with_facts facts`: an attribute has these facts
@@ -211,14 +170,14 @@ with_facts facts = Ok (Some facts)
 -- value is read as `value`. Only JSON has the name of a UNIX socket, its peer and its queues here
 -- (Never), since the table has columns for them. `icons` are the inodes of connections that wait to
 -- be accepted. A `struct tcp_info` may have any length. The upper layer protocol may have no valid
--- name, and the groups of a netlink socket may be too short.
+-- name.
 abbrev pub any_outcome : Bool → Sockets → AnyValue → Outcome
 any_outcome utf8 sockets (any.name n) = with_facts (name_facts n)
 any_outcome utf8 sockets (any.vfs file) = with_facts (vfs_facts file.inode file.device)
 any_outcome utf8 sockets (any.peer inode) =
     with_facts (number_facts Never [] (Some (codes "peer")) inode)
 any_outcome utf8 sockets (any.pending_connections inodes) =
-    with_facts (list_facts (codes " pending:") (codes "icons") inodes)
+    with_facts (list_facts (codes " pending:") (codes " pending:") (codes "icons") inodes)
 any_outcome utf8 sockets (any.queue_lengths receive send) = with_facts (queue_facts receive send)
 any_outcome utf8 sockets (any.memory m) = with_facts (memory_facts (memory_member sockets) m)
 any_outcome utf8 sockets (any.shutdown directions) = with_facts (shutdown_facts directions)
@@ -251,21 +210,27 @@ any_outcome utf8 sockets (any.bpf_storages bytes) = Ok None
 any_outcome utf8 sockets (any.cgroup_id n) =
     with_facts (number_facts Always (codes " cgroup:") (Some (codes "cgroup_id")) n)
 any_outcome utf8 sockets (any.options of_socket) = with_facts (option_bits of_socket.bits)
-any_outcome utf8 sockets (any.groups bits) = groups_outcome bits
-any_outcome utf8 sockets (any.netlink_flags bits) = Ok None
+any_outcome utf8 sockets (any.groups mask) = with_facts (groups_facts mask)
+any_outcome utf8 sockets (any.netlink_flags bits) = with_facts (netlink_flags_facts bits)
 any_outcome utf8 sockets (any.packet_info p) = with_facts (packet_facts p)
 any_outcome utf8 sockets (any.memberships records) = Ok None
-any_outcome utf8 sockets (any.receive_frames ring) = Ok None
-any_outcome utf8 sockets (any.send_frames ring) = Ok None
-any_outcome utf8 sockets (any.fanout n) = Ok None
+any_outcome utf8 sockets (any.receive_frames ring) =
+    with_facts (packet_ring_facts (codes " ring_rx(") (codes "rx_ring") ring)
+any_outcome utf8 sockets (any.send_frames ring) =
+    with_facts (packet_ring_facts (codes " ring_tx(") (codes "tx_ring") ring)
+any_outcome utf8 sockets (any.fanout n) = with_facts (fanout_facts n)
 any_outcome utf8 sockets (any.filter instructions) = Ok None
 any_outcome utf8 sockets (any.xdp_info x) = with_facts (xdp_facts x)
-any_outcome utf8 sockets (any.receive_ring entries) = Ok None
-any_outcome utf8 sockets (any.send_ring entries) = Ok None
-any_outcome utf8 sockets (any.fill_ring entries) = Ok None
-any_outcome utf8 sockets (any.completion_ring entries) = Ok None
-any_outcome utf8 sockets (any.umem m) = Ok None
-any_outcome utf8 sockets (any.statistics counters) = Ok None
+any_outcome utf8 sockets (any.receive_ring entries) =
+    with_facts (xdp_ring_facts (codes " rx(") (codes "rx_ring") entries)
+any_outcome utf8 sockets (any.send_ring entries) =
+    with_facts (xdp_ring_facts (codes " tx(") (codes "tx_ring") entries)
+any_outcome utf8 sockets (any.fill_ring entries) =
+    with_facts (xdp_ring_facts (codes " fr(") (codes "umem_fill_ring") entries)
+any_outcome utf8 sockets (any.completion_ring entries) =
+    with_facts (xdp_ring_facts (codes " cr(") (codes "umem_completion_ring") entries)
+any_outcome utf8 sockets (any.umem m) = with_facts (umem_facts m)
+any_outcome utf8 sockets (any.statistics counters) = with_facts (xdp_statistics_facts counters)
 any_outcome utf8 sockets (any.unknown a) = Ok None
 
 -- `attribute_outcome utf8 sockets a`: what an attribute of a reply about these sockets says: that

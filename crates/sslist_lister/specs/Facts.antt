@@ -15,12 +15,12 @@ use Rattle.sslist_lister.specs.texts.JsonData.{JsonMember, flag_member, numbers_
 use Rattle.sslist_lister.specs.texts.JsonData.{object_member, optional_member, text_member}
 use Rattle.sslist_lister.specs.texts.Parts.{directions}
 use Rattle.sslist_lister.specs.JsonNames.{name_members}
-use Rattle.sslist_lister.specs.UlpNames.{flag_letters, tls_cipher_name}
-use Rattle.sslist_lister.specs.UlpNames.{tls_mode_name, tls_version_name}
+use Rattle.sslist_lister.specs.NumberNames.{fanout_mode_name, flag_letters, tls_cipher_name}
+use Rattle.sslist_lister.specs.NumberNames.{tls_mode_name, tls_version_name}
 use Rattle.sslist_lister.specs.declared.facts.Shown.{Shown}
 use Rattle.sslist_lister.specs.declared.facts.Shown.TheVariants.{Always, Bits, Cipher, Closed}
-use Rattle.sslist_lister.specs.declared.facts.Shown.TheVariants.{Directions, Halves, Hex}
-use Rattle.sslist_lister.specs.declared.facts.Shown.TheVariants.{Letters, Mode, Never, Nonzero}
+use Rattle.sslist_lister.specs.declared.facts.Shown.TheVariants.{Directions, FanoutMode, Halves}
+use Rattle.sslist_lister.specs.declared.facts.Shown.TheVariants.{Hex, Letters, Mode, Never, Nonzero}
 use Rattle.sslist_lister.specs.declared.facts.Shown.TheVariants.{NonzeroHex}
 use Rattle.sslist_lister.specs.declared.facts.Shown.TheVariants.{Threshold, Version}
 
@@ -79,6 +79,8 @@ number_text Version text n = text ++ unwrap_or (tls_version_name n) (decimal n)
 number_text Cipher text n = text ++ unwrap_or (tls_cipher_name n) (decimal n)
 number_text Mode text n = text ++ unwrap_or (tls_mode_name n) (decimal n)
 number_text Letters text n = if n == 0 then [] else text ++ flag_letters n
+number_text FanoutMode text n =
+    text ++ unwrap_or (fanout_mode_name n) (codes "0x" ++ digits 16 false n)
 
 -- `named_member member n`: the number `n` in JSON, under the name `member`; no member for None
 abbrev pub named_member : Option (List ℕ) → ℕ → List JsonMember
@@ -142,11 +144,17 @@ text_facts utf8 text member name = record {
   members = text_member member name;
 }
 
--- `list_facts text member ns`: the numbers `ns`. The table shows each after `text`. JSON has the
--- array `member`.
-unfoldable pub list_facts : List ℕ → List ℕ → List ℕ → Facts
-list_facts text member ns = record {
-  text = flat_map (λ n. text ++ decimal n) ns;
+-- `separated before later ns`: the numbers `ns` in decimal: the first one after the text `before`,
+-- and each later one after the text `later`
+abbrev pub separated : List ℕ → List ℕ → List ℕ → List ℕ
+separated before later [] = []
+separated before later (n ∷ ns) = before ++ (decimal n ++ separated later later ns)
+
+-- `list_facts before later member ns`: the numbers `ns`. The table shows the first one after
+-- `before`, and each later one after `later`. JSON has the array `member`.
+unfoldable pub list_facts : List ℕ → List ℕ → List ℕ → List ℕ → Facts
+list_facts before later member ns = record {
+  text = separated before later ns;
   members = numbers_member member ns;
 }
 

@@ -12,8 +12,9 @@ pub mod Rows
 pub mod Facts
 pub mod Tcp
 pub mod TcpRows
+pub mod FamilyFacts
 pub mod AttributeFacts
-pub mod UlpNames
+pub mod NumberNames
 pub mod Collected
 pub mod Details
 pub mod RequestLine

@@ -6,59 +6,41 @@
 //! showed before. `S.content sink.old` and `S.content sink.new` are what the sink shows before and
 //! after the call. `any_model value.now` is what an attribute says.
 
-ghost use Rattle.std.specs.Prelude.{◌≡◌, OnOk, Some, false};
+ghost use Rattle.std.specs.Prelude.{◌≡◌, IfOk, OnOk, Some, codes, false};
 ghost use Rattle.netlink_core.specs.Walk.{buffered_attribute};
+ghost use Rattle.sock_diag_attributes.specs.NumbersModel.{numbers_view_model};
 ghost use Rattle.sock_diag_extras.specs.AnyNla.{any_model};
 ghost use Rattle.sock_diag_extras.specs.declared.any.nla.Sockets.{Sockets as SocketsRead};
 ghost use Rattle.sslist_lister.specs.AttributeFacts.{any_outcome, attribute_outcome, bbr_facts};
-ghost use Rattle.sslist_lister.specs.AttributeFacts.{dctcp_facts, first_groups, groups_outcome};
+ghost use Rattle.sslist_lister.specs.AttributeFacts.{dctcp_facts};
 ghost use Rattle.sslist_lister.specs.AttributeFacts.{legacy_memory_facts, memory_facts};
 ghost use Rattle.sslist_lister.specs.AttributeFacts.{memory_group, memory_kind, memory_member};
-ghost use Rattle.sslist_lister.specs.AttributeFacts.{option_bits, owner_facts, packet_facts};
+ghost use Rattle.sslist_lister.specs.AttributeFacts.{option_bits, owner_facts};
 ghost use Rattle.sslist_lister.specs.AttributeFacts.{queue_facts, vegas_facts, vfs_facts};
-ghost use Rattle.sslist_lister.specs.AttributeFacts.{xdp_facts};
-ghost use Rattle.sslist_lister.specs.Facts.{AddsFacts, facts_in, number_facts, status_of};
+ghost use Rattle.sslist_lister.specs.Facts.{AddsFacts, facts_in, list_facts, number_facts};
+ghost use Rattle.sslist_lister.specs.Facts.{status_of};
 ghost use Rattle.sslist_lister.specs.declared.facts.Shown.TheVariants.{Hex};
 
-use crate::facts::{FactSink, NumberRow, Shown, Status, show_group, show_json_group, show_numbers};
+use crate::facts::{
+    FactSink, NumberRow, Shown, Status, flag, hidden, show_group, show_json_group, show_numbers,
+    shown,
+};
+use crate::family_facts::{
+    show_fanout, show_groups, show_netlink_flags, show_packet, show_packet_ring, show_umem,
+    show_xdp, show_xdp_ring, show_xdp_statistics,
+};
 use crate::tcp::{show_mptcp_info, show_tcp_info};
 use crate::ulp_info::{show_ulp, status_of_ulp};
-use byteorder::{ByteOrder, LittleEndian};
-use netlink_core::{DecodeError, NlaBuffer};
+use netlink_core::NlaBuffer;
+use sock_diag_attributes::unix::nlas::NumbersView;
 use sock_diag_extras::any::{AnyNla, Sockets};
 use sock_diag_extras::{BbrInfo, DctcpInfo, VegasInfo};
-use sock_diag_families::netlink::{NETLINK_DIAG_GROUPS, NETLINK_DIAG_MEMINFO};
-use sock_diag_families::packet::{PACKET_DIAG_MEMINFO, PacketInfo};
-use sock_diag_families::xdp::{XDP_DIAG_MEMINFO, XdpInfo};
+use sock_diag_families::netlink::NETLINK_DIAG_MEMINFO;
+use sock_diag_families::packet::PACKET_DIAG_MEMINFO;
+use sock_diag_families::xdp::XDP_DIAG_MEMINFO;
 use sock_diag_records::constants::{INET_DIAG_SKMEMINFO, UNIX_DIAG_MEMINFO};
 use sock_diag_values::inet::{LegacyMemInfo, MemInfo};
 use std::alloc::{AllocError, Global};
-
-/// A number that the table shows after this text, and JSON has.
-macro_rules! shown {
-    ($text:literal, $member:literal, $number:expr) => {
-        (
-            Shown::Always,
-            $text,
-            Some($member),
-            Some($number as u64),
-        )
-    };
-}
-
-/// A number that only JSON has.
-macro_rules! hidden {
-    ($member:literal, $number:expr) => {
-        (Shown::Never, b"", Some($member), Some($number as u64))
-    };
-}
-
-/// Bits that only the table shows, by a text, if the number has one of them.
-macro_rules! flag {
-    ($bits:literal, $text:literal, $number:expr) => {
-        (Shown::Bits($bits), $text, None, Some($number as u64))
-    };
-}
 
 /// Shows the facts of an attribute of a reply about these sockets. Shows nothing if its kind is
 /// unknown, or if its value is invalid. The table shows names with letters that are not ASCII if
@@ -96,7 +78,7 @@ fn show_any<S: FactSink>(
         AnyNla::Name(name) => sink.socket_name(alloc, *name),
         AnyNla::Vfs(file) => show_vfs(sink, file.inode(), file.device()),
         AnyNla::Peer(inode) => sink.number(Shown::Never, b"", Some("peer"), *inode as u64),
-        AnyNla::PendingConnections(inodes) => sink.list(b" pending:", "icons", inodes),
+        AnyNla::PendingConnections(inodes) => show_pending(sink, alloc, inodes),
         AnyNla::QueueLengths(receive, send) => show_queues(sink, *receive, *send),
         AnyNla::Memory(memory) => show_memory(sink, memory_member(sockets), memory),
         AnyNla::Shutdown(directions) => {
@@ -127,24 +109,26 @@ fn show_any<S: FactSink>(
         AnyNla::Ulp(info) => show_ulp(sink, info.0.bytes()),
         AnyNla::CgroupId(id) => sink.number(Shown::Always, b" cgroup:", Some("cgroup_id"), *id),
         AnyNla::Options(options) => show_option_bits(sink, options.bits),
-        AnyNla::Groups(bits) => show_groups(sink, bits),
+        AnyNla::Groups(mask) => show_groups(sink, alloc, mask),
+        AnyNla::NetlinkFlags(bits) => show_netlink_flags(sink, *bits),
         AnyNla::PacketInfo(info) => show_packet(sink, info),
+        AnyNla::ReceiveFrames(ring) => show_packet_ring(sink, b" ring_rx(", "rx_ring", ring),
+        AnyNla::SendFrames(ring) => show_packet_ring(sink, b" ring_tx(", "tx_ring", ring),
+        AnyNla::Fanout(number) => show_fanout(sink, *number),
         AnyNla::XdpInfo(info) => show_xdp(sink, info),
+        AnyNla::ReceiveRing(entries) => show_xdp_ring(sink, b" rx(", "rx_ring", *entries),
+        AnyNla::SendRing(entries) => show_xdp_ring(sink, b" tx(", "tx_ring", *entries),
+        AnyNla::FillRing(entries) => show_xdp_ring(sink, b" fr(", "umem_fill_ring", *entries),
+        AnyNla::CompletionRing(entries) => {
+            show_xdp_ring(sink, b" cr(", "umem_completion_ring", *entries)
+        }
+        AnyNla::Umem(umem) => show_umem(sink, umem),
+        AnyNla::Statistics(counters) => show_xdp_statistics(sink, counters),
         AnyNla::LocalAddresses(_)
         | AnyNla::PeerAddresses(_)
         | AnyNla::BpfStorages(_)
-        | AnyNla::NetlinkFlags(_)
         | AnyNla::Memberships(_)
-        | AnyNla::ReceiveFrames(_)
-        | AnyNla::SendFrames(_)
-        | AnyNla::Fanout(_)
         | AnyNla::Filter(_)
-        | AnyNla::ReceiveRing(_)
-        | AnyNla::SendRing(_)
-        | AnyNla::FillRing(_)
-        | AnyNla::CompletionRing(_)
-        | AnyNla::Umem(_)
-        | AnyNla::Statistics(_)
         | AnyNla::Unknown(_) => Ok(()),
     }
 }
@@ -157,25 +141,11 @@ pub(crate) fn status_of_any(value: &AnyNla<'_>) -> Status
 {
     match value {
         AnyNla::Ulp(info) => status_of_ulp(info.0.bytes()),
-        AnyNla::Groups(bits) => match read_groups(bits) {
-            Ok(_) => Ok(true),
-            Err(error) => Err(error),
-        },
         AnyNla::LocalAddresses(_)
         | AnyNla::PeerAddresses(_)
         | AnyNla::BpfStorages(_)
-        | AnyNla::NetlinkFlags(_)
         | AnyNla::Memberships(_)
-        | AnyNla::ReceiveFrames(_)
-        | AnyNla::SendFrames(_)
-        | AnyNla::Fanout(_)
         | AnyNla::Filter(_)
-        | AnyNla::ReceiveRing(_)
-        | AnyNla::SendRing(_)
-        | AnyNla::FillRing(_)
-        | AnyNla::CompletionRing(_)
-        | AnyNla::Umem(_)
-        | AnyNla::Statistics(_)
         | AnyNla::Unknown(_) => Ok(false),
         _ => Ok(true),
     }
@@ -192,6 +162,31 @@ fn show_vfs<S: FactSink>(sink: &mut S, inode: u32, device: u32) -> Result<(), Al
         (Shown::Closed, b",", Some("dev"), Some(device as u64)),
     ];
     show_json_group(sink, "vfs", &rows)
+}
+
+/// Shows the inodes of connections that wait to be accepted (`UNIX_DIAG_ICONS`).
+fn show_pending<S: FactSink>(
+    sink: &mut S,
+    alloc: Global,
+    inodes: &NumbersView<'_>,
+) -> Result<(), AllocError>
+    ensures { OnOk result (AddsFacts (S.content sink.old) (S.content sink.new)
+        (list_facts (codes " pending:") (codes " pending:") (codes "icons")
+        (numbers_view_model inodes.now))) }
+{
+    let numbers = numbers_in(alloc, inodes)?;
+    sink.list(b" pending:", b" pending:", "icons", numbers.as_slice())
+}
+
+/// Returns the numbers of a view.
+fn numbers_in(alloc: Global, view: &NumbersView<'_>) -> Result<Vec<u64>, AllocError>
+    ensures { IfOk result (λ numbers. numbers.items ≡ numbers_view_model view.now) }
+{
+    let mut numbers = Vec::new(alloc);
+    for number in view.iter() {
+        numbers.push(number.into())?;
+    }
+    Ok(numbers)
 }
 
 /// Shows the lengths of the queues of a UNIX socket: `first` of the receive queue, `second` of the
@@ -385,68 +380,4 @@ fn widened(number: Option<u32>) -> Option<u64>
         Some(number) => Some(number.into()),
         None => None,
     }
-}
-
-/// Shows the settings of a packet socket (`PACKET_DIAG_INFO`).
-#[tactic(auto, unfolding(crate::specs::AttributeFacts::packet_facts))]
-fn show_packet<S: FactSink>(sink: &mut S, info: &PacketInfo) -> Result<(), AllocError>
-    ensures { OnOk result (AddsFacts (S.content sink.old) (S.content sink.new)
-        (packet_facts info.now)) }
-{
-    // The bits are `PDI_RUNNING`, `PDI_AUXDATA`, `PDI_ORIGDEV`, `PDI_VNETHDR` and `PDI_LOSS` of
-    // linux/packet_diag.h.
-    let rows: [NumberRow<'_>; 11] = [
-        hidden!("index", info.interface),
-        shown!(b" ver:", "version", info.version),
-        hidden!("reserve", info.reserve),
-        shown!(b" cpy_thresh:", "copy_thresh", info.copy_threshold),
-        hidden!("tstamp", info.timestamp),
-        hidden!("flags", info.flags),
-        flag!(1, b" running", info.flags),
-        flag!(2, b" auxdata", info.flags),
-        flag!(4, b" origdev", info.flags),
-        flag!(8, b" vnethdr", info.flags),
-        flag!(16, b" loss", info.flags),
-    ];
-    show_json_group(sink, "info", &rows)
-}
-
-/// Shows the interface and the queue of an XDP socket (`XDP_DIAG_INFO`). Only JSON has them here,
-/// since the table has a column for them.
-#[tactic(auto, unfolding(crate::specs::AttributeFacts::xdp_facts))]
-fn show_xdp<S: FactSink>(sink: &mut S, info: &XdpInfo) -> Result<(), AllocError>
-    ensures { OnOk result (AddsFacts (S.content sink.old) (S.content sink.new)
-        (xdp_facts info.now)) }
-{
-    let rows: [NumberRow<'_>; 2] = [
-        hidden!("ifindex", info.interface),
-        hidden!("queue_id", info.queue),
-    ];
-    show_json_group(sink, "info", &rows)
-}
-
-/// Shows the first 32 groups of a netlink socket. Shows nothing if there are fewer than four bytes.
-fn show_groups<S: FactSink>(sink: &mut S, bits: &[u8]) -> Result<(), AllocError>
-    ensures { OnOk result (AddsFacts (S.content sink.old) (S.content sink.new)
-        (facts_in (groups_outcome bits.now))) }
-{
-    match read_groups(bits) {
-        Ok(groups) => show_hex(sink, b" groups:0x", "groups", groups as u64),
-        Err(_) => Ok(()),
-    }
-}
-
-/// Returns the first 32 groups of a netlink socket, which are the first four bytes of the value of
-/// `NETLINK_DIAG_GROUPS`. If there are fewer, the error is `WrongLength`.
-fn read_groups(bits: &[u8]) -> Result<u32, DecodeError>
-    ensures { result ≡ first_groups bits.now }
-{
-    if bits.len() < 4 {
-        return Err(DecodeError::WrongLength {
-            kind: Some(NETLINK_DIAG_GROUPS),
-            got: bits.len(),
-            need: 4,
-        });
-    }
-    Ok(LittleEndian::read_u32(bits))
 }

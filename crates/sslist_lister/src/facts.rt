@@ -10,11 +10,12 @@ ghost use Rattle.std.specs.Prelude.{◌≡◌, ◌++◌, ◌∷◌, [], ℕ, Lis
 ghost use Rattle.std.specs.Prelude.{option_map, refl, unwrap_or};
 ghost use Rattle.json.specs.Token.{Token, begin_object, end_object, key};
 ghost use Rattle.sock_diag_attributes.specs.NameModel.{name_view_model};
-ghost use Rattle.sock_diag_attributes.specs.NumbersModel.{numbers_view_model};
 ghost use Rattle.sslist_lister.specs.Facts.{AddsFacts, AddsItems, Facts, SinkContent, both};
 ghost use Rattle.sslist_lister.specs.Facts.{flag_facts, group, json_group, list_facts, name_facts};
 ghost use Rattle.sslist_lister.specs.Facts.{named_member, no_facts, number_facts, number_row_facts};
-ghost use Rattle.sslist_lister.specs.Facts.{number_row_of, number_text, numbers, text_facts};
+ghost use Rattle.sslist_lister.specs.Facts.{number_row_of, number_text, numbers, separated};
+ghost use Rattle.sslist_lister.specs.Facts.{text_facts};
+ghost use Rattle.sslist_lister.specs.declared.facts.Shown.TheVariants.{FanoutMode};
 ghost use Rattle.sslist_lister.specs.laws.FactTokens.{group_tokens, no_tokens};
 ghost use Rattle.sslist_lister.specs.Md5Keys.{md5_facts};
 ghost use Rattle.sslist_lister.specs.laws.MemberTokens.{tokens_append};
@@ -22,14 +23,16 @@ ghost use Rattle.sslist_lister.specs.texts.JsonWriting.{KeepsPrefix, members_tok
 
 use crate::json_names::{write_list, write_name};
 use crate::md5_keys::{push_md5_keys, write_md5_keys};
+use crate::number_names::{
+    name_of_cipher, name_of_fanout_mode, name_of_mode, name_of_version, push_flag_letters,
+};
 use crate::texts::cells::{push_hex, push_number};
 use crate::texts::json_writing::{begin_member, write_flag, write_optional, write_text};
 use crate::texts::names::push_shown;
 use crate::texts::parts::push_directions;
-use crate::ulp_names::{name_of_cipher, name_of_mode, name_of_version, push_flag_letters};
 use json::Writer;
 use netlink_core::DecodeError;
-use sock_diag_attributes::unix::nlas::{NameView, NumbersView};
+use sock_diag_attributes::unix::nlas::NameView;
 use std::alloc::{AllocError, Global};
 
 /// `TCP_INFINITE_SSTHRESH`, a slow start threshold that is not set.
@@ -66,6 +69,8 @@ pub(crate) enum Shown {
     Mode,
     /// A text, and a letter for each flag of a subflow that is set, but nothing for 0.
     Letters,
+    /// A text, and the mode of a fanout group, or the number in hexadecimal digits after `0x`.
+    FanoutMode,
 }
 
 /// What facts are shown in: the text of the table, or a line of JSON.
@@ -115,15 +120,17 @@ pub(crate) trait FactSink {
         ensures { OnOk result (AddsFacts (content self.old) (content self.new)
             (text_facts utf8 text.now member.now name.now)) };
 
-    /// Shows numbers. The table shows each after `text`. JSON has the array `member`.
+    /// Shows numbers. The table shows the first one after `before`, and each later one after
+    /// `later`. JSON has the array `member`.
     fn list(
         &mut self,
-        text: &[u8],
+        before: &[u8],
+        later: &[u8],
         member: &str,
-        numbers: &NumbersView<'_>,
+        numbers: &[u64],
     ) -> Result<(), AllocError>
         ensures { OnOk result (AddsFacts (content self.old) (content self.new)
-            (list_facts text.now member.now (numbers_view_model numbers.now))) };
+            (list_facts before.now later.now member.now numbers.now)) };
 
     /// Shows the name of a UNIX socket. Only JSON has it here, since the table has a column for it.
     /// JSON allocates temporary strings by `alloc`.
@@ -216,11 +223,12 @@ impl FactSink for Vec<u8> {
     #[tactic(auto, unfolding(crate::specs::Facts::list_facts))]
     fn list(
         &mut self,
-        text: &[u8],
+        before: &[u8],
+        later: &[u8],
         _member: &str,
-        numbers: &NumbersView<'_>,
+        numbers: &[u64],
     ) -> Result<(), AllocError> {
-        push_each(self, text, numbers)
+        push_separated(self, before, later, numbers)
     }
 
     #[tactic(auto, unfolding(crate::specs::Facts::name_facts))]
@@ -296,9 +304,10 @@ impl FactSink for Writer {
     #[tactic(auto, unfolding(crate::specs::Facts::list_facts))]
     fn list(
         &mut self,
-        _text: &[u8],
+        _before: &[u8],
+        _later: &[u8],
         member: &str,
-        numbers: &NumbersView<'_>,
+        numbers: &[u64],
     ) -> Result<(), AllocError> {
         write_list(self, member, numbers)
     }
@@ -334,6 +343,36 @@ pub(crate) type Status = Result<bool, DecodeError>;
 /// A number of a record: how the table shows it, its text there, its name in JSON, and the number,
 /// or `None` if it is absent.
 pub(crate) type NumberRow<'a> = (Shown, &'a [u8], Option<&'a str>, Option<u64>);
+
+/// A row of a number that the table shows after this text, and JSON has.
+macro_rules! shown {
+    ($text:literal, $member:literal, $number:expr) => {
+        (
+            Shown::Always,
+            $text,
+            Some($member),
+            Some($number as u64),
+        )
+    };
+}
+
+/// A row of a number that only JSON has.
+macro_rules! hidden {
+    ($member:literal, $number:expr) => {
+        (Shown::Never, b"", Some($member), Some($number as u64))
+    };
+}
+
+/// A row of bits that only the table shows, by a text, if the number has one of them.
+macro_rules! flag {
+    ($bits:literal, $text:literal, $number:expr) => {
+        (Shown::Bits($bits), $text, None, Some($number as u64))
+    };
+}
+
+pub(crate) use flag;
+pub(crate) use hidden;
+pub(crate) use shown;
 
 /// Shows the numbers of these rows as a group: between `opening` and `closing` in the table, and as
 /// the object `member` in JSON.
@@ -439,6 +478,23 @@ fn push_number_as(
             text.extend_from_slice(before)?;
             push_flag_letters(text, number)
         }
+        Shown::FanoutMode => push_fanout_mode(text, before, number),
+    }
+}
+
+/// Appends the text `before`, and the name of the mode of a fanout group, or `0x` and the number in
+/// hexadecimal digits if it has no name.
+fn push_fanout_mode(text: &mut Vec<u8>, before: &[u8], number: u64) -> Result<(), AllocError>
+    ensures { OnOk result (text.new.items
+        ≡ text.old.items ++ number_text FanoutMode before.now number) }
+{
+    text.extend_from_slice(before)?;
+    match name_of_fanout_mode(number) {
+        Some(name) => text.extend_from_slice(name),
+        None => {
+            text.extend_from_slice(b"0x")?;
+            push_hex(text, number)
+        }
     }
 }
 
@@ -470,13 +526,21 @@ fn push_after(text: &mut Vec<u8>, before: &[u8], number: u64) -> Result<(), Allo
     push_number(text, number)
 }
 
-/// Appends each number in decimal, after the text `before`.
-fn push_each(text: &mut Vec<u8>, before: &[u8], numbers: &NumbersView<'_>) -> Result<(), AllocError>
-    ensures { OnOk result (text.new.items ≡ text.old.items
-        ++ flat_map (λ n. before.now ++ decimal n) (numbers_view_model numbers.now)) }
+/// Appends each number in decimal: the first one after the text `before`, and each later one after
+/// the text `later`.
+fn push_separated(
+    text: &mut Vec<u8>,
+    before: &[u8],
+    later: &[u8],
+    numbers: &[u64],
+) -> Result<(), AllocError>
+    ensures { OnOk result (text.new.items
+        ≡ text.old.items ++ separated before.now later.now numbers.now) }
 {
-    for number in numbers.iter() {
-        push_after(text, before, number.into())?;
+    let mut separator = before;
+    for number in numbers {
+        push_after(text, separator, *number)?;
+        separator = later;
     }
     Ok(())
 }

@@ -5,14 +5,13 @@
 ghost use Rattle.std.specs.Prelude.{◌≡◌, ◌++◌, ◌∷◌, [], OnOk, codes, decimal, flat_map};
 ghost use Rattle.json.specs.Token.{number};
 ghost use Rattle.sock_diag_attributes.specs.NameModel.{name_view_model};
-ghost use Rattle.sock_diag_attributes.specs.NumbersModel.{numbers_view_model};
 ghost use Rattle.sslist_lister.specs.JsonNames.{name_members};
 ghost use Rattle.sslist_lister.specs.texts.JsonData.{numbers_member, object_member};
 ghost use Rattle.sslist_lister.specs.texts.JsonWriting.{KeepsPrefix, members_tokens};
 
 use crate::texts::json_writing::{begin_member, write_bytes};
 use json::Writer;
-use sock_diag_attributes::unix::nlas::{NameView, NumbersView};
+use sock_diag_attributes::unix::nlas::NameView;
 use std::alloc::{AllocError, Global};
 
 /// Writes the name of a UNIX socket, as the member `name`.
@@ -51,14 +50,10 @@ fn write_name_members(
 }
 
 /// Writes a member whose value is an array of numbers.
-pub(crate) fn write_list(
-    writer: &mut Writer,
-    name: &str,
-    numbers: &NumbersView<'_>,
-) -> Result<(), AllocError>
+pub(crate) fn write_list(writer: &mut Writer, name: &str, numbers: &[u64]) -> Result<(), AllocError>
     ensures prefix { KeepsPrefix result writer.old writer.new }
     ensures members { OnOk result (writer.new.tokens ≡ writer.old.tokens
-        ++ members_tokens (numbers_member name.now (numbers_view_model numbers.now))) }
+        ++ members_tokens (numbers_member name.now numbers.now)) }
 {
     writer.key(name)?;
     writer.begin_array()?;
@@ -67,13 +62,13 @@ pub(crate) fn write_list(
 }
 
 /// Writes each number of a list, as an item of an array.
-fn write_items(writer: &mut Writer, numbers: &NumbersView<'_>) -> Result<(), AllocError>
+fn write_items(writer: &mut Writer, numbers: &[u64]) -> Result<(), AllocError>
     ensures prefix { KeepsPrefix result writer.old writer.new }
     ensures tokens { OnOk result (writer.new.tokens ≡ writer.old.tokens
-        ++ flat_map (λ n. number (decimal n) ∷ []) (numbers_view_model numbers.now)) }
+        ++ flat_map (λ n. number (decimal n) ∷ []) numbers.now) }
 {
-    for value in numbers.iter() {
-        writer.u64(value.into())?;
+    for value in numbers {
+        writer.u64(*value)?;
     }
     Ok(())
 }

@@ -16,6 +16,7 @@ mod details;
 mod error_text;
 mod explanation;
 mod facts;
+mod family_facts;
 mod headings;
 mod json_attributes;
 pub mod json_laws;
@@ -30,6 +31,7 @@ mod lists;
 mod md5_keys;
 mod messages;
 mod name_cells;
+mod number_names;
 mod others;
 mod pieces;
 mod request_line;
@@ -39,7 +41,6 @@ mod stream;
 mod tcp;
 mod texts;
 mod ulp_info;
-mod ulp_names;
 
 pub use command_line::{
     AddressCondition, Choice, Detail, Family, ListCapture, Options, PortCondition, Rejection,

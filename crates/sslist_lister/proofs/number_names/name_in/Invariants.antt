@@ -1,7 +1,7 @@
 use Rattle.std.proofs.Common.{◌≡◌, drop, map}
 use Rattle.sslist_lister.specs.Rows.{numbered_row}
-use Rattle.sslist_lister.specs.UlpNames.{name_in}
-use Rattle.sslist_lister.proofs.ulp_names.name_in.Given as goal
+use Rattle.sslist_lister.specs.NumberNames.{name_in}
+use Rattle.sslist_lister.proofs.number_names.name_in.Given as goal
 
 -- the name in the first row of the number among the remaining ones is the one among all
 abbrev pub invariant-loop-other : goal.invariant-loop-other

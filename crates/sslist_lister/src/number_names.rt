@@ -1,10 +1,12 @@
-//! Names of what TLS and MPTCP report of a TCP socket. If a function of this module fails, an
-//! allocation failed, and the content of the text is not specified.
+//! Names of what TLS and MPTCP report of a TCP socket, and of the modes of fanout groups. If a
+//! function of this module fails, an allocation failed, and the content of the text is not
+//! specified.
 
 ghost use Rattle.std.specs.Prelude.{◌≡◌, ◌++◌, OnOk, flat_map, map, option_map};
 ghost use Rattle.sslist_lister.specs.Rows.{numbered_row};
-ghost use Rattle.sslist_lister.specs.UlpNames.{flag_letter, flag_letters, name_in};
-ghost use Rattle.sslist_lister.specs.UlpNames.{tls_cipher_name, tls_mode_name, tls_version_name};
+ghost use Rattle.sslist_lister.specs.NumberNames.{fanout_mode_name, flag_letter, flag_letters};
+ghost use Rattle.sslist_lister.specs.NumberNames.{name_in};
+ghost use Rattle.sslist_lister.specs.NumberNames.{tls_cipher_name, tls_mode_name, tls_version_name};
 
 use std::alloc::AllocError;
 
@@ -18,6 +20,17 @@ static TLS_CIPHERS: [(u64, &[u8]); 2] = [(51, b"aes-gcm-128"), (52, b"aes-gcm-25
 /// Names of how data is encrypted or decrypted: `TLS_CONF_BASE` (not in the kernel), `TLS_CONF_SW`,
 /// `TLS_CONF_HW` and `TLS_CONF_HW_RECORD` (in hardware that also makes the records) of linux/tls.h.
 static TLS_MODES: [(u64, &[u8]); 4] = [(1, b"none"), (2, b"sw"), (3, b"hw"), (4, b"hw-record")];
+
+/// Modes of a fanout group (`PACKET_FANOUT_..` of linux/if_packet.h) and their names, if ss(8) has
+/// one.
+static FANOUT_MODES: [(u64, &[u8]); 6] = [
+    (0, b"hash"),
+    (1, b"lb"),
+    (2, b"cpu"),
+    (3, b"roll"),
+    (4, b"random"),
+    (5, b"qm"),
+];
 
 /// Flags of a subflow and their letters. In this order: the bits `MPTCP_SUBFLOW_FLAG_MCAP_REM`,
 /// `MCAP_LOC`, `JOIN_REM`, `JOIN_LOC`, `BKUP_REM`, `BKUP_LOC`, `FULLY_ESTABLISHED`, `CONNECTED` and
@@ -53,6 +66,13 @@ pub(crate) fn name_of_mode(number: u64) -> Option<&'static [u8]>
     ensures { option_map (λ name. name.now) result ≡ tls_mode_name number }
 {
     name_in(&TLS_MODES, number)
+}
+
+/// Returns the name of the mode of a fanout group, if it has one.
+pub(crate) fn name_of_fanout_mode(number: u64) -> Option<&'static [u8]>
+    ensures { option_map (λ name. name.now) result ≡ fanout_mode_name number }
+{
+    name_in(&FANOUT_MODES, number)
 }
 
 /// Returns the name in the first row of a number, or `None` if there is none.

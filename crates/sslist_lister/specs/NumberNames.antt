@@ -1,10 +1,11 @@
--- Names of what TLS in the kernel (linux/tls.h) and subflows of MPTCP connections (linux/mptcp.h)
--- report, by the tables of `src/ulp_names.rt`.
+-- Names of what TLS in the kernel (linux/tls.h), subflows of MPTCP connections (linux/mptcp.h) and
+-- packet sockets (linux/if_packet.h) report, by the tables of `src/number_names.rt`.
 use Rattle.std.specs.Prelude.{ℕ, ◌==◌, if◌then◌else◌, List, [], ◌∷◌, bit_and}
 use Rattle.std.specs.Prelude.{flat_map, Option, None, Some}
 use Rattle.sslist_lister.specs.Rows.{Text}
-use Rattle.sslist_lister.specs.declared.ulp_names.TheConstants.{SUBFLOW_FLAGS, TLS_CIPHERS}
-use Rattle.sslist_lister.specs.declared.ulp_names.TheConstants.{TLS_MODES, TLS_VERSIONS}
+use Rattle.sslist_lister.specs.declared.number_names.TheConstants.{FANOUT_MODES, SUBFLOW_FLAGS}
+use Rattle.sslist_lister.specs.declared.number_names.TheConstants.{TLS_CIPHERS, TLS_MODES}
+use Rattle.sslist_lister.specs.declared.number_names.TheConstants.{TLS_VERSIONS}
 
 -- `name_in rows n`: the name (`.1`) in the first row with the number `n` (`.0`); None if there is
 -- none
@@ -23,6 +24,10 @@ tls_cipher_name n = name_in TLS_CIPHERS n
 -- the name of how data is encrypted or decrypted; None if it has none
 abbrev pub tls_mode_name : ℕ → Option (List ℕ)
 tls_mode_name n = name_in TLS_MODES n
+
+-- the name of the mode of a fanout group; None if it has none
+abbrev pub fanout_mode_name : ℕ → Option (List ℕ)
+fanout_mode_name n = name_in FANOUT_MODES n
 
 -- `flag_letter n row`: the letter `row.1` if the number `n` has the bit `row.0`
 abbrev pub flag_letter : ℕ → ℕ × ℕ → List ℕ

@@ -1,6 +1,6 @@
 use Rattle.std.proofs.Common.{◌≡◌, ◌++◌, drop, flat_map}
-use Rattle.sslist_lister.specs.UlpNames.{flag_letter}
-use Rattle.sslist_lister.proofs.ulp_names.push_letters.Given as goal
+use Rattle.sslist_lister.specs.NumberNames.{flag_letter}
+use Rattle.sslist_lister.proofs.number_names.push_letters.Given as goal
 
 -- the text so far, followed by the remaining letters, is the text at the end
 abbrev pub invariant-loop-bit : goal.invariant-loop-bit
