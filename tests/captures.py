@@ -797,6 +797,27 @@ def lists_by_the_last_protocol_of_a_request(sslist):
         sslist.run(capture, ["-u" if option == "-t" else "-t"], [])
 
 
+def lists_replies_of_older_types(sslist):
+    """Before SOCK_DIAG_BY_FAMILY, requests for TCP and DCCP sockets and their replies had the types
+    18 and 19. The type is the protocol, whatever was requested. Such a reply is about an IPv4 or
+    IPv6 socket, so one of another family is invalid."""
+    for kind, name, option in (("12", "tcp  ", "-t"), ("13", "dccp ", "-4")):
+        reply = OBJECTS[4][0][:8] + kind + OBJECTS[4][0][10:]
+        for requests in ((), ((SOCK_DIAG, SCTP_REQUEST),)):
+            capture = pcap(HEADERS[0], *requests, (SOCK_DIAG, reply))
+            sslist.run(capture, [option], [INET4_LINE.replace("inet ", name)])
+            sslist.run(capture, ["-u"], [])
+        capture = pcap(WIDE_HEADER, (SOCK_DIAG, UNIX[:8] + kind + UNIX[10:]))
+        sslist.run(capture, lines=[], errors=["packet 1, message 1: InetResponseHeader: buffer of 40 "
+                                              "bytes, at least 72 needed"])
+        capture = pcap(HEADERS[0], (SOCK_DIAG, reply[:32] + "10" + reply[34:]))
+        sslist.run(capture, lines=[], errors=["packet 1, message 1: unsupported address family 16: "
+                                              "expected AF_INET (2) or AF_INET6 (10)"])
+        capture = pcap(HEADERS[0], (SOCK_DIAG, f"11000000{kind}000200070000000000000002000000"))
+        sslist.run(capture, lines=[], errors=["packet 1, message 1: invalid buffer: length is 1 but "
+                                              "packets are at least 2 bytes"])
+
+
 def separates_lists(sslist):
     """A request with the type and the bytes of the first one begins another list, whatever its flags
     and numbers are. Other requests do not, also if they are repeated. -H omits the heading, and
@@ -934,7 +955,7 @@ def main():
         selects_associations_by_state, names_timers, shows_names_in_utf8, lists_objects,
         selects_by_address,
         selects_states_without_a_name, lists_requests, lists_by_the_last_protocol_of_a_request,
-        separates_lists, lists_a_long_datagram,
+        lists_replies_of_older_types, separates_lists, lists_a_long_datagram,
         reports_where_a_capture_is_truncated, reports_why, reports_another_capture,
         lists_sections_of_both_orders, lists_times_of_requests, reports_where_a_file_is_truncated,
         reports_invalid_blocks,

@@ -2,7 +2,8 @@
 -- a message. `list` is the number of the list of sockets that a reply belongs to (`PastRequests`),
 -- and `protocol` is the protocol of its request, None if that is not known.
 use Rattle.std.specs.Prelude.{◌≡◌, ◌↔◌, Bool, true, false, IsTrue, ℕ, ℤ, pos, negsuc, ◌+◌}
-use Rattle.std.specs.Prelude.{◌==◌, ◌&&◌, if◌then◌else◌, nat_le, nat_lt, List, [], ◌++◌, ◌≤◌, ◌⊎◌}
+use Rattle.std.specs.Prelude.{◌==◌, ◌&&◌, ◌||◌, if◌then◌else◌, nat_le, nat_lt, List, [], ◌++◌}
+use Rattle.std.specs.Prelude.{◌≤◌, ◌⊎◌}
 use Rattle.std.specs.Prelude.{bit_and, drop, length, flat_map, is_none, Option, None, Some}
 use Rattle.std.specs.Prelude.{option_map, MatchOption, Result, Ok, Err}
 use Rattle.byteorder.specs.Endian.{big_number}
@@ -16,12 +17,15 @@ use Rattle.sslist_lister.specs.declared.command_line.options.Family.TheVariants.
 use Rattle.sslist_lister.specs.declared.command_line.options.Family.TheVariants.{Vsock, Xdp}
 use Rattle.sslist_lister.specs.declared.command_line.options.Options.{Options}
 use Rattle.netlink_core.specs.Datagram.{SplitsIntoMessages}
+use Rattle.netlink_core.specs.declared.header.NetlinkHeader.{NetlinkHeader}
 use Rattle.netlink_core.specs.Layout.{Layout, parse_record}
 use Rattle.netlink_core.specs.declared.error.DecodeError.{DecodeError}
 use Rattle.netlink_core.specs.declared.error.DecodeError.TheVariants.{UnknownFamily}
 use Rattle.netlink_core.specs.NetlinkMessage.{leading_error_number}
 use Rattle.netlink_core.specs.declared.message.TheConstants.{NLM_F_DUMP_INTR, NLMSG_NOOP}
 use Rattle.netlink_core.specs.declared.message.TheConstants.{NLMSG_OVERRUN}
+use Rattle.sock_diag_extras.specs.declared.constants.TheConstants.{DCCPDIAG_GETSOCK}
+use Rattle.sock_diag_extras.specs.declared.constants.TheConstants.{TCPDIAG_GETSOCK}
 use Rattle.sock_diag_records.specs.InetResponse.{inet_response_header}
 use Rattle.sock_diag_records.specs.UnixResponseHeader.{unix_response_header}
 use Rattle.sock_diag_records.specs.ResponseKind.{MessageKind, inet_response, response_kind}
@@ -49,7 +53,9 @@ use Rattle.sslist_lister.specs.Others.{packet_socket, vsock_socket, xdp_socket}
 use Rattle.sslist_lister.specs.JsonListing.{inet_output, other_output, unix_output}
 use Rattle.sslist_lister.specs.JsonOthers.{netlink_header_members, packet_header_members}
 use Rattle.sslist_lister.specs.JsonOthers.{vsock_header_members, xdp_header_members}
+use Rattle.sock_diag_records.specs.declared.constants.TheConstants.{IPPROTO_DCCP}
 use Rattle.sock_diag_records.specs.declared.inet.response.InetResponseHeader.{InetResponseHeader}
+use Rattle.sslist_lister.specs.declared.command_line.options.TheConstants.{IPPROTO_TCP}
 use Rattle.sslist_lister.specs.declared.line.InetSocket.{InetSocket}
 use Rattle.sslist_lister.specs.declared.list.Diagnostic.{Diagnostic}
 use Rattle.sslist_lister.specs.declared.list.Diagnostic.TheVariants.{Refused, Answered, Lost}
@@ -129,6 +135,17 @@ inet_socket protocol b header = record {
   header = header;
 }
 
+-- a reply of this type of message is about an IPv4 or IPv6 socket
+abbrev pub is_inet_type : ℕ → Bool
+is_inet_type t = (t == TCPDIAG_GETSOCK) || (t == DCCPDIAG_GETSOCK)
+
+-- `reply_kind b t`: the kind of reply that the payload `b` of a message of the type `t` is, or the
+-- reason why it is not one (`response_kind`). The types TCPDIAG_GETSOCK and DCCPDIAG_GETSOCK are
+-- those of requests and replies before SOCK_DIAG_BY_FAMILY.
+abbrev pub reply_kind : List ℕ → ℕ → Result MessageKind DecodeError
+reply_kind b t =
+    if is_inet_type t && nat_le 2 (length b) then Ok inet_response else response_kind b t
+
 -- `payload_lines o list protocol kind b`: the lines of the payload `b`, in the list of the number
 -- `list`. `kind` is the kind of the reply, or the reason why it is not one. `b` begins with the
 -- header, a `struct unix_diag_msg` or a `struct inet_diag_msg`. `protocol` is the protocol of the
@@ -150,7 +167,7 @@ payload_lines o list protocol _ b = []
 -- it is not a reply. An invalid value of an attribute is not considered. `UnknownFamily n` is the
 -- port's error for the families that it does not have: if `n` is netlink, packet, vsock or XDP, the
 -- error is that of this reply (`family_error`), and for any other `n` there is none. `kind` is
--- never a request (`response_kind`), the case of the last equation.
+-- never a request (`reply_kind`), the case of the last equation.
 abbrev pub payload_error : Result MessageKind DecodeError → List ℕ → Option DecodeError
 payload_error (Ok unix_response) b = reply_error unix_response_header b
 payload_error (Ok inet_response) b = reply_error inet_response_header b
@@ -165,14 +182,22 @@ payload_error _ b = None
 abbrev pub is_control : ℕ → Bool
 is_control t = nat_le NLMSG_NOOP t && nat_le t NLMSG_OVERRUN
 
+-- `requested_protocol past h`: the protocol that the request of a reply with the header `h` is for,
+-- if it is known: that of its type, TCPDIAG_GETSOCK or DCCPDIAG_GETSOCK, or else that of one of the
+-- requests `past`
+abbrev pub requested_protocol : PastRequests → NetlinkHeader → Option ℕ
+requested_protocol past h =
+    if h.message_type == TCPDIAG_GETSOCK then Some IPPROTO_TCP
+    else if h.message_type == DCCPDIAG_GETSOCK then Some IPPROTO_DCCP
+    else protocol_of past.queries h.sequence_number h.port_number
+
 -- `message_lines o past m`: the lines of the message `m`, which may answer one of the requests
 -- `past`. A control message has none.
 abbrev pub message_lines : Options → PastRequests → MessageParts → List ℕ
 message_lines o past m =
     if is_control m.header.message_type then []
-    else payload_lines o past.list
-    (protocol_of past.queries m.header.sequence_number m.header.port_number)
-    (response_kind m.payload m.header.message_type) m.payload
+    else payload_lines o past.list (requested_protocol past m.header)
+    (reply_kind m.payload m.header.message_type) m.payload
 
 -- the diagnostic of an error number of errno(3): a note for ENOENT and EINVAL, or else an error
 abbrev pub errno_diagnostic : ℕ → Diagnostic
@@ -199,7 +224,7 @@ control_diagnostic t payload =
 abbrev pub message_diagnostic : ℕ → List ℕ → Option Diagnostic
 message_diagnostic t payload =
     if is_control t then control_diagnostic t payload
-    else option_map Refused (payload_error (response_kind payload t) payload)
+    else option_map Refused (payload_error (reply_kind payload t) payload)
 
 -- there is no diagnostic, or it is one of the two notes: NoEntry or Invalid
 abbrev pub is_informational_or_none : Option Diagnostic → Bool

@@ -13,13 +13,13 @@ ghost use Rattle.netlink_core.specs.Layout.{parse_record};
 ghost use Rattle.sock_diag_records.specs.InetResponse.{inet_response_header};
 ghost use Rattle.sock_diag_records.specs.UnixResponseHeader.{unix_response_header};
 ghost use Rattle.sock_diag_attributes.specs.NameModel.{name_view_model};
-ghost use Rattle.sock_diag_records.specs.ResponseKind.{response_kind};
 ghost use Rattle.sslist_lister.specs.Collected.{collected, first_in, summary_of};
 ghost use Rattle.sslist_lister.specs.JsonAttributes.{socket_json};
 ghost use Rattle.sslist_lister.specs.JsonListing.{inet_output, unix_output};
 ghost use Rattle.sslist_lister.specs.JsonSockets.{inet_header_members, unix_header_members};
-ghost use Rattle.sslist_lister.specs.Listing.{inet_socket, is_association_in, reply_error};
-ghost use Rattle.sslist_lister.specs.Listing.{reply_lines, payload_error, payload_lines};
+ghost use Rattle.sslist_lister.specs.Listing.{inet_socket, is_association_in, is_inet_type};
+ghost use Rattle.sslist_lister.specs.Listing.{reply_error, reply_kind, reply_lines};
+ghost use Rattle.sslist_lister.specs.Listing.{payload_error, payload_lines};
 ghost use Rattle.sock_diag_extras.specs.Pieces.{framing_error_of, pieces_in};
 ghost use Rattle.sslist_lister.specs.Selection.{lists_inet};
 ghost use Rattle.sslist_lister.specs.Table.{inet_columns, inet_first_columns, inet_lines};
@@ -44,7 +44,7 @@ use crate::texts::parts::{NO_TIMER, TimerFields};
 use netlink_core::DecodeError;
 use sock_diag_attributes::unix::nlas::{NameView, NlaView};
 use sock_diag_extras::any::{InfoFormat, Sockets};
-use sock_diag_extras::constants::UNIX_DIAG_UID;
+use sock_diag_extras::constants::{DCCPDIAG_GETSOCK, TCPDIAG_GETSOCK, UNIX_DIAG_UID};
 use sock_diag_extras::parse_uid;
 use sock_diag_records::constants::{
     AF_INET, AF_INET6, AF_UNIX, IPPROTO_SCTP, SOCK_DIAG_BY_FAMILY, UNIX_DIAG_NAME, UNIX_DIAG_PEER,
@@ -78,13 +78,16 @@ pub(crate) fn push_reply(
     payload: &[u8],
 ) -> Result<Option<DecodeError>, AllocError>
     ensures lines { OnOk result (text.new.items ≡ text.old.items ++ payload_lines options list
-        protocol (response_kind payload.now message_type) payload.now) }
+        protocol (reply_kind payload.now message_type) payload.now) }
     ensures error { IfOk result (λ error.
-        error ≡ payload_error (response_kind payload.now message_type) payload.now) }
+        error ≡ payload_error (reply_kind payload.now message_type) payload.now) }
 {
     if payload.len() < 2 {
         let got = payload.len();
         return Ok(Some(DecodeError::MessageTooShort { got }));
+    }
+    if is_inet_type(message_type) {
+        return push_inet(text, options, list, protocol, payload);
     }
     if message_type != SOCK_DIAG_BY_FAMILY {
         return Ok(Some(DecodeError::UnknownMessageType { message_type }));
@@ -94,6 +97,13 @@ pub(crate) fn push_reply(
         AF_INET | AF_INET6 => push_inet(text, options, list, protocol, payload),
         family => push_other(text, options, list, family, payload),
     }
+}
+
+/// Returns whether a reply of this type of message is about an IPv4 or IPv6 socket.
+fn is_inet_type(message_type: u16) -> bool
+    ensures { result ≡ is_inet_type message_type }
+{
+    matches!(message_type, TCPDIAG_GETSOCK | DCCPDIAG_GETSOCK)
 }
 
 /// Appends what is written for a UNIX socket, if the options select it. Returns the error of the

@@ -22,12 +22,12 @@ ghost use Rattle.sslist_lister.specs.Listing.{answer_diagnostic, control_diagnos
 ghost use Rattle.sslist_lister.specs.Listing.{errno_diagnostic, is_clean_message};
 ghost use Rattle.sslist_lister.specs.Listing.{is_informational_or_none};
 ghost use Rattle.sslist_lister.specs.Listing.{message_diagnostic, message_lines};
-ghost use Rattle.sslist_lister.specs.Listing.{requests_after_datagram};
+ghost use Rattle.sslist_lister.specs.Listing.{requested_protocol, requests_after_datagram};
 ghost use Rattle.sslist_lister.specs.Messages.{message_parts};
 ghost use Rattle.sslist_lister.specs.Requests.{past_requests};
 ghost use Rattle.sslist_lister.specs.declared.list.Diagnostic.TheVariants.{Refused};
 
-use crate::command_line::Options;
+use crate::command_line::{IPPROTO_TCP, Options};
 use crate::error_text::push_reason;
 use crate::explanation::push_explanation;
 use crate::headings::push_list_heading;
@@ -39,8 +39,11 @@ use crate::texts::PacketOutput;
 use crate::texts::output::{push_short, push_truncation};
 use netlink_captures::{Packet, PacketHeader};
 use netlink_core::{
-    DecodeError, FramedMessages, NLM_F_DUMP_INTR, NLMSG_NOOP, NLMSG_OVERRUN, error_number,
+    DecodeError, FramedMessages, NLM_F_DUMP_INTR, NLMSG_NOOP, NLMSG_OVERRUN, NetlinkHeader,
+    error_number,
 };
+use sock_diag_extras::constants::{DCCPDIAG_GETSOCK, TCPDIAG_GETSOCK};
+use sock_diag_records::constants::IPPROTO_DCCP;
 use std::alloc::AllocError;
 use std::io::Write;
 
@@ -357,7 +360,7 @@ fn push_message(
     if (NLMSG_NOOP..=NLMSG_OVERRUN).contains(&message_type) {
         return Ok(diagnostic_of_control(message_type, payload));
     }
-    let protocol = requests.find_protocol(header.sequence_number, header.port_number);
+    let protocol = requested_protocol(requests, header);
     let error = push_reply(
         lines,
         options,
@@ -367,6 +370,18 @@ fn push_message(
         payload,
     )?;
     Ok(diagnostic_of_rejection(error))
+}
+
+/// Returns the protocol that the request of a reply with this header is for, by its type, or else by
+/// one of `requests`. Returns `None` if the protocol is not known.
+fn requested_protocol(requests: &Requests, header: &NetlinkHeader) -> Option<u32>
+    ensures { result ≡ requested_protocol (past_requests requests.now) header.now }
+{
+    match header.message_type {
+        TCPDIAG_GETSOCK => Some(IPPROTO_TCP),
+        DCCPDIAG_GETSOCK => Some(IPPROTO_DCCP.into()),
+        _ => requests.find_protocol(header.sequence_number, header.port_number),
+    }
 }
 
 /// Returns the diagnostic of a control message: `None` for `NLMSG_NOOP`, `Lost` for
