@@ -606,6 +606,24 @@ def lists_short_tcp_info(sslist):
     sslist.run(pcap(HEADERS[0], reply), lines=["inet6 ", SHORT_INFO_COLUMNS, details])
 
 
+def leaves_out_times_that_were_not_measured(sslist):
+    """Of a socket in SYN-SENT the kernel sends the minimum round-trip time 4294967295, and a mean
+    deviation without a round-trip time. The table has neither, as that of ss(8), and JSON has the
+    numbers."""
+    for rtt, deviation, least, details in (
+        (0, 250000, 0xFFFFFFFF, ""),
+        (1, 250000, 0xFFFFFFFE, " rtt:1 rttvar:250000 minrtt:4294967294"),
+        (7, 0, 0, " rtt:7"),
+    ):
+        info = struct.pack("<68x2I72xI", rtt, deviation, least).hex()
+        capture = pcap(HEADERS[0], (SOCK_DIAG, TCP_REQUEST),
+                       (SOCK_DIAG, with_attributes(OBJECTS[4][0], (2, info))))
+        columns = INET4_LINE.splitlines()[0].replace("inet ", "tcp  ")
+        sslist.run(capture, ["-iO"], [columns, details, "\n"])
+        shown = sslist.objects(capture)[0]["info"]
+        assert [shown[it] for it in ("rtt", "rttvar", "min_rtt")] == [rtt, deviation, least], shown
+
+
 def lists_bit_fields_of_tcp_info(sslist):
     """The last four bytes of a struct tcp_info of 280 bytes are bit fields since Linux 7.0. These
     are the bytes of classic ECN, accurate ECN and accurate ECN in SYN-SENT, and of a failure."""
@@ -950,7 +968,8 @@ def main():
         lists_captures_of_both_orders, lists_other_families, lists_values_of_other_families,
         lists_attributes_of_newer_kernels,
         lists_the_first_valid_attribute,
-        lists_short_tcp_info, lists_bit_fields_of_tcp_info, lists_the_payload_limit_of_tls,
+        lists_short_tcp_info, leaves_out_times_that_were_not_measured,
+        lists_bit_fields_of_tcp_info, lists_the_payload_limit_of_tls,
         lists_the_last_endpoints_of_mptcp_info, lists_sctp_associations, lists_sctp_sockets,
         selects_associations_by_state, names_timers, shows_names_in_utf8, lists_objects,
         selects_by_address,

@@ -21,8 +21,8 @@ use Rattle.sslist_lister.specs.declared.facts.Shown.{Shown}
 use Rattle.sslist_lister.specs.declared.facts.Shown.TheVariants.{Always, Bits, Cipher, Closed}
 use Rattle.sslist_lister.specs.declared.facts.Shown.TheVariants.{Directions, FanoutMode, Halves}
 use Rattle.sslist_lister.specs.declared.facts.Shown.TheVariants.{Hex, Letters, Mode, Never, Nonzero}
-use Rattle.sslist_lister.specs.declared.facts.Shown.TheVariants.{NonzeroHex}
-use Rattle.sslist_lister.specs.declared.facts.Shown.TheVariants.{Threshold, Version}
+use Rattle.sslist_lister.specs.declared.facts.Shown.TheVariants.{NonzeroExcept, NonzeroHex}
+use Rattle.sslist_lister.specs.declared.facts.Shown.TheVariants.{Version}
 
 -- `Facts`: their text in the table, and their members in JSON. A definition says once which facts a
 -- reply has, so the table and JSON show the same ones, in the same order.
@@ -61,15 +61,16 @@ json_group member facts = group [] [] member facts
 -- ---- numbers
 
 -- `number_text format text n`: the number `n` in the table, by `format` (`Shown` of `src/facts.rt`)
--- and after `text`. 0xffffffffffffffff is `u64::MAX`, and 0x7fffffff is TCP_INFINITE_SSTHRESH.
--- `digits 16 false n` are hexadecimal digits in lowercase.
+-- and after `text`. 0xffffffffffffffff is `u64::MAX`, and `digits 16 false n` are hexadecimal
+-- digits in lowercase.
 abbrev pub number_text : Shown → List ℕ → ℕ → List ℕ
 number_text Never text n = []
 number_text Always text n = text ++ decimal n
 number_text Closed text n = text ++ decimal n ++ 41 ∷ []
 number_text Nonzero text n =
     if n == 0 || n == 0xffffffffffffffff then [] else text ++ decimal n
-number_text Threshold text n = if n == 0 || n == 0x7fffffff then [] else text ++ decimal n
+number_text (NonzeroExcept unknown) text n =
+    if n == 0 || n == unknown then [] else text ++ decimal n
 number_text Hex text n = text ++ digits 16 false n
 number_text NonzeroHex text n = if n == 0 then [] else text ++ digits 16 false n
 number_text (Bits bits) text n = if bit_and n bits == 0 then [] else text

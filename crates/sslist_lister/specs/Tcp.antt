@@ -15,8 +15,9 @@ use Rattle.sslist_lister.specs.Rows.{Text, text_of}
 use Rattle.sslist_lister.specs.declared.facts.Shown.{Shown}
 use Rattle.sslist_lister.specs.declared.tcp.FieldPart.{FieldPart}
 use Rattle.sslist_lister.specs.declared.tcp.FieldPart.TheVariants.{Eight, FirstBit, Four, HighFour}
-use Rattle.sslist_lister.specs.declared.tcp.FieldPart.TheVariants.{LowFour, LowTwo, MiddleTwo}
-use Rattle.sslist_lister.specs.declared.tcp.FieldPart.TheVariants.{Negotiated, NextTwo, Two}
+use Rattle.sslist_lister.specs.declared.tcp.FieldPart.TheVariants.{LowFour, LowTwo, Measured}
+use Rattle.sslist_lister.specs.declared.tcp.FieldPart.TheVariants.{MiddleTwo, Negotiated, NextTwo}
+use Rattle.sslist_lister.specs.declared.tcp.FieldPart.TheVariants.{Two}
 use Rattle.sslist_lister.specs.declared.tcp.TheConstants.{MPTCP_ROWS, TCP_METRIC_ROWS}
 use Rattle.sslist_lister.specs.declared.tcp.TheConstants.{TCP_RATE_ROWS, TCP_STATE_ROWS}
 
@@ -58,14 +59,23 @@ abbrev pub has_scales : Option ℕ → Bool
 has_scales options =
     option_map_or (λ bits. not (bit_and bits TCPI_OPT_WSCALE == 0)) options false
 
+-- the round-trip time was measured, by the value of `tcpi_rtt`; false if the bytes do not contain
+-- this field (None)
+abbrev pub has_round_trip : Option ℕ → Bool
+has_round_trip rtt = option_map_or (λ time. not (time == 0)) rtt false
+
 -- `number_in part offset bytes`: the number of a row, by its part and its offset. None if the bytes
--- end before the end of the field, or if the number does not apply to the connection (Negotiated).
+-- end before the end of the field, or if the number does not apply to the connection (Negotiated,
+-- Measured).
 abbrev pub number_in : FieldPart → ℕ → List ℕ → Option ℕ
 number_in Two offset bytes = field_in 2 offset bytes
 number_in Four offset bytes = field_in 4 offset bytes
 number_in Eight offset bytes = field_in 8 offset bytes
 number_in Negotiated offset bytes =
     if has_scales (field_in 1 (tcp_span_of field.Options).0 bytes) then field_in 1 offset bytes
+    else None
+number_in Measured offset bytes =
+    if has_round_trip (field_in 4 (tcp_span_of field.Rtt).0 bytes) then field_in 4 offset bytes
     else None
 number_in part offset bytes = option_map (part_bits part) (field_in 1 offset bytes)
 

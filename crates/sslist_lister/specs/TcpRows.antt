@@ -5,7 +5,7 @@ use Rattle.sock_diag_extras.specs.TcpFields.{first_fields, later_fields, tcp_bit
 use Rattle.sock_diag_extras.specs.declared.tcp_info.TcpField.{TcpField}
 use Rattle.sslist_lister.specs.Tcp.{FieldRow}
 use Rattle.sslist_lister.specs.declared.tcp.FieldPart.{FieldPart}
-use Rattle.sslist_lister.specs.declared.tcp.FieldPart.TheVariants.{Eight, Four, Two}
+use Rattle.sslist_lister.specs.declared.tcp.FieldPart.TheVariants.{Eight, Four, Measured, Two}
 use Rattle.sslist_lister.specs.declared.tcp.TheConstants.{TCP_METRIC_ROWS, TCP_RATE_ROWS}
 use Rattle.sslist_lister.specs.declared.tcp.TheConstants.{TCP_STATE_ROWS}
 
@@ -18,6 +18,7 @@ tcp_rows = TCP_STATE_ROWS ++ TCP_METRIC_ROWS ++ TCP_RATE_ROWS
 abbrev pub part_width : FieldPart → ℕ
 part_width Two = 2
 part_width Four = 4
+part_width Measured = 4
 part_width Eight = 8
 part_width _ = 1
 

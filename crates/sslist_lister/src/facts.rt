@@ -35,9 +35,6 @@ use netlink_core::DecodeError;
 use sock_diag_attributes::unix::nlas::NameView;
 use std::alloc::{AllocError, Global};
 
-/// `TCP_INFINITE_SSTHRESH`, a slow start threshold that is not set.
-const INFINITE_THRESHOLD: u64 = 0x7fff_ffff;
-
 /// How the table shows a number.
 #[derive(Clone, Copy)]
 pub(crate) enum Shown {
@@ -49,8 +46,8 @@ pub(crate) enum Shown {
     Closed,
     /// As `Always`, but nothing if the number is 0, or `u64::MAX`, which is no limit.
     Nonzero,
-    /// As `Always`, but nothing if the number is 0, or a slow start threshold that is not set.
-    Threshold,
+    /// As `Always`, but nothing if the number is 0 or this one, which means that it is not known.
+    NonzeroExcept(u64),
     /// A text, and the number in hexadecimal digits.
     Hex,
     /// As `Hex`, but nothing if the number is 0.
@@ -447,11 +444,13 @@ fn push_number_as(
     match format {
         // First the numbers that are not shown.
         Shown::Nonzero if number == 0 || number == u64::MAX => Ok(()),
-        Shown::Threshold if number == 0 || number == INFINITE_THRESHOLD => Ok(()),
+        Shown::NonzeroExcept(unknown) if number == 0 || number == unknown => Ok(()),
         Shown::Bits(bits) if number & bits == 0 => Ok(()),
         Shown::NonzeroHex | Shown::Letters if number == 0 => Ok(()),
         Shown::Never => Ok(()),
-        Shown::Always | Shown::Nonzero | Shown::Threshold => push_after(text, before, number),
+        Shown::Always | Shown::Nonzero | Shown::NonzeroExcept(_) => {
+            push_after(text, before, number)
+        }
         // The number has one of the bits, by the test above.
         Shown::Bits(_) => text.extend_from_slice(before),
         Shown::Closed => {

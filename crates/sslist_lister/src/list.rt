@@ -372,8 +372,8 @@ fn push_message(
     Ok(diagnostic_of_rejection(error))
 }
 
-/// Returns the protocol that the request of a reply with this header is for, by its type, or else by
-/// one of `requests`. Returns `None` if the protocol is not known.
+/// Returns the protocol that the request of a reply with this header is for: by the type of the
+/// reply, or else by one of `requests`. Returns `None` if the protocol is not known.
 fn requested_protocol(requests: &Requests, header: &NetlinkHeader) -> Option<u32>
     ensures { result ≡ requested_protocol (past_requests requests.now) header.now }
 {

@@ -10,8 +10,8 @@
 ghost use Rattle.std.specs.Prelude.{◌≡◌, OnOk, flat_map, map, option_map};
 ghost use Rattle.sslist_lister.specs.Facts.{AddsFacts, AddsItems};
 ghost use Rattle.sslist_lister.specs.Tcp.{bytes_from, field_facts, field_in, field_row_of};
-ghost use Rattle.sslist_lister.specs.Tcp.{has_scales, mptcp_info, number_in, part_bits, row_facts};
-ghost use Rattle.sslist_lister.specs.Tcp.{tcp_fields, tcp_info};
+ghost use Rattle.sslist_lister.specs.Tcp.{has_round_trip, has_scales, mptcp_info, number_in};
+ghost use Rattle.sslist_lister.specs.Tcp.{part_bits, row_facts, tcp_fields, tcp_info};
 
 use crate::facts::{FactSink, Shown};
 use byteorder::{ByteOrder, LittleEndian};
@@ -35,6 +35,8 @@ pub(crate) enum FieldPart {
     Eight,
     /// A byte, if window scaling is negotiated.
     Negotiated,
+    /// A number of four bytes, if the round-trip time was measured.
+    Measured,
     /// Bits 0 to 3 of a byte.
     LowFour,
     /// Bits 4 to 7 of a byte.
@@ -88,8 +90,30 @@ macro_rules! flag {
     };
 }
 
+/// A number of four bytes that the table shows unless it is 0 or this one.
+macro_rules! known {
+    ($offset:literal, $unknown:ident, $text:literal, $member:literal) => {
+        row!(
+            $offset,
+            Four,
+            Shown::NonzeroExcept($unknown),
+            $text,
+            Some($member)
+        )
+    };
+}
+
 /// Offset of `tcpi_options` in bytes.
 const OPTIONS: usize = 5;
+
+/// Offset of `tcpi_rtt` in bytes.
+const RTT: usize = 68;
+
+/// `TCP_INFINITE_SSTHRESH`, a slow start threshold that is not set.
+const INFINITE_THRESHOLD: u64 = 0x7fff_ffff;
+
+/// Minimum round-trip time of a connection of which none was measured.
+const NO_MIN_RTT: u64 = 0xffff_ffff;
 
 // In the rows below: the offset of the field in bytes, the number there, how the table shows it
 // (`Shown`, if the macro does not say it), its text, and the name in JSON.
@@ -122,7 +146,7 @@ static TCP_STATE_ROWS: [FieldRow; 16] = [
 ];
 
 /// The facts of the times and metrics in `struct tcp_info`, up to `tcpi_total_retrans`.
-static TCP_METRIC_ROWS: [FieldRow; 24] = [
+static TCP_METRIC_ROWS: [FieldRow; 25] = [
     nonzero!(8, Four, b" rto:", "rto"),
     nonzero!(12, Four, b" ato:", "ato"),
     nonzero!(16, Four, b" mss:", "snd_mss"),
@@ -139,14 +163,9 @@ static TCP_METRIC_ROWS: [FieldRow; 24] = [
     nonzero!(60, Four, b" pmtu:", "pmtu"),
     nonzero!(64, Four, b" rcv_ssthresh:", "rcv_ssthresh"),
     nonzero!(68, Four, b" rtt:", "rtt"),
-    nonzero!(72, Four, b" rttvar:", "rttvar"),
-    row!(
-        76,
-        Four,
-        Shown::Threshold,
-        b" ssthresh:",
-        Some("snd_ssthresh")
-    ),
+    row!(72, Measured, Shown::Nonzero, b" rttvar:", None),
+    hidden!(72, Four, "rttvar"),
+    known!(76, INFINITE_THRESHOLD, b" ssthresh:", "snd_ssthresh"),
     nonzero!(80, Four, b" cwnd:", "snd_cwnd"),
     nonzero!(84, Four, b" advmss:", "advmss"),
     nonzero!(88, Four, b" reordering:", "reordering"),
@@ -165,7 +184,7 @@ static TCP_RATE_ROWS: [FieldRow; 37] = [
     nonzero!(136, Four, b" segs_out:", "segs_out"),
     nonzero!(140, Four, b" segs_in:", "segs_in"),
     nonzero!(144, Four, b" notsent:", "notsent_bytes"),
-    nonzero!(148, Four, b" minrtt:", "min_rtt"),
+    known!(148, NO_MIN_RTT, b" minrtt:", "min_rtt"),
     nonzero!(152, Four, b" data_segs_in:", "data_segs_in"),
     nonzero!(156, Four, b" data_segs_out:", "data_segs_out"),
     nonzero!(160, Eight, b" delivery_rate:", "delivery_rate"),
@@ -287,10 +306,8 @@ fn number_in(value: &[u8], offset: usize, part: FieldPart) -> Option<u64>
     ensures { result ≡ number_in part offset value.now }
 {
     match part {
-        FieldPart::Four => {
-            let bytes = bytes_from(value, offset, 4)?;
-            Some(LittleEndian::read_u32(bytes).into())
-        }
+        FieldPart::Measured if !has_round_trip(value) => None,
+        FieldPart::Four | FieldPart::Measured => u32_at(value, offset),
         FieldPart::Eight => {
             let bytes = bytes_from(value, offset, 8)?;
             Some(LittleEndian::read_u64(bytes))
@@ -330,6 +347,26 @@ fn byte_at(value: &[u8], offset: usize) -> Option<u64>
 {
     let bytes = bytes_from(value, offset, 1)?;
     Some(LittleEndian::read_uint(bytes, 1))
+}
+
+/// Returns the number of four bytes at an offset. Returns `None` if the value ends before its end.
+#[inline(always)]
+fn u32_at(value: &[u8], offset: usize) -> Option<u64>
+    ensures { result ≡ field_in 4 offset value.now }
+{
+    let bytes = bytes_from(value, offset, 4)?;
+    Some(LittleEndian::read_u32(bytes).into())
+}
+
+/// Returns whether the round-trip time was measured: `tcpi_rtt` is not 0. Returns false if the
+/// value does not contain this field.
+fn has_round_trip(value: &[u8]) -> bool
+    ensures { result ≡ has_round_trip (field_in 4 RTT value.now) }
+{
+    match u32_at(value, RTT) {
+        Some(time) => time != 0,
+        None => false,
+    }
 }
 
 /// Returns whether window scaling is negotiated, by `tcpi_options`. Returns false for `None`.
