@@ -129,7 +129,7 @@ FAMILIES = [
         ":0,\"copy_thresh\":0,\"tstamp\":0,\"flags\":1},\"uid\":0,\"meminfo\":{\"rmem_alloc"
         "\":0,\"rcvbuf\":212992,\"wmem_alloc\":0,\"sndbuf\":212992,\"fwd_alloc\":0,\"wmem_q"
         "ueued\":0,\"optmem\":0,\"backlog\":0,\"drops\":0},\"other_attributes\":[{\"kind\":"
-        "1,\"length\":0}]}",
+        "1,\"length\":0,\"hex\":\"\"}]}",
     ),
     (
         "3000000014000200070000000000000028010a00ffffffffd2040000ffffffffffffffff0500000009"
@@ -254,8 +254,9 @@ REPEATED_LINES = (
 )
 REPEATED_OBJECT = (
     '{"netid":"u_str","state_name":"LISTEN","family":1,"type":1,"state":10,"ino":20238,"cookie":"'
-    '2a0","rqlen":{"rqueue":2,"wqueue":128},"other_attributes":[{"kind":4,"length":4,"error":"wro'
-    'ng-length"},{"kind":99,"length":2},{"kind":7,"length":3,"error":"wrong-length"}]}\n'
+    '2a0","rqlen":{"rqueue":2,"wqueue":128},"other_attributes":[{"kind":4,"length":4,"hex":"09000'
+    '000","error":"wrong-length"},{"kind":99,"length":2,"hex":"0102"},{"kind":7,"length":3,"hex":"'
+    'e80300","error":"wrong-length"}]}\n'
 )
 
 # A reply with 104 bytes of struct tcp_info, and its lines up to their details.
@@ -343,8 +344,8 @@ OBJECTS = [
         "{\"netid\":\"inet6\",\"state_name\":\"TIME-WAIT\",\"family\":10,\"state\":6,\"time"
         "r\":3,\"retrans\":0,\"sport\":22,\"dport\":40000,\"src\":\"fe80::1\",\"dst\":\"200"
         "1:db8::ff\",\"if\":3,\"cookie\":\"0\",\"expires\":0,\"rqueue\":0,\"wqueue\":0,\"ui"
-        "d\":1000,\"inode\":0,\"other_attributes\":[{\"kind\":2,\"length\":104,\"error\":\""
-        "too-short\"}]}",
+        "d\":1000,\"inode\":0,\"other_attributes\":[{\"kind\":2,\"length\":104,\"hex\":\""
+        + SHORT_INFO[-208:] + "\",\"error\":\"too-short\"}]}",
     ),
 ]
 
@@ -685,7 +686,7 @@ def association_columns(netid, state):
 def lists_sctp_associations(sslist):
     """The kernel lists an SCTP socket, and then each of its associations with INET_DIAG_PEERS and
     SCTP's own states. Without the request it may also be one. INET_DIAG_INFO is not a tcp_info."""
-    others = [{"kind": kind, "length": len(value) // 2}
+    others = [{"kind": kind, "length": len(value) // 2, "hex": value}
               for kind, value in ASSOCIATION_ATTRIBUTES if kind != 4]
     for packets, netid in (([(SOCK_DIAG, SCTP_REQUEST)], "sctp"), ([], "inet")):
         for state, name in enumerate(ASSOCIATION_STATES):

@@ -1,5 +1,5 @@
 -- Collected attributes.
-use Rattle.std.proofs.Common.{◌≡◌, ℕ, List, [], ◌++◌, ◌∙◌, ◌<◌, map, flat_map, length, refl}
+use Rattle.std.proofs.Common.{◌≡◌, ℕ, List, [], ◌∷◌, ◌++◌, ◌∙◌, ◌<◌, map, flat_map, length, refl}
 use Rattle.std.proofs.Common.{Bool, Err, None, Ok, Option, Result, Some, codes, slice_index_or, sym}
 use Rattle.std.specs.List.{range_with_len}
 use Rattle.std.specs.Option.{option_or}
@@ -8,7 +8,8 @@ use Rattle.std.proofs.lemmas.List.Folds.{flat_map-map}
 use Rattle.std.proofs.lemmas.List.FromFn.{fill_by_all}
 use Rattle.json.specs.Json.{Json}
 use Rattle.json.specs.Tree.{json_tokens}
-use Rattle.netlink_core.specs.Attribute.{Attribute}
+use Rattle.hex.specs.Hex.{encode_lower}
+use Rattle.netlink_core.specs.Attribute.{Attribute, attribute_kind}
 use Rattle.netlink_core.specs.declared.attribute.NlaBuffer.{NlaBuffer}
 use Rattle.netlink_core.specs.declared.error.DecodeError.{DecodeError}
 use Rattle.sslist_lister.specs.Collected.{first_valid, other_in_piece, slot_attribute}
@@ -19,7 +20,8 @@ use Rattle.sslist_lister.specs.JsonAttributes.{attributes_members, other_item, v
 use Rattle.sslist_lister.specs.JsonAttributes.{attribute_members, item_members}
 use Rattle.sslist_lister.proofs.Adding.{appended_texts_concatenate}
 use Rattle.sslist_lister.proofs.JsonWriting.{items_of_map, json_rules, tokens_of_each}
-use Rattle.sslist_lister.specs.texts.JsonData.{JsonMember, array_member, text_member}
+use Rattle.sslist_lister.specs.texts.JsonData.{JsonMember, array_member, number_members}
+use Rattle.sslist_lister.specs.texts.JsonData.{text_member}
 use Rattle.sslist_lister.specs.Details.{error_reason}
 use Rattle.sslist_lister.specs.texts.JsonWriting.{items_tokens, members_tokens}
 
@@ -89,7 +91,17 @@ attributes_are_valid_and_other s = refl
 -- the rules by which the members of all attributes are put together
 pub ruleset attributes_rules = (json_rules, attributes_are_valid_and_other)
 
--- The members of an unknown attribute are its type and its length.
+-- The members of an attribute are its type, its length and its bytes.
+pub attribute_members_are : (a : Attribute) → attribute_members a
+    ≡ number_members ((codes "kind", attribute_kind a) ∷ (codes "length", length a.value) ∷ [])
+    ++ text_member (codes "hex") (encode_lower a.value)
+unfolding attribute_members
+attribute_members_are a = refl
+
+-- the rules by which the members of an attribute are put together
+pub ruleset attribute_rules = (json_rules, attribute_members_are)
+
+-- The members of an unknown attribute are its type and its value.
 pub unknown_item_members : (a : Attribute) (has_facts : Bool)
     → item_members a (Ok has_facts) ≡ attribute_members a
 unfolding item_members

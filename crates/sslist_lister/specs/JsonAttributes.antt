@@ -2,6 +2,7 @@
 -- the prefix that all names of a struct or an enum have.
 use Rattle.std.specs.Prelude.{ℕ, List, [], ◌∷◌, ◌++◌, codes, flat_map, length, map, Result, Ok, Err}
 use Rattle.std.specs.Prelude.{Bool, false, None, Option, Some, if◌then◌else◌, nat_lt}
+use Rattle.hex.specs.Hex.{encode_lower}
 use Rattle.json.specs.Json.{Json}
 use Rattle.netlink_core.specs.Attribute.{Attribute, attribute_kind}
 use Rattle.netlink_core.specs.declared.error.DecodeError.{DecodeError}
@@ -15,14 +16,15 @@ use Rattle.sock_diag_extras.specs.declared.any.nla.Sockets.{Sockets}
 
 -- ---- attributes without members of their own
 
--- the members of an attribute without a member of its own: its kind and the length of its value in
--- bytes
+-- the members of an attribute without a member of its own: its kind, the length of its value in
+-- bytes, and these bytes in lowercase hexadecimal digits
 unfoldable pub attribute_members : Attribute → List JsonMember
 attribute_members a =
     number_members ((codes "kind", attribute_kind a) ∷ (codes "length", length a.value) ∷ [])
+    ++ text_member (codes "hex") (encode_lower a.value)
 
--- `item_members a status`: the members of an attribute with this status: its kind and the length of
--- its value, and the reason in one word if the value is invalid
+-- `item_members a status`: the members of an attribute with this status: its kind, its value, and
+-- the reason in one word if the value is invalid
 unfoldable pub item_members : Attribute → Result Bool DecodeError → List JsonMember
 item_members a (Ok has_facts) = attribute_members a
 item_members a (Err e) = attribute_members a ++ text_member (codes "error") (error_reason e)

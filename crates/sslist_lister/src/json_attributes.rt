@@ -109,7 +109,7 @@ fn write_attributes(
         ++ members_tokens (attributes_members (collected found.now))) }
 {
     write_members(alloc, writer, found)?;
-    write_others(writer, found)
+    write_others(alloc, writer, found)
 }
 
 /// Writes the members of the first valid attribute of each kind.
@@ -151,7 +151,11 @@ fn write_valid(
 
 /// Writes the member `other_attributes`: the attributes that are unknown or invalid.
 #[tactic(auto, using(crate::proofs::Slots::other_rules))]
-fn write_others(writer: &mut Writer, found: &Attributes<'_>) -> Result<(), AllocError>
+fn write_others(
+    alloc: Global,
+    writer: &mut Writer,
+    found: &Attributes<'_>,
+) -> Result<(), AllocError>
     ensures prefix { KeepsPrefix result writer.old writer.new }
     ensures members { OnOk result (writer.new.tokens ≡ writer.old.tokens
         ++ members_tokens (array_member (codes "other_attributes")
@@ -159,37 +163,46 @@ fn write_others(writer: &mut Writer, found: &Attributes<'_>) -> Result<(), Alloc
 {
     writer.key("other_attributes")?;
     writer.begin_array()?;
-    write_items(writer, found.others.as_slice())?;
+    write_items(alloc, writer, found.others.as_slice())?;
     writer.end_array()
 }
 
 /// Writes an item for each of these attributes.
-fn write_items(writer: &mut Writer, others: &[(NlaBuffer<'_>, Status)]) -> Result<(), AllocError>
+fn write_items(
+    alloc: Global,
+    writer: &mut Writer,
+    others: &[(NlaBuffer<'_>, Status)],
+) -> Result<(), AllocError>
     ensures prefix { KeepsPrefix result writer.old writer.new }
     ensures tokens { OnOk result (writer.new.tokens ≡ writer.old.tokens
         ++ flat_map (λ other. json_tokens (other_item (other_model other))) others.now) }
 {
     for (nla, status) in others {
-        write_item(writer, nla, status)?;
+        write_item(alloc, writer, nla, status)?;
     }
     Ok(())
 }
 
 /// Writes an item for an attribute with this status: an object.
-fn write_item(writer: &mut Writer, nla: &NlaBuffer<'_>, status: &Status) -> Result<(), AllocError>
+fn write_item(
+    alloc: Global,
+    writer: &mut Writer,
+    nla: &NlaBuffer<'_>,
+    status: &Status,
+) -> Result<(), AllocError>
     ensures prefix { KeepsPrefix result writer.old writer.new }
     ensures tokens { OnOk result (writer.new.tokens ≡ writer.old.tokens
         ++ json_tokens (other_item (buffered_attribute nla.now, status.now))) }
 {
     writer.begin_object()?;
-    write_item_members(writer, nla, status)?;
+    write_item_members(alloc, writer, nla, status)?;
     writer.end_object()
 }
 
-/// Writes the type of an attribute and the length of its value, and if the value is invalid, the
-/// reason.
+/// Writes the type of an attribute and its value, and if the value is invalid, the reason.
 #[tactic(auto, using(crate::proofs::Slots::item_rules))]
 fn write_item_members(
+    alloc: Global,
     writer: &mut Writer,
     nla: &NlaBuffer<'_>,
     status: &Status,
@@ -198,20 +211,26 @@ fn write_item_members(
     ensures members { OnOk result (writer.new.tokens ≡ writer.old.tokens
         ++ members_tokens (item_members (buffered_attribute nla.now) status.now)) }
 {
-    write_attribute_members(writer, nla)?;
+    write_attribute_members(alloc, writer, nla)?;
     match status {
         Ok(_) => Ok(()),
         Err(error) => write_text(writer, "error", reason_of(error)),
     }
 }
 
-/// Writes the kind of an attribute and the length of its value.
-#[tactic(auto, unfolding(crate::specs::JsonAttributes::attribute_members))]
-fn write_attribute_members(writer: &mut Writer, nla: &NlaBuffer<'_>) -> Result<(), AllocError>
+/// Writes the kind of an attribute, the length of its value, and the bytes of its value.
+#[tactic(auto, using(crate::proofs::Slots::attribute_rules))]
+fn write_attribute_members(
+    alloc: Global,
+    writer: &mut Writer,
+    nla: &NlaBuffer<'_>,
+) -> Result<(), AllocError>
     ensures prefix { KeepsPrefix result writer.old writer.new }
     ensures members { OnOk result (writer.new.tokens ≡ writer.old.tokens
         ++ members_tokens (attribute_members (buffered_attribute nla.now))) }
 {
     let (kind, length) = (nla.kind() as u64, nla.value().len() as u64);
-    write_numbers(writer, &[("kind", kind), ("length", length)])
+    write_numbers(writer, &[("kind", kind), ("length", length)])?;
+    let digits = hex::encode(alloc, nla.value())?;
+    write_text(writer, "hex", digits.as_str())
 }
