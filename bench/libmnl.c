@@ -38,7 +38,7 @@ struct dumps {
 
 static void add_unix(struct dumps *dumps, const struct sockdiag_unix_details *it) {
     dumps->sum += it->header.inode + it->peer.value + it->send_queue.value + it->name.length +
-                  it->receive_buffer.value + it->shutdown.value;
+                  it->memory.receive_queue_max.value + it->shutdown.value;
 }
 
 static void add_inet(struct dumps *dumps, const struct sockdiag_inet_details *it) {
@@ -136,6 +136,7 @@ static const size_t unix_lengths[UNIX_DIAG_MAX + 1] = {
     [UNIX_DIAG_RQLEN] = sizeof(struct unix_diag_rqlen),
     [UNIX_DIAG_MEMINFO] = 9 * 4,
     [UNIX_DIAG_SHUTDOWN] = 1,
+    [UNIX_DIAG_UID] = 4,
 };
 static const size_t inet_lengths[INET_DIAG_MAX + 1] = {
     [INET_DIAG_MEMINFO] = sizeof(struct inet_diag_meminfo),
@@ -206,6 +207,19 @@ static void set_name(struct sockdiag_text *text, const struct nlattr *attribute)
     text->length = is_abstract ? length - 1 : strnlen((const char *)bytes, length);
 }
 
+static void set_memory(struct sockdiag_memory *it, const struct nlattr *attribute) {
+    const uint32_t *memory = mnl_attr_get_payload(attribute);
+    set(&it->receive_queue, memory[SK_MEMINFO_RMEM_ALLOC]);
+    set(&it->receive_queue_max, memory[SK_MEMINFO_RCVBUF]);
+    set(&it->bottom_send_queues, memory[SK_MEMINFO_WMEM_ALLOC]);
+    set(&it->send_queue_max, memory[SK_MEMINFO_SNDBUF]);
+    set(&it->cache, memory[SK_MEMINFO_FWD_ALLOC]);
+    set(&it->send_queue, memory[SK_MEMINFO_WMEM_QUEUED]);
+    set(&it->options, memory[SK_MEMINFO_OPTMEM]);
+    set(&it->backlog_queue_length, memory[SK_MEMINFO_BACKLOG]);
+    set(&it->drops, memory[SK_MEMINFO_DROPS]);
+}
+
 static void fill_unix(struct sockdiag_unix_details *it, const struct unix_diag_msg *message,
                       const struct nlattr *const *first) {
     memset(it, 0, sizeof *it);
@@ -226,25 +240,21 @@ static void fill_unix(struct sockdiag_unix_details *it, const struct unix_diag_m
         set(&it->recv_queue, queues->udiag_rqueue);
         set(&it->send_queue, queues->udiag_wqueue);
     }
-    if (first[UNIX_DIAG_MEMINFO] != NULL) {
-        const uint32_t *memory = mnl_attr_get_payload(first[UNIX_DIAG_MEMINFO]);
-        set(&it->receive_buffer, memory[SK_MEMINFO_RCVBUF]);
-        set(&it->send_buffer, memory[SK_MEMINFO_SNDBUF]);
-        set(&it->queued, memory[SK_MEMINFO_WMEM_QUEUED]);
-    }
+    if (first[UNIX_DIAG_MEMINFO] != NULL)
+        set_memory(&it->memory, first[UNIX_DIAG_MEMINFO]);
     set_u8(&it->shutdown, first[UNIX_DIAG_SHUTDOWN]);
+    set_u32(&it->owner, first[UNIX_DIAG_UID]);
 }
 
 static void fill_inet(struct sockdiag_inet_details *it, const struct inet_diag_msg *message,
                       const struct nlattr *const *first) {
     const size_t length = message->idiag_family == AF_INET ? 4 : 16;
-    const int has_timer = message->idiag_timer > 0 && message->idiag_timer < 5;
     memset(it, 0, sizeof *it);
     it->header.family = message->idiag_family;
     it->header.state = message->idiag_state;
-    it->header.timer = has_timer ? message->idiag_timer : 0;
-    it->header.retransmits = message->idiag_timer == 1 ? message->idiag_retrans : 0;
-    it->header.expires = has_timer && message->idiag_timer != 3 ? message->idiag_expires : 0;
+    it->header.timer = message->idiag_timer;
+    it->header.retransmits = message->idiag_retrans;
+    it->header.expires = message->idiag_expires;
     it->header.source_port = ntohs(message->id.idiag_sport);
     it->header.destination_port = ntohs(message->id.idiag_dport);
     memcpy(it->header.source_address, message->id.idiag_src, length);
@@ -268,6 +278,13 @@ static void fill_inet(struct sockdiag_inet_details *it, const struct inet_diag_m
     set_u8(&it->v6only, first[INET_DIAG_SKV6ONLY]);
     set_u32(&it->mark, first[INET_DIAG_MARK]);
     set_u32(&it->class_id, first[INET_DIAG_CLASS_ID]);
+    if (first[INET_DIAG_SKMEMINFO] != NULL)
+        set_memory(&it->memory, first[INET_DIAG_SKMEMINFO]);
+    if (first[INET_DIAG_MEMINFO] != NULL) {
+        it->has_legacy_memory = 1;
+        memcpy(&it->legacy_memory, mnl_attr_get_payload(first[INET_DIAG_MEMINFO]),
+               sizeof it->legacy_memory);
+    }
 }
 
 /* Fills the struct of a reply, of which the table has the attributes. */

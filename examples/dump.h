@@ -31,13 +31,6 @@
 /* State of a dump that has not ended. All others are 0 or an error number. */
 #define DUMP_GOES_ON (-1)
 
-/* Returns whether the first `length` bytes of the struct `info` have a field. Each kernel sends
- * struct tcp_info and struct mptcp_info in its own length, which the calls that fill `info` return:
- * sockdiag_inet_get_long_tcp_info and sockdiag_inet_get_mptcp_info. */
-#define SOCKDIAG_HAS(length, info, field)                                                         \
-    ((length) >= (size_t)((const char *)&(info).field - (const char *)&(info))                    \
-                     + sizeof((info).field))
-
 struct dump {
     int fd;
     uint32_t port_number;     /* Port id of the socket, which the kernel's answers have. */

@@ -13,7 +13,7 @@ static void print_connection(void *context, const uint8_t *payload, size_t lengt
     char source[INET6_ADDRSTRLEN] = "", destination[INET6_ADDRSTRLEN] = "";
     struct sockdiag_inet_details it;
     struct sockdiag_rejections rejections;
-    struct sockdiag_long_tcp_info info;
+    struct sockdiag_tcp_info info;
     const uint32_t error = sockdiag_inet_get_lenient_details(payload, length, &it, &rejections);
     if (error != SOCKDIAG_OK) {
         fprintf(stderr, "list_rtt: invalid reply: %s\n", sockdiag_error_text(error));
@@ -23,7 +23,7 @@ static void print_connection(void *context, const uint8_t *payload, size_t lengt
     inet_ntop(it.header.family, it.header.source_address, source, sizeof source);
     inet_ntop(it.header.family, it.header.destination_address, destination, sizeof destination);
     printf("%s %u %s %u", source, it.header.source_port, destination, it.header.destination_port);
-    if (SOCKDIAG_HAS(sockdiag_inet_get_long_tcp_info(payload, length, &info), info, rtt))
+    if (SOCKDIAG_HAS(sockdiag_inet_get_tcp_info(payload, length, &info, sizeof info), info, rtt))
         printf(" rtt %uus", info.rtt);
     putchar('\n');
 }

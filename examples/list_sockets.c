@@ -103,7 +103,7 @@ static uint32_t print_inet(const char *protocol, const uint8_t *payload, size_t 
     char source[INET6_ADDRSTRLEN] = "", destination[INET6_ADDRSTRLEN] = "";
     struct sockdiag_inet_details it;
     struct sockdiag_rejections rejections;
-    struct sockdiag_long_tcp_info info;
+    struct sockdiag_tcp_info info;
     const uint32_t error = sockdiag_inet_get_lenient_details(payload, length, &it, &rejections);
     if (error != SOCKDIAG_OK)
         return error;
@@ -117,7 +117,8 @@ static uint32_t print_inet(const char *protocol, const uint8_t *payload, size_t 
     /* Each kernel sends struct tcp_info in its own size, and a short one is rejected. Does it
      * contain this field? An MPTCP socket has struct mptcp_info there. */
     if (strcmp(protocol, "tcp") == 0 &&
-        SOCKDIAG_HAS(sockdiag_inet_get_long_tcp_info(payload, length, &info), info, rtt)) {
+        SOCKDIAG_HAS(sockdiag_inet_get_tcp_info(payload, length, &info, sizeof info), info,
+                     rtt)) {
         rejections.errors[SOCKDIAG_INET_DIAG_INFO] = SOCKDIAG_OK;
         /* 0: not measured, as of a socket that listens. */
         if (info.rtt != 0)
@@ -253,10 +254,6 @@ static int list_inet(const char *name, uint32_t protocol, uint8_t extensions, ui
         length = sockdiag_write_inet_request_with_attributes(&request, (const uint8_t *)&filter,
                                                              filter_length, bytes, sizeof bytes,
                                                              &outcome);
-        /* The protocol is also an attribute, which kernels without MPTCP ignore. By the low byte in
-         * the record, IPPROTO_TCP, they list TCP sockets again. For 0 they answer with ENOENT. */
-        if (protocol > UINT8_MAX)
-            bytes[NLMSG_HDRLEN + offsetof(struct inet_diag_req_v2, sdiag_protocol)] = 0;
         failed |= list(name, bytes, length);
     }
     return failed;

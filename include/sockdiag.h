@@ -32,16 +32,15 @@
  * A struct or number that a call returns need not be initialized, or set to zeros: no return value
  * depends on its contents. These are left unchanged:
  * - all of it, if a check, a sockdiag_.._get_details or a sockdiag_.._get_lenient_details returns
- *   the code of an error; if a getter of a single value, which is sockdiag_unix_get_pending,
- *   sockdiag_get_error_number, sockdiag_find_error_attributes and each call of the section "values
- *   of single attributes", returns 0; if a sockdiag_.._explain or sockdiag_.._explain_attribute
- *   returns 0; and if an iteration returns 0 or the code of a framing error;
+ *   the code of an error; if sockdiag_get_error_number, sockdiag_find_error_attributes or a call of
+ *   the section "values of single attributes" returns 0; if a sockdiag_.._explain or
+ *   sockdiag_.._explain_attribute returns 0; and if an iteration returns 0 or the code of a framing
+ *   error;
  * - if sockdiag_check_message returns 0, the header of the other kind.
  *
- * All other fields are set. sockdiag_inet_get_tcp_info, sockdiag_inet_get_long_tcp_info,
- * sockdiag_inet_get_mptcp_info and sockdiag_inet_get_memory set all fields in any case, and so does
- * each call with a struct sockdiag_outcome. The padding between fields may have any contents, so do
- * not compare structs by memcmp.
+ * All other fields are set. sockdiag_inet_get_tcp_info and sockdiag_inet_get_mptcp_info set all
+ * bytes of the struct in any case, and each call with a struct sockdiag_outcome sets its fields.
+ * The padding between fields may have any contents, so do not compare structs by memcmp.
  *
  * Numbers in structs are in the byte order of the host, ports included. Addresses are in network
  * byte order, as inet_ntop expects them. A cookie of eight bytes is a copy of the bytes in the
@@ -78,46 +77,6 @@ extern "C" {
  * that the library was built with.
  */
 uint32_t sockdiag_version(void);
-
-/*
- * Returns 1,000 times the first number of the version that added the function, plus the second one,
- * which are in its name too. Newer libraries with the same first number have it, older ones do not:
- * a program that refers to it, as the header does, does not link with these.
- */
-uint32_t sockdiag_abi_1_0(void);
-
-/*
- * Refers to this function in each file that includes the header, so that an older library, or one
- * with another first number, cannot be linked. Define SOCKDIAG_NO_LINK_CHECK before the header in a
- * file that is not linked with the library: one that only uses constants and structs, or that calls
- * the library by dlopen(3) and dlsym(3). Without __GNUC__, which gcc and clang define, the linker
- * checks nothing. Nor does it with --gc-sections if the compiler lacks the attribute retain, as gcc
- * 10 does.
- */
-#if defined __GNUC__ && !defined SOCKDIAG_NO_LINK_CHECK
-#ifdef __has_attribute
-#if __has_attribute(retain)
-__attribute__((retain))
-#endif
-#endif
-__attribute__((used)) static uint32_t (*const sockdiag_linked_abi)(void) = sockdiag_abi_1_0;
-#endif
-
-/*
- * Returns 1 if a header of this version is compatible with the library, else 0. It is compatible if
- * the first numbers of both versions are equal, and the second number of the header is not greater
- * than that of the library. A newer header may declare calls that the library lacks.
- * sockdiag_is_compatible passes the version of the header that the program was compiled with.
- */
-uint32_t sockdiag_is_compatible_with(uint32_t version);
-
-/*
- * Returns 1 if the program was compiled with the header of a version that is compatible with the
- * library that is linked, else 0. The linker ensures this by the pointer above, and the loader of
- * programs by the soname of the shared library and the versions of its functions. Call this first
- * if neither does.
- */
-#define sockdiag_is_compatible() sockdiag_is_compatible_with(SOCKDIAG_VERSION_NUMBER)
 
 #define SOCKDIAG_OK 0   /* Return value of a check that accepts the bytes. */
 #define SOCKDIAG_END 0  /* Return value of an iteration at its end, and of a getter that finds no
@@ -220,6 +179,19 @@ static inline const char *sockdiag_error_text(uint32_t error)
 /* The protocol of a socket of family AF_NETLINK, for socket(2). */
 enum sockdiag_netlink_protocol {
     SOCKDIAG_NETLINK_SOCK_DIAG = 4 /* The netlink protocol of sock_diag(7), for socket(2). */
+};
+
+/*
+ * Groups of NETLINK_SOCK_DIAG: the kernel sends a reply for each socket of the group that it
+ * destroys, as ss -E prints. Join a group by the option NETLINK_ADD_MEMBERSHIP of netlink(7). Such
+ * a reply has the protocol, INET_DIAG_PROTOCOL.
+ */
+enum sockdiag_group {
+    SOCKDIAG_SKNLGRP_NONE = 0,              /* No group. */
+    SOCKDIAG_SKNLGRP_INET_TCP_DESTROY = 1,  /* Destroyed TCP sockets of IPv4. */
+    SOCKDIAG_SKNLGRP_INET_UDP_DESTROY = 2,  /* Destroyed UDP sockets of IPv4. */
+    SOCKDIAG_SKNLGRP_INET6_TCP_DESTROY = 3, /* Destroyed TCP sockets of IPv6. */
+    SOCKDIAG_SKNLGRP_INET6_UDP_DESTROY = 4  /* Destroyed UDP sockets of IPv6. */
 };
 
 /* Message types of netlink(7) and sock_diag(7). */
@@ -397,6 +369,22 @@ enum sockdiag_subflow_attribute {
     SOCKDIAG_MPTCP_SUBFLOW_ATTR_PAD = 11          /* Padding. */
 };
 
+/* Kinds of attributes in INET_DIAG_SK_BPF_STORAGES, and in each of its storages. */
+enum sockdiag_bpf_storage_attribute {
+    SOCKDIAG_SK_DIAG_BPF_STORAGE_REQ_MAP_FD = 1, /* In a request: the file descriptor of a map
+                                                    whose storages are requested, a u32. */
+    SOCKDIAG_SK_DIAG_BPF_STORAGE = 1,            /* In a reply: one storage, as nested attributes
+                                                    SK_DIAG_BPF_STORAGE_MAP_... */
+    SOCKDIAG_SK_DIAG_BPF_STORAGE_PAD = 1,        /* In SK_DIAG_BPF_STORAGE: kind of an attribute
+                                                    that is padding. */
+    SOCKDIAG_SK_DIAG_BPF_STORAGE_MAP_ID = 2,     /* In SK_DIAG_BPF_STORAGE: kind of the attribute
+                                                    with the id of the BPF map, a little-endian
+                                                    u32. */
+    SOCKDIAG_SK_DIAG_BPF_STORAGE_MAP_VALUE = 3   /* In SK_DIAG_BPF_STORAGE: kind of the attribute
+                                                    with the bytes that the map stores for the
+                                                    socket. */
+};
+
 /* Kinds of attributes in an extended acknowledgement. */
 enum sockdiag_error_attribute {
     SOCKDIAG_NLMSGERR_ATTR_UNUSED = 0,    /* No attribute. */
@@ -472,6 +460,55 @@ enum sockdiag_show {
     SOCKDIAG_XDP_SHOW_STATS = 0x10       /* Requests XDP_DIAG_STATS. */
 };
 
+/* Kinds of attributes in replies about netlink sockets. */
+enum sockdiag_netlink_attribute {
+    SOCKDIAG_NETLINK_DIAG_MEMINFO = 0, /* Kind of the socket's memory: an array of u32, indexed
+                                          by SK_MEMINFO_*. */
+    SOCKDIAG_NETLINK_DIAG_GROUPS = 1,  /* Kind of the multicast groups that the socket has
+                                          joined: a bit mask. */
+    SOCKDIAG_NETLINK_DIAG_RX_RING = 2, /* Kind of the receive ring. Linux 4.6 removed it. */
+    SOCKDIAG_NETLINK_DIAG_TX_RING = 3, /* Kind of the transmit ring. Linux 4.6 removed it. */
+    SOCKDIAG_NETLINK_DIAG_FLAGS = 4    /* Kind of the socket's flags: a u32 with bits
+                                          NDIAG_FLAG_*. */
+};
+
+/* Kinds of attributes in replies about packet sockets. */
+enum sockdiag_packet_attribute {
+    SOCKDIAG_PACKET_DIAG_INFO = 0,    /* Kind of struct sockdiag_packet_info. */
+    SOCKDIAG_PACKET_DIAG_MCLIST = 1,  /* Kind of the memberships of the socket
+                                         (PACKET_ADD_MEMBERSHIP, packet(7)): an array of struct
+                                         packet_diag_mclist, 44 bytes each. */
+    SOCKDIAG_PACKET_DIAG_RX_RING = 2, /* Kind of the receive ring: struct sockdiag_packet_ring. */
+    SOCKDIAG_PACKET_DIAG_TX_RING = 3, /* Kind of the transmit ring: struct sockdiag_packet_ring. */
+    SOCKDIAG_PACKET_DIAG_FANOUT = 4,  /* Kind of the fanout group: a u32. */
+    SOCKDIAG_PACKET_DIAG_UID = 5,     /* Kind of the user id of the socket's owner: a u32. */
+    SOCKDIAG_PACKET_DIAG_MEMINFO = 6, /* Kind of the socket's memory: an array of u32, indexed by
+                                         SK_MEMINFO_*. */
+    SOCKDIAG_PACKET_DIAG_FILTER = 7   /* Kind of the socket's filter: a BPF program. */
+};
+
+/* Kinds of attributes in replies about XDP sockets. */
+enum sockdiag_xdp_attribute {
+    SOCKDIAG_XDP_DIAG_INFO = 1,                 /* Kind of struct sockdiag_xdp_info. */
+    SOCKDIAG_XDP_DIAG_UID = 2,                  /* Kind of the user id of the socket's owner: a
+                                                   u32. */
+    SOCKDIAG_XDP_DIAG_RX_RING = 3,              /* Kind of the receive ring: its number of
+                                                   entries, a u32 (struct xdp_diag_ring). */
+    SOCKDIAG_XDP_DIAG_TX_RING = 4,              /* Kind of the transmit ring: its number of
+                                                   entries, a u32 (struct xdp_diag_ring). */
+    SOCKDIAG_XDP_DIAG_UMEM = 5,                 /* Kind of struct sockdiag_xdp_umem. */
+    SOCKDIAG_XDP_DIAG_UMEM_FILL_RING = 6,       /* Kind of the fill ring, by which the program
+                                                   passes frames to the kernel: its number of
+                                                   entries, a u32 (struct xdp_diag_ring). */
+    SOCKDIAG_XDP_DIAG_UMEM_COMPLETION_RING = 7, /* Kind of the completion ring, by which the
+                                                   kernel returns frames to the program: its
+                                                   number of entries, a u32 (struct
+                                                   xdp_diag_ring). */
+    SOCKDIAG_XDP_DIAG_MEMINFO = 8,              /* Kind of the socket's memory: an array of u32,
+                                                   indexed by SK_MEMINFO_*. */
+    SOCKDIAG_XDP_DIAG_STATS = 9                 /* Kind of struct sockdiag_xdp_statistics. */
+};
+
 /* ---- replies */
 
 /* Offsets of the attributes in a reply, where an iteration over them starts. */
@@ -493,17 +530,16 @@ struct sockdiag_unix_header {
 struct sockdiag_inet_header {
     uint8_t family;                  /* AF_INET or AF_INET6 (idiag_family, at 0). */
     uint8_t state;                   /* State, one of TCP_ESTABLISHED to TCP_CLOSING
-                                        (idiag_state, at 1). Most replies do not contain the
-                                        protocol: states are of TCP, UDP or another protocol, the
-                                        one that was requested. */
-    uint8_t timer;                   /* Timer (idiag_timer, at 2): 1 retransmission, 2 keepalive,
-                                        3 TIME_WAIT, 4 zero-window probe, 0 none. Any other value
-                                        in the message is returned as 0. */
-    uint8_t retransmits;             /* Number of retransmissions if the timer is 1, else 0
-                                        (idiag_retrans, at 3). */
-    uint32_t expires;                /* Milliseconds until the timer expires if the timer is 1, 2
-                                        or 4, else 0 (idiag_expires, at 52). The time of a
-                                        TIME_WAIT timer is not returned. */
+                                        (idiag_state, at 1), of the protocol that was requested.
+                                        The reply of an event has the protocol in
+                                        INET_DIAG_PROTOCOL. */
+    uint8_t timer;                   /* Timer (idiag_timer, at 2): 0 none, 1 retransmission, 2
+                                        keepalive, 3 TIME_WAIT, 4 zero-window probe; 5 delayed
+                                        acknowledgement, since Linux 7.2. */
+    uint8_t retransmits;             /* Number of retransmissions if the timer is 1, of probes if
+                                        it is 2 or 4 (idiag_retrans, at 3). */
+    uint32_t expires;                /* Milliseconds until the timer expires (idiag_expires, at
+                                        52). */
     uint16_t source_port;            /* Local port (idiag_sport, at 4). */
     uint16_t destination_port;       /* Remote port (idiag_dport, at 6). */
     uint8_t source_address[16];      /* Local address in network byte order (idiag_src, at 8).
@@ -555,12 +591,9 @@ uint32_t sockdiag_check_unix_reply(const uint8_t *payload, size_t length,
  * An attribute with an invalid value makes the whole reply invalid. INET_DIAG_INFO with fewer than
  * 232 bytes has SOCKDIAG_BUFFER_TOO_SMALL. TCP sockets of kernels without tcpi_snd_wnd have such
  * values, and MPTCP sockets of all kernels. sockdiag_inet_get_lenient_details returns the header of
- * such a reply, and the first valid attribute of each kind that has a field in the details. These
- * calls accept a value of any length:
- * - the connection: sockdiag_inet_get_long_tcp_info and sockdiag_inet_get_tcp_info, and for MPTCP
- *   sockdiag_inet_get_mptcp_info;
- * - the memory: sockdiag_inet_get_memory;
- * - other attributes: sockdiag_next_attribute, which does not check their values.
+ * such a reply, and the first valid attribute of each kind that has a field in the details.
+ * sockdiag_inet_get_tcp_info and sockdiag_inet_get_mptcp_info return a connection of any length.
+ * sockdiag_next_attribute returns all attributes, without a check of their values.
  */
 uint32_t sockdiag_check_inet_reply(const uint8_t *payload, size_t length,
                                    struct sockdiag_inet_header *header);
@@ -607,57 +640,102 @@ struct sockdiag_text {
 };
 
 /*
+ * Memory of a socket: the fields SK_MEMINFO_.. of linux/sock_diag.h. A reply contains the first
+ * seven fields together, or none of them.
+ */
+struct sockdiag_memory {
+    struct sockdiag_number receive_queue;        /* Memory in use by the receive queue, in bytes
+                                                    (SK_MEMINFO_RMEM_ALLOC, at 0). */
+    struct sockdiag_number receive_queue_max;    /* Receive buffer limit in bytes
+                                                    (SK_MEMINFO_RCVBUF, at 4). */
+    struct sockdiag_number bottom_send_queues;   /* Memory of packets committed to the device
+                                                    queue, in bytes (SK_MEMINFO_WMEM_ALLOC, at
+                                                    8). */
+    struct sockdiag_number send_queue_max;       /* Send buffer limit in bytes
+                                                    (SK_MEMINFO_SNDBUF, at 12). */
+    struct sockdiag_number cache;                /* Memory that is allocated to the socket and
+                                                    not in use, in bytes (SK_MEMINFO_FWD_ALLOC,
+                                                    at 16). */
+    struct sockdiag_number send_queue;           /* Memory in use by the send queue, in bytes
+                                                    (SK_MEMINFO_WMEM_QUEUED, at 20). */
+    struct sockdiag_number options;              /* Memory of the socket options, in bytes
+                                                    (SK_MEMINFO_OPTMEM, at 24). */
+    struct sockdiag_number backlog_queue_length; /* Memory of packets that wait while the socket
+                                                    is locked, in bytes (SK_MEMINFO_BACKLOG, at
+                                                    28). Older kernels do not send it. */
+    struct sockdiag_number drops;                /* Number of dropped packets (SK_MEMINFO_DROPS,
+                                                    at 32). Older kernels do not send it. */
+};
+
+/*
  * Everything that a reply contains about a UNIX socket, except the connections that wait to be
  * accepted.
  */
 struct sockdiag_unix_details {
-    struct sockdiag_unix_header header;    /* The header. */
-    struct sockdiag_text name;             /* Name that the socket is bound to (UNIX_DIAG_NAME). */
-    struct sockdiag_number file_inode;     /* Inode of the file that the socket is bound to
-                                              (udiag_vfs_ino of UNIX_DIAG_VFS). */
-    struct sockdiag_number file_device;    /* Device of that file, major << 20 | minor
-                                              (udiag_vfs_dev of UNIX_DIAG_VFS). It is not the
-                                              st_dev of stat(2), which combines them in another
-                                              way: compare major(st_dev) and minor(st_dev). */
-    struct sockdiag_number peer;           /* Inode of the peer (UNIX_DIAG_PEER). */
-    struct sockdiag_number recv_queue;     /* Number of connections that wait to be accepted on a
-                                              listening socket, else number of bytes that have
-                                              not been read (udiag_rqueue of UNIX_DIAG_RQLEN). */
-    struct sockdiag_number send_queue;     /* Limit of these connections for a listening socket,
-                                              else bytes of memory in use by data that was sent
-                                              and has not been read (udiag_wqueue of
-                                              UNIX_DIAG_RQLEN). */
-    struct sockdiag_number receive_buffer; /* Size of the receive buffer in bytes
-                                              (SK_MEMINFO_RCVBUF of UNIX_DIAG_MEMINFO). */
-    struct sockdiag_number send_buffer;    /* Size of the send buffer in bytes, the limit of a
-                                              datagram (SK_MEMINFO_SNDBUF of UNIX_DIAG_MEMINFO). */
-    struct sockdiag_number queued;         /* Memory of data queued for sending, in bytes
-                                              (SK_MEMINFO_WMEM_QUEUED of UNIX_DIAG_MEMINFO).
-                                              Linux sends 0, and counts data that the peer has
-                                              not read in SK_MEMINFO_WMEM_ALLOC, which has no
-                                              field here: use send_queue. */
-    struct sockdiag_number shutdown;       /* Directions that are shut down: 1 for receiving, 2
-                                              for sending, 3 for both (UNIX_DIAG_SHUTDOWN). */
+    struct sockdiag_unix_header header; /* The header. */
+    struct sockdiag_text name;          /* Name that the socket is bound to (UNIX_DIAG_NAME). */
+    struct sockdiag_number file_inode;  /* Inode of the file that the socket is bound to
+                                           (udiag_vfs_ino of UNIX_DIAG_VFS). */
+    struct sockdiag_number file_device; /* Device of that file, major << 20 | minor
+                                           (udiag_vfs_dev of UNIX_DIAG_VFS). It is not the st_dev
+                                           of stat(2), which combines them in another way:
+                                           compare major(st_dev) and minor(st_dev). */
+    struct sockdiag_number peer;        /* Inode of the peer (UNIX_DIAG_PEER). */
+    struct sockdiag_number recv_queue;  /* Number of connections that wait to be accepted on a
+                                           listening socket, else number of bytes that have not
+                                           been read (udiag_rqueue of UNIX_DIAG_RQLEN). */
+    struct sockdiag_number send_queue;  /* Limit of these connections for a listening socket,
+                                           else bytes of memory in use by data that was sent and
+                                           has not been read (udiag_wqueue of UNIX_DIAG_RQLEN). */
+    struct sockdiag_memory memory;      /* Socket memory (UNIX_DIAG_MEMINFO). Linux counts sent
+                                           data that was not yet read in bottom_send_queues, and
+                                           send_queue is 0. */
+    struct sockdiag_number shutdown;    /* Directions that are shut down: 1 for receiving, 2 for
+                                           sending, 3 for both (UNIX_DIAG_SHUTDOWN). */
+    struct sockdiag_number owner;       /* User id of the owner (UNIX_DIAG_UID). It is not set if
+                                           the value does not have 4 bytes. */
 };
 
 /*
- * Everything that a reply contains about an IPv4 or IPv6 socket, except its TCP connection and its
- * memory, which have separate calls.
+ * Memory of an IPv4 or IPv6 socket in the format of old kernels: struct inet_diag_meminfo of
+ * linux/inet_diag.h. The fields are those of struct sockdiag_memory with the same names.
+ */
+struct sockdiag_legacy_memory {
+    uint32_t receive_queue;      /* Memory in use by the receive queue, in bytes (idiag_rmem, at
+                                    0). */
+    uint32_t send_queue;         /* Memory in use by the send queue, in bytes (idiag_wmem, at 4). */
+    uint32_t cache;              /* Memory that is allocated to the socket and not in use, in
+                                    bytes (idiag_fmem, at 8). */
+    uint32_t bottom_send_queues; /* Memory of packets committed to the device queue, in bytes
+                                    (idiag_tmem, at 12). */
+};
+
+/*
+ * Everything that a reply contains about an IPv4 or IPv6 socket, except its connection
+ * (INET_DIAG_INFO), which sockdiag_inet_get_tcp_info and sockdiag_inet_get_mptcp_info return.
  */
 struct sockdiag_inet_details {
-    struct sockdiag_inet_header header; /* The header. */
-    struct sockdiag_text congestion;    /* Name of the congestion control algorithm
-                                           (INET_DIAG_CONG). */
-    struct sockdiag_number tos;         /* Type of service (INET_DIAG_TOS). */
-    struct sockdiag_number tclass;      /* Traffic class of an IPv6 socket (INET_DIAG_TCLASS). */
-    struct sockdiag_number shutdown;    /* Directions that are shut down: 1 for receiving, 2 for
-                                           sending, 3 for both (INET_DIAG_SHUTDOWN). */
-    struct sockdiag_number protocol;    /* Protocol, one of IPPROTO_.. (INET_DIAG_PROTOCOL). */
-    struct sockdiag_number v6only;      /* 1 if the socket is for IPv6 only, else 0
-                                           (INET_DIAG_SKV6ONLY). */
-    struct sockdiag_number mark;        /* Mark of the socket, SO_MARK (INET_DIAG_MARK). */
-    struct sockdiag_number class_id;    /* Traffic control class of the socket's packets
-                                           (INET_DIAG_CLASS_ID). */
+    struct sockdiag_inet_header header;          /* The header. */
+    struct sockdiag_text congestion;             /* Name of the congestion control algorithm
+                                                    (INET_DIAG_CONG). */
+    struct sockdiag_number tos;                  /* Type of service (INET_DIAG_TOS). */
+    struct sockdiag_number tclass;               /* Traffic class of an IPv6 socket
+                                                    (INET_DIAG_TCLASS). */
+    struct sockdiag_number shutdown;             /* Directions that are shut down: 1 for
+                                                    receiving, 2 for sending, 3 for both
+                                                    (INET_DIAG_SHUTDOWN). */
+    struct sockdiag_number protocol;             /* Protocol, one of IPPROTO_..
+                                                    (INET_DIAG_PROTOCOL), in events and of raw
+                                                    sockets. */
+    struct sockdiag_number v6only;               /* 1 if the socket is for IPv6 only, else 0
+                                                    (INET_DIAG_SKV6ONLY). */
+    struct sockdiag_number mark;                 /* Mark of the socket, SO_MARK (INET_DIAG_MARK). */
+    struct sockdiag_number class_id;             /* Traffic control class of the socket's packets
+                                                    (INET_DIAG_CLASS_ID). */
+    struct sockdiag_memory memory;               /* Socket memory (INET_DIAG_SKMEMINFO). */
+    uint32_t has_legacy_memory;                  /* 1 if legacy_memory is set, else 0. */
+    struct sockdiag_legacy_memory legacy_memory; /* Socket memory in the format of old kernels
+                                                    (INET_DIAG_MEMINFO). */
 };
 
 /*
@@ -669,22 +747,20 @@ struct sockdiag_inet_details {
  * attributes of a kind the first one counts. Texts point into the payload, and are valid as long as
  * it is. The family, the first byte, is not checked: use it to choose the call.
  *
- * Attributes without a field, such as UNIX_DIAG_UID, are not an error: sockdiag_next_attribute
- * returns them. Old kernels send values that are rejected: sockdiag_unix_get_lenient_details
- * returns the other attributes.
+ * Attributes without a field are not an error: sockdiag_next_attribute returns them. Old kernels
+ * send values that are rejected: sockdiag_unix_get_lenient_details returns the other attributes.
  */
 uint32_t sockdiag_unix_get_details(const uint8_t *payload, size_t length,
                                    struct sockdiag_unix_details *details);
 
 /*
  * Checks a whole reply about an IPv4 or IPv6 socket, as sockdiag_check_inet_reply does, and returns
- * its header and the attributes that are a text or a number, in one pass over the attributes.
- * Memory and struct tcp_info are checked, and not returned. The bytes are the payload of the
- * netlink message. Returns 0, and sets all fields: a number that the reply does not contain is all
- * 0. Or returns the code of the first error, in the order of the bytes, and then the details are
- * unchanged. The previous contents of the details are not read. Each attribute is checked, and of
- * several attributes of a kind the first one counts. Texts point into the payload, and are valid as
- * long as it is.
+ * its contents, in one pass over the attributes. INET_DIAG_INFO is checked, and not returned. The
+ * bytes are the payload of the netlink message. Returns 0, and sets all fields: a number or a
+ * record that the reply does not contain is all 0. Or returns the code of the first error, in the
+ * order of the bytes, and then the details are unchanged. The previous contents of the details are
+ * not read. Each attribute is checked, and of several attributes of a kind the first one counts.
+ * Texts point into the payload, and are valid as long as it is.
  *
  * Attributes without a field, such as INET_DIAG_MD5SIG and others that are arrays or nested, are
  * not an error: sockdiag_next_attribute returns them. A reply with a short INET_DIAG_INFO is
@@ -693,167 +769,13 @@ uint32_t sockdiag_unix_get_details(const uint8_t *payload, size_t length,
 uint32_t sockdiag_inet_get_details(const uint8_t *payload, size_t length,
                                    struct sockdiag_inet_details *details);
 
-/*
- * Stores the inode of a socket that connected to a UNIX socket, and was not yet accepted: the inode
- * at this index of the first UNIX_DIAG_ICONS of a reply. The first connection has index 0. The
- * bytes are the payload of the netlink message. Returns 1. Returns 0 if the reply is rejected, or
- * has no connection at this index; then the inode is unchanged. The inode is 0 if the socket was
- * closed since. The other end of such a connection, which accept(2) will return, has no inode yet,
- * and the kernel does not list it.
- *
- * Each call checks the whole reply. To read all connections, find UNIX_DIAG_ICONS once by
- * sockdiag_next_attribute, and step through its value by sockdiag_next_pending.
- */
-uint32_t sockdiag_unix_get_pending(const uint8_t *payload, size_t length, size_t index,
-                                   uint32_t *inode);
+/* ---- connections */
 
-/* The state of a TCP connection: struct tcp_info of linux/tcp.h, without the prefix tcpi_. */
+/*
+ * The state of a TCP connection: struct tcp_info of linux/tcp.h in Linux 7.2. Later versions of
+ * this header append fields.
+ */
 struct sockdiag_tcp_info {
-    uint8_t state;                     /* TCP state (tcpi_state), TCP_ESTABLISHED to TCP_CLOSING,
-                                          at offset 0. */
-    uint8_t ca_state;                  /* State of congestion control (tcpi_ca_state),
-                                          TCP_CA_OPEN to TCP_CA_LOSS, at offset 1. */
-    uint8_t retransmits;               /* Number of times that the retransmission timer has
-                                          retransmitted the oldest segment (tcpi_retransmits), at
-                                          offset 2. */
-    uint8_t probes;                    /* Number of unanswered zero-window or keepalive probes
-                                          (tcpi_probes), at offset 3. */
-    uint8_t backoff;                   /* Number of times that the timer was doubled, by
-                                          exponential backoff (tcpi_backoff), at offset 4. */
-    uint8_t options;                   /* Options of the connection (tcpi_options), bits
-                                          TCPI_OPT_*, at offset 5. */
-    uint8_t wscale;                    /* Window scale shifts, at offset 6: tcpi_snd_wscale in
-                                          bits 0 to 3, tcpi_rcv_wscale in bits 4 to 7. */
-    uint8_t delivery_rate_app_limited; /* Bit fields at offset 7. Bit 0 is set if the sending
-                                          program limits delivery_rate
-                                          (tcpi_delivery_rate_app_limited). Bits 1 and 2 are
-                                          tcpi_fastopen_client_fail. */
-    uint32_t rto;                      /* Retransmission timeout in microseconds (tcpi_rto), at
-                                          offset 8. */
-    uint32_t ato;                      /* Timeout of delayed acknowledgements in microseconds
-                                          (tcpi_ato), at offset 12. */
-    uint32_t snd_mss;                  /* Maximum size of sent segments in bytes (tcpi_snd_mss),
-                                          at offset 16. */
-    uint32_t rcv_mss;                  /* Estimated maximum size of received segments in bytes
-                                          (tcpi_rcv_mss), at offset 20. */
-    uint32_t unacked;                  /* Number of segments that are sent and not acknowledged
-                                          (tcpi_unacked), at offset 24. For a listening socket,
-                                          the number of pending connections. */
-    uint32_t sacked;                   /* Number of segments that are selectively acknowledged
-                                          (tcpi_sacked), at offset 28. For a listening socket,
-                                          the backlog limit. */
-    uint32_t lost;                     /* Number of segments that are considered lost
-                                          (tcpi_lost), at offset 32. */
-    uint32_t retrans;                  /* Number of retransmitted segments in flight
-                                          (tcpi_retrans), at offset 36. */
-    uint32_t fackets;                  /* Number of segments up to the highest one that is
-                                          selectively acknowledged (tcpi_fackets), at offset 40.
-                                          Newer kernels write 0. */
-    uint32_t last_data_sent;           /* Time since data was last sent, in milliseconds
-                                          (tcpi_last_data_sent), at offset 44. */
-    uint32_t last_ack_sent;            /* Time since an acknowledgement was last sent
-                                          (tcpi_last_ack_sent), at offset 48. The kernel does not
-                                          record it, and writes 0. */
-    uint32_t last_data_recv;           /* Time since data was last received, in milliseconds
-                                          (tcpi_last_data_recv), at offset 52. */
-    uint32_t last_ack_recv;            /* Time since an acknowledgement was last received, in
-                                          milliseconds (tcpi_last_ack_recv), at offset 56. */
-    uint32_t pmtu;                     /* Path MTU in bytes (tcpi_pmtu), at offset 60. */
-    uint32_t rcv_ssthresh;             /* Current limit on the growth of the receive window, in
-                                          bytes (tcpi_rcv_ssthresh), at offset 64. */
-    uint32_t rtt;                      /* Smoothed round-trip time in microseconds (tcpi_rtt), at
-                                          offset 68. */
-    uint32_t rttvar;                   /* Mean deviation of the round-trip time in microseconds
-                                          (tcpi_rttvar), at offset 72. */
-    uint32_t snd_ssthresh;             /* Slow start threshold in segments (tcpi_snd_ssthresh),
-                                          at offset 76. */
-    uint32_t snd_cwnd;                 /* Congestion window in segments (tcpi_snd_cwnd), at
-                                          offset 80. */
-    uint32_t advmss;                   /* Maximum segment size that was advertised to the peer,
-                                          in bytes (tcpi_advmss), at offset 84. */
-    uint32_t reordering;               /* Reordering metric in segments (tcpi_reordering), at
-                                          offset 88: how far segments may be out of order before
-                                          one is considered lost. */
-    uint32_t rcv_rtt;                  /* Round-trip time that the receiver estimates, in
-                                          microseconds (tcpi_rcv_rtt), at offset 92. */
-    uint32_t rcv_space;                /* Space that receive buffer auto-tuning provides for, in
-                                          bytes (tcpi_rcv_space), at offset 96. */
-    uint32_t total_retrans;            /* Total number of retransmitted segments
-                                          (tcpi_total_retrans), at offset 100. */
-    uint64_t pacing_rate;              /* Pacing rate in bytes per second (tcpi_pacing_rate), at
-                                          offset 104. */
-    uint64_t max_pacing_rate;          /* Limit on the pacing rate in bytes per second
-                                          (tcpi_max_pacing_rate), at offset 112. */
-    uint64_t bytes_acked;              /* Number of acknowledged bytes (tcpi_bytes_acked), at
-                                          offset 120. */
-    uint64_t bytes_received;           /* Number of bytes that were received in order
-                                          (tcpi_bytes_received), at offset 128. */
-    uint32_t segs_out;                 /* Number of sent segments (tcpi_segs_out), at offset 136. */
-    uint32_t segs_in;                  /* Number of received segments (tcpi_segs_in), at offset
-                                          140. */
-    uint32_t notsent_bytes;            /* Number of bytes in the send queue that are not yet sent
-                                          (tcpi_notsent_bytes), at offset 144. */
-    uint32_t min_rtt;                  /* Minimum round-trip time in microseconds (tcpi_min_rtt),
-                                          at offset 148. */
-    uint32_t data_segs_in;             /* Number of received segments with data
-                                          (tcpi_data_segs_in), at offset 152. */
-    uint32_t data_segs_out;            /* Number of sent segments with data (tcpi_data_segs_out),
-                                          at offset 156. */
-    uint64_t delivery_rate;            /* Most recent rate at which data was delivered to the
-                                          peer, in bytes per second (tcpi_delivery_rate), at
-                                          offset 160. */
-    uint64_t busy_time;                /* Time with data to send, in microseconds
-                                          (tcpi_busy_time), at offset 168. */
-    uint64_t rwnd_limited;             /* Part of the busy time in which the peer's receive
-                                          window was the limit, in microseconds
-                                          (tcpi_rwnd_limited), at offset 176. */
-    uint64_t sndbuf_limited;           /* Part of the busy time in which the send buffer was the
-                                          limit, in microseconds (tcpi_sndbuf_limited), at offset
-                                          184. */
-    uint32_t delivered;                /* Number of segments that were delivered to the peer,
-                                          including retransmitted ones (tcpi_delivered), at
-                                          offset 192. */
-    uint32_t delivered_ce;             /* Number of delivered segments that the peer reported as
-                                          marked for congestion, by ECN (tcpi_delivered_ce), at
-                                          offset 196. */
-    uint64_t bytes_sent;               /* Number of sent bytes of data, including retransmitted
-                                          ones (tcpi_bytes_sent), at offset 200. */
-    uint64_t bytes_retrans;            /* Number of retransmitted bytes of data
-                                          (tcpi_bytes_retrans), at offset 208. */
-    uint32_t dsack_dups;               /* Number of segments that the peer reported as received
-                                          twice, by DSACK (tcpi_dsack_dups), at offset 216. */
-    uint32_t reord_seen;               /* Number of times that reordering was observed
-                                          (tcpi_reord_seen), at offset 220. */
-    uint32_t rcv_ooopack;              /* Number of segments that were received out of order
-                                          (tcpi_rcv_ooopack), at offset 224. */
-    uint32_t snd_wnd;                  /* Receive window that the peer advertises, after scaling,
-                                          in bytes (tcpi_snd_wnd), at offset 228. */
-};
-
-/*
- * Copies the value of the first INET_DIAG_INFO after the header of a reply about an IPv4 or IPv6
- * socket, which has 72 bytes: at most the 232 bytes of info. The remaining bytes of info are set to
- * 0. Returns the length of the value in bytes, or 0 if there is none.
- *
- * Kernels without tcpi_snd_wnd send fewer than 232 bytes: a field that ends after the returned
- * length is not known. Its bytes before this length are copied, and the other ones are 0. Newer
- * kernels send more; the bytes after 232 are not copied.
- *
- * A time that the kernel has not measured has its first value: rtt of a socket that listens is 0,
- * and in the state TCP_SYN_SENT rtt is 0, rttvar 250000 and min_rtt 4294967295.
- *
- * The value is struct tcp_info only if the protocol is TCP: MPTCP has struct mptcp_info, which
- * sockdiag_inet_get_mptcp_info returns, and SCTP has struct sctp_info. Their bytes have no meaning
- * in info.
- *
- * The values of attributes are not checked. So this call also works for a reply that is rejected
- * because a value is too short. Attributes after a framing error are not found.
- */
-size_t sockdiag_inet_get_tcp_info(const uint8_t *payload, size_t length,
-                                  struct sockdiag_tcp_info *info);
-
-/* The state of a TCP connection: struct tcp_info of linux/tcp.h in Linux 7.2. */
-struct sockdiag_long_tcp_info {
     uint8_t state;                     /* TCP state (tcpi_state), TCP_ESTABLISHED to TCP_CLOSING,
                                           at offset 0. */
     uint8_t ca_state;                  /* State of congestion control (tcpi_ca_state),
@@ -1013,20 +935,37 @@ struct sockdiag_long_tcp_info {
 };
 
 /*
- * Copies the value of the first INET_DIAG_INFO after the header of a reply about an IPv4 or IPv6
- * socket, as sockdiag_inet_get_tcp_info does, into the longer struct of Linux 7.2: at most the 280
- * bytes of info. The remaining bytes of info are set to 0. Returns the length of the value in
- * bytes, or 0 if there is none. A field that ends after this length is not known: see
- * sockdiag_inet_get_tcp_info, also for times that are not measured. The four bit fields are known
- * if the length is at least 280.
- *
- * The values of attributes are not checked. So this call also works for a value that is rejected
- * with SOCKDIAG_BUFFER_TOO_SMALL, as a lenient call reports it.
+ * Returns whether the kernel sent a field of the struct info. The length is the return value of
+ * sockdiag_inet_get_tcp_info or sockdiag_inet_get_mptcp_info. The last four fields of struct
+ * sockdiag_tcp_info are bit fields, which this macro does not take: the kernel sent them if the
+ * length is at least 280.
  */
-size_t sockdiag_inet_get_long_tcp_info(const uint8_t *payload, size_t length,
-                                       struct sockdiag_long_tcp_info *info);
+#define SOCKDIAG_HAS(length, info, field)                                                         \
+    ((length) >= (size_t)((const char *)&(info).field - (const char *)&(info))                    \
+                     + sizeof((info).field))
 
-/* The state of an MPTCP connection: struct mptcp_info of linux/mptcp.h in Linux 7.2. */
+/*
+ * Copies the TCP connection of a reply about an IPv4 or IPv6 socket: the value of the first
+ * INET_DIAG_INFO. info_size is sizeof *info: at most as many bytes are copied, and the remaining
+ * ones are set to 0. Returns the length of the value in bytes, or 0 if there is none.
+ *
+ * Each kernel sends the struct in its own length, which may also be longer: SOCKDIAG_HAS tests
+ * whether the value contains a field. A value of any length is accepted, also one that
+ * sockdiag_inet_get_details rejects. Attributes after a framing error are not found.
+ *
+ * A time that the kernel has not measured has its first value: rtt of a socket that listens is 0,
+ * and in the state TCP_SYN_SENT rtt is 0, rttvar 250000 and min_rtt 4294967295.
+ *
+ * If the protocol that was requested is not TCP, the value is another struct, struct mptcp_info or
+ * struct sctp_info.
+ */
+size_t sockdiag_inet_get_tcp_info(const uint8_t *payload, size_t length,
+                                  struct sockdiag_tcp_info *info, size_t info_size);
+
+/*
+ * The state of an MPTCP connection: struct mptcp_info of linux/mptcp.h in Linux 7.2. Later versions
+ * of this header append fields.
+ */
 struct sockdiag_mptcp_info {
     uint8_t subflows;              /* Number of subflows in addition to the first one.
                                       mptcpi_subflows at 0. */
@@ -1085,56 +1024,13 @@ struct sockdiag_mptcp_info {
 };
 
 /*
- * Copies the value of the first INET_DIAG_INFO in a reply to a request for MPTCP, after the header
- * of 72 bytes: at most the 96 bytes of info. The remaining bytes of info are set to 0. Returns the
- * length of the value in bytes, or 0 if there is none. Each kernel sends the struct in its own
- * length: a field that ends after the returned length is not known. Its bytes before this length
- * are copied, and the other ones are 0. All fields of a socket that listens are 0, except
- * subflows_max of Linux 6.1. In a reply to a request for another protocol the value is another
- * struct, and its bytes have no meaning in info.
- *
- * The values of attributes are not checked. So this call also works for a value that is rejected
- * with SOCKDIAG_BUFFER_TOO_SMALL, as a lenient call reports it for each value of MPTCP. Attributes
- * after a framing error are not found.
+ * Copies the MPTCP connection of a reply to a request for MPTCP, as sockdiag_inet_get_tcp_info
+ * copies that of TCP: the value of the first INET_DIAG_INFO, at most info_size bytes, followed by
+ * zeros. Returns the length of the value in bytes, or 0 if there is none. All fields of a socket
+ * that listens are 0, except subflows_max of Linux 6.1.
  */
 size_t sockdiag_inet_get_mptcp_info(const uint8_t *payload, size_t length,
-                                    struct sockdiag_mptcp_info *info);
-
-/*
- * The memory of an IPv4 or IPv6 socket (INET_DIAG_SKMEMINFO): the fields SK_MEMINFO_* of
- * linux/sock_diag.h.
- */
-struct sockdiag_inet_memory {
-    uint32_t receive_queue;        /* Memory in use by the receive queue, in bytes
-                                      (SK_MEMINFO_RMEM_ALLOC, at 0). */
-    uint32_t receive_queue_max;    /* Receive buffer limit in bytes (SK_MEMINFO_RCVBUF, at 4). */
-    uint32_t bottom_send_queues;   /* Memory of packets committed to the device queue, in bytes
-                                      (SK_MEMINFO_WMEM_ALLOC, at 8). */
-    uint32_t send_queue_max;       /* Send buffer limit in bytes (SK_MEMINFO_SNDBUF, at 12). */
-    uint32_t cache;                /* Memory that is allocated to the socket and not in use, in
-                                      bytes (SK_MEMINFO_FWD_ALLOC, at 16). */
-    uint32_t send_queue;           /* Memory in use by the send queue, in bytes
-                                      (SK_MEMINFO_WMEM_QUEUED, at 20). */
-    uint32_t options;              /* Memory of the socket options, in bytes (SK_MEMINFO_OPTMEM,
-                                      at 24). */
-    uint32_t backlog_queue_length; /* Memory of packets that wait while the socket is locked, in
-                                      bytes (SK_MEMINFO_BACKLOG, at 28). Older kernels do not
-                                      send it. */
-    uint32_t drops;                /* Number of dropped packets (SK_MEMINFO_DROPS, at 32). Older
-                                      kernels do not send it. */
-};
-
-/*
- * Copies the value of the first INET_DIAG_SKMEMINFO after the header of a reply about an IPv4 or
- * IPv6 socket, which has 72 bytes: at most the 36 bytes of memory. The remaining bytes of memory
- * are set to 0. Returns the length of the value in bytes, or 0 if there is none. Older kernels send
- * 28 or 32 bytes, without drops, or also without backlog_queue_length.
- *
- * The values of attributes are not checked. So this call also works for a reply that is rejected
- * because a value is too short. Attributes after a framing error are not found.
- */
-size_t sockdiag_inet_get_memory(const uint8_t *payload, size_t length,
-                                struct sockdiag_inet_memory *memory);
+                                    struct sockdiag_mptcp_info *info, size_t info_size);
 
 /* ---- lenient: list every socket
  *
@@ -1208,15 +1104,15 @@ uint32_t sockdiag_unix_get_lenient_details(const uint8_t *payload, size_t length
 
 /*
  * Returns the header of a reply about an IPv4 or IPv6 socket, the first valid attribute of each
- * kind that has a field in the details (a text or a number), and the first error of each kind, in
- * one pass over the attributes. What follows a framing error is not parsed. The bytes are the
- * payload of the netlink message. Returns 0, and sets all fields of the details and of the
- * rejections; or the code of the error of the header, and then both are unchanged. The previous
- * contents of both are not read. The fields are set as sockdiag_inet_get_details sets them.
+ * kind that has a field in the details, and the first error of each kind, in one pass over the
+ * attributes. What follows a framing error is not parsed. The bytes are the payload of the netlink
+ * message. Returns 0, and sets all fields of the details and of the rejections; or the code of the
+ * error of the header, and then both are unchanged. The previous contents of both are not read. The
+ * fields are set as sockdiag_inet_get_details sets them.
  *
  * Use this call to list sockets: a value that this library does not accept, such as the
  * INET_DIAG_INFO of an old kernel or of MPTCP, hides only itself, and not its socket.
- * sockdiag_inet_get_long_tcp_info returns the value of an old kernel as far as it goes, and
+ * sockdiag_inet_get_tcp_info returns the value of an old kernel as far as it goes, and
  * sockdiag_inet_get_mptcp_info that of MPTCP, which is another struct.
  */
 uint32_t sockdiag_inet_get_lenient_details(const uint8_t *payload, size_t length,
@@ -1246,34 +1142,6 @@ uint32_t sockdiag_inet_get_lenient_details(const uint8_t *payload, size_t length
 #define SOCKDIAG_PACKET_ATTRIBUTES 16  /* Size of struct packet_diag_msg in bytes. */
 #define SOCKDIAG_VSOCK_ATTRIBUTES 32   /* Size of struct vsock_diag_msg in bytes. */
 #define SOCKDIAG_XDP_ATTRIBUTES 16     /* Size of struct xdp_diag_msg in bytes. */
-
-/*
- * Memory of a netlink, packet or XDP socket: the fields SK_MEMINFO_.. of linux/sock_diag.h. A reply
- * contains the first seven fields together, or none of them.
- */
-struct sockdiag_memory {
-    struct sockdiag_number receive_queue;        /* Memory in use by the receive queue, in bytes
-                                                    (SK_MEMINFO_RMEM_ALLOC, at 0). */
-    struct sockdiag_number receive_queue_max;    /* Receive buffer limit in bytes
-                                                    (SK_MEMINFO_RCVBUF, at 4). */
-    struct sockdiag_number bottom_send_queues;   /* Memory of packets committed to the device
-                                                    queue, in bytes (SK_MEMINFO_WMEM_ALLOC, at
-                                                    8). */
-    struct sockdiag_number send_queue_max;       /* Send buffer limit in bytes
-                                                    (SK_MEMINFO_SNDBUF, at 12). */
-    struct sockdiag_number cache;                /* Memory that is allocated to the socket and
-                                                    not in use, in bytes (SK_MEMINFO_FWD_ALLOC,
-                                                    at 16). */
-    struct sockdiag_number send_queue;           /* Memory in use by the send queue, in bytes
-                                                    (SK_MEMINFO_WMEM_QUEUED, at 20). */
-    struct sockdiag_number options;              /* Memory of the socket options, in bytes
-                                                    (SK_MEMINFO_OPTMEM, at 24). */
-    struct sockdiag_number backlog_queue_length; /* Memory of packets that wait while the socket
-                                                    is locked, in bytes (SK_MEMINFO_BACKLOG, at
-                                                    28). Older kernels do not send it. */
-    struct sockdiag_number drops;                /* Number of dropped packets (SK_MEMINFO_DROPS,
-                                                    at 32). Older kernels do not send it. */
-};
 
 /* The header of a reply about a netlink socket: struct netlink_diag_msg of linux/netlink_diag.h. */
 struct sockdiag_netlink_header {
@@ -1754,12 +1622,6 @@ uint32_t sockdiag_next_pending(const uint8_t *value, size_t length, struct sockd
                                uint32_t *inode);
 
 /*
- * Stores the user id of a UNIX socket's owner: the value of UNIX_DIAG_UID, 4 bytes. Returns 1; or 0
- * if the value has another length, and then the user id is unchanged.
- */
-uint32_t sockdiag_get_uid(const uint8_t *value, size_t length, uint32_t *uid);
-
-/*
  * Stores the id of the control group (cgroup v2) of an IPv4 or IPv6 socket: the value of
  * INET_DIAG_CGROUP_ID, 8 bytes. Returns 1; or 0 if the value has another length, and then the id is
  * unchanged.
@@ -2100,17 +1962,13 @@ struct sockdiag_inet_request {
                                               MPTCP, and for kernels without tcpi_snd_wnd, leave
                                               out INET_DIAG_INFO, or use a lenient call:
                                               sockdiag_inet_get_details rejects their replies. */
-    uint32_t protocol;                     /* Protocol, one of IPPROTO_... Request one protocol
-                                              at a time, since replies do not contain it. The low
-                                              byte is written to the record (sdiag_protocol, byte
-                                              17 of the message). A protocol above 255, such as
-                                              IPPROTO_MPTCP, is also written as an attribute
-                                              INET_DIAG_REQ_PROTOCOL. A kernel that does not know
-                                              this attribute may ignore it. The low byte of
-                                              IPPROTO_MPTCP is IPPROTO_TCP, so it then lists TCP
-                                              sockets again. If byte 17 is set to 0 before the
-                                              message is sent, such a kernel answers with an
-                                              error instead. */
+    uint32_t protocol;                     /* Protocol, one of IPPROTO_.. (sdiag_protocol).
+                                              Request one protocol at a time: replies to a
+                                              request do not contain it. A protocol above 255,
+                                              such as IPPROTO_MPTCP, is written as an attribute
+                                              INET_DIAG_REQ_PROTOCOL, and sdiag_protocol is 0. A
+                                              kernel that does not know the attribute answers
+                                              with an error. */
     uint32_t states;                       /* States to include, with the bit 1 << TCP_LISTEN for
                                               TCP_LISTEN (idiag_states). UINT32_MAX includes all.
                                               The bit 1 << TCP_BOUND_INACTIVE includes TCP
@@ -2148,18 +2006,10 @@ size_t sockdiag_write_unix_request(const struct sockdiag_unix_request *request, 
  * Writes a request for IPv4 or IPv6 sockets at the start of the buffer; bytes after it are
  * unchanged. It is a netlink message of 72 bytes, or of 80 if the protocol is above 255. Returns
  * the number of bytes that were written. Returns 0 if the buffer is shorter, or if the family is
- * neither AF_INET nor AF_INET6; then nothing is written.
+ * neither AF_INET nor AF_INET6; then nothing is written. In a buffer of
+ * SOCKDIAG_INET_REQUEST_LENGTH bytes, 0 means that the family is invalid.
  */
 size_t sockdiag_write_inet_request(const struct sockdiag_inet_request *request, uint8_t *buffer,
-                                   size_t length);
-
-/*
- * Writes a request for the kernel to close the UNIX socket with the inode and the cookie, at the
- * start of the buffer. It is a netlink message of 40 bytes, of type SOCK_DESTROY (21), and else
- * equal to the one of sockdiag_write_unix_request. Returns 40, or 0 if the buffer is shorter; then
- * nothing is written. Linux answers it with EOPNOTSUPP.
- */
-size_t sockdiag_write_unix_destroy(const struct sockdiag_unix_request *request, uint8_t *buffer,
                                    size_t length);
 
 /*
@@ -2245,10 +2095,12 @@ struct sockdiag_outcome {
  *
  * Returns the number of bytes that were written, which is also stored in outcome.needed. Returns 0
  * if nothing was written, for the first of these reasons that applies:
+ * - The family is neither AF_INET nor AF_INET6. outcome.error is SOCKDIAG_UNSUPPORTED_FAMILY, and
+ *   outcome.needed is 0.
  * - The framing of the attributes is invalid. outcome.error is the code of the first error, 7 to 9;
  *   in all other cases it is 0. outcome.needed is 0.
- * - The family is neither AF_INET nor AF_INET6, or the message has more than 4,294,967,295 bytes,
- *   so that its length does not fit its length field. outcome.needed is 0.
+ * - The message has more than 4,294,967,295 bytes, so that its length does not fit its length
+ *   field. outcome.needed is 0.
  * - The buffer is shorter than needed. outcome.needed is the number of bytes that it has to have.
  *
  * outcome is set in any case.

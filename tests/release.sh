@@ -54,10 +54,6 @@ for program in sockdiag sslist sockdump; do
     bin/make_program built/$program 'GLIBC_2.4 GLIBC_2.34'
 done
 "$top/tests/stand_in.sh" built/libsockdiag_c.a
-# The same library with another version.
-mkdir other
-abi=$(grep -o 'sockdiag_abi_[0-9]*_[0-9]*' "$top/include/sockdiag.h" | head -n 1)
-objcopy --redefine-sym "$abi=sockdiag_abi_0_0" built/libsockdiag_c.a other/libsockdiag.a
 
 # A copy of the tree with files that must not be packed, and with proof results, of which one file
 # has two names. An archive has it twice.
@@ -165,22 +161,6 @@ cd "$unpacked"
 ${CC:-cc} -Iinclude -o "$work/static" examples/list_sockets.c lib/libsockdiag.a
 ${CC:-cc} -I"$work/prefix/include" -L"$work/prefix/lib" -o "$work/shared" examples/list_sockets.c \
     -lsockdiag
-# not_linked WHAT COMMAND..: fails if the command does not fail for lack of the version's function.
-not_linked() {
-    what=$1
-    shift
-    if "$@" >"$work/said" 2>&1; then fail "a library of another version is linked: $what"; fi
-    grep -qF "sockdiag_abi_${version%%.*}_" "$work/said" || fail "$what: $(cat "$work/said")"
-}
-# Without the attribute retain the linker may drop the reference with --gc-sections.
-drop=-Wl,--gc-sections
-echo 'int kept __attribute__((used, retain));' >"$work/kept.c"
-${CC:-cc} -Werror -c -o "$work/kept.o" "$work/kept.c" 2>/dev/null || drop=-O1
-for flags in -O0 -O2 "-O2 $drop"; do
-    # shellcheck disable=SC2086
-    not_linked "C $flags" ${CC:-cc} $flags -Iinclude -o "$work/other/program" \
-        examples/list_sockets.c "$work/other/libsockdiag.a"
-done
 if has make; then
     make -s -C examples PKG_CONFIG=false
     make -s -C examples clean

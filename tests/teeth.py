@@ -49,8 +49,7 @@ READER = """import os, sys
 if "reply_reader.py make 100000 1" == f"{os.environ['FAILS']} {' '.join(sys.argv[1:])}":
     sys.exit("planted: reply_reader.py make 100000 1")
 """
-# The stand-ins, which precede all programs in PATH. The compiler writes stand-ins. Without a
-# library it links only programs without the check of the header.
+# The stand-ins, which precede all programs in PATH. The compiler writes stand-ins.
 STAND_INS = {
     **dict.fromkeys(("cargo", "diff", "make", "pkg-config", "program", "rt", "rustdoc"), PROGRAM),
     "gate/python3": PASSED,
@@ -61,8 +60,7 @@ for word; do
     before=$word
 done
 case "$output $* $FAILS" in
-    */alone*NO_LINK_CHECK*|*/alone*' alone') ;;
-    */alone*) echo sockdiag_abi_ >&2; exit 1 ;;
+    */alone*' alone') echo 'planted: alone' >&2; exit 1 ;;
     *.o\\ *) cat >"$output" ;;
     /*) cp "${0%/*}/program" "$output" ;;
 esac
@@ -348,7 +346,7 @@ ROWS = [
     Row(C_API, ("planted: valgrind without --error-exitcode=1",),
         (LIBRARY, (C_API, " --error-exitcode=1", "")), ""),
     Row(C_API, ("the library calls these functions", "planted"), (LIBRARY,), " U planted"),
-    Row(C_API, ("a program was linked without the library",), (LIBRARY,), "alone"),
+    Row(C_API, ("planted: alone",), (LIBRARY,), "alone"),
     Row(C_API, ("planted: reply_reader.py make 100000 1",), (LIBRARY, COMPARED), "reply_reader.py"),
     Row("tests/api/compare_replies.sh 1", ("the reader's lines (<) and those of the library (>)",),
         (LIBRARY,), ""),

@@ -10,28 +10,24 @@ from pathlib import Path
 from typing import NamedTuple
 
 CRATES = Path(__file__).resolve().parent.parent / "crates"
-# Records that C gets as byte arrays: by the length of the array, the struct of the header, the
-# record with its fields, and the struct whose comments document the fields.
-RECORDS = {
-    "TCP_INFO_LEN": ("TcpInfo", "inet/tcp_info.rt", "TcpInfo"),
-    "MEM_INFO_LEN": ("InetMemory", "inet/mem_info.rt", "Memory"),
-}
-# Structs with the fields of an enum, which C gets as byte arrays too: by the length of the array,
-# the struct of the header, its documentation, the enum, and the struct with its first fields.
+# Structs with the fields of an enum, which calls fill as bytes: the documentation, the enum, and
+# the record whose comments document the first fields.
 FIELD_STRUCTS = {
-    "LONG_TCP_INFO_LEN": (
-        "LongTcpInfo",
-        "The state of a TCP connection: `struct tcp_info` of `linux/tcp.h` in Linux 7.2.",
+    "TcpInfo": (
+        "The state of a TCP connection: `struct tcp_info` of `linux/tcp.h` in Linux 7.2. Later "
+        "versions of this header append fields.",
         "TcpField",
-        "TcpInfo",
+        "inet/tcp_info.rt",
     ),
-    "MPTCP_INFO_LEN": (
-        "MptcpInfo",
-        "The state of an MPTCP connection: `struct mptcp_info` of `linux/mptcp.h` in Linux 7.2.",
+    "MptcpInfo": (
+        "The state of an MPTCP connection: `struct mptcp_info` of `linux/mptcp.h` in Linux 7.2. "
+        "Later versions of this header append fields.",
         "MptcpField",
         None,
     ),
 }
+# The calls that take such a struct: the parameter is its bytes, and in C it has a size.
+FILLED = {"sockdiag_inet_get_tcp_info": "TcpInfo", "sockdiag_inet_get_mptcp_info": "MptcpInfo"}
 # The file of each of these enums, in sock_diag_extras.
 FIELD_FILES = {"TcpField": "tcp_info.rt", "MptcpField": "mptcp_info.rt"}
 # The types of fields that have a width of this many bytes.
@@ -151,12 +147,15 @@ def fields_of(body):
             yield Field("length", "usize", ["Length in bytes."])
 
 
-def parameters_of(text):
-    """Yields the parameters of a function. An array of bytes is the struct that C gets."""
-    structs = {length: record[0] for length, record in (RECORDS | FIELD_STRUCTS).items()}
+def parameters_of(text, filled):
+    """Yields the parameters of a function. If it fills a struct, the bytes that it writes are this
+    struct and its size in C."""
     for name, kind in re.findall(r"(\w+): ([^,]+?)(?:,|\s*$)", text):
-        array = re.fullmatch(r"&mut \[u8; (\w+)\]", kind)
-        yield Field(name, f"&mut {structs[array[1]]}" if array else kind)
+        if filled and kind == "&mut [u8]":
+            yield Field(name, f"&mut {filled}")
+            yield Field(f"{name}_size", "usize")
+        else:
+            yield Field(name, kind)
 
 
 def passed(parameters):
@@ -220,6 +219,11 @@ def socket_options():
         yield Variant(name, bits[name], doc_of(comment))
 
 
+def record_fields(path):
+    """Returns the fields of a record."""
+    return [*fields_of(STRUCT.search(text_of(CRATES / "sock_diag_values/src" / path))[4])]
+
+
 def struct_fields(enum):
     """Yields the fields of a struct of the kernel, the variants of an enum, with their offsets."""
     text = text_of(CRATES / "sock_diag_extras/src" / FIELD_FILES[enum])
@@ -252,10 +256,8 @@ class Library:
         self.constants = constants_in(text + shared + headers)
         self.structs = {it.name: self.with_lengths(it) for it in structs_in(text + shared)}
         self.sizes = dict(SIZE.findall(self.code))
-        for length, (name, path, documented) in RECORDS.items():
-            self.structs[name] = self.record(length, name, path, documented)
-        for length, (name, *rest) in FIELD_STRUCTS.items():
-            self.structs[name] = self.field_struct(length, name, *rest)
+        for name, row in FIELD_STRUCTS.items():
+            self.structs[name] = self.field_struct(name, *row)
         self.functions = {it[2]: self.function(*it) for it in FUNCTION.findall(text)}
         for name, struct in self.structs.items():
             size = self.layout(struct.fields)["the end"]
@@ -272,35 +274,23 @@ class Library:
         fields = [it._replace(kind=kind) for it, kind in zip(struct.fields, kinds)]
         return struct._replace(fields=fields)
 
-    def field_struct(self, length, name, doc, enum, first):
-        """Returns the struct with all fields of an enum: those of the struct `first`, if it is not
-        None, and after them the other ones. Each has the offset that the enum has."""
-        self.sizes[name] = self.constants[length].value
-        fields = [*self.structs[first].fields] if first else []
+    def field_struct(self, name, doc, enum, record):
+        """Returns the struct with all fields of an enum: those of the record, if it is not None,
+        and after them the other ones. Each has the offset that the enum has."""
+        fields = record_fields(record) if record else []
         found = [*struct_fields(enum)]
         fields += [field for field, _ in found[len(fields):]]
         offsets = self.layout(fields)
         for field, (it, offset) in zip(fields, found, strict=True):
             if (field.name, field.kind, offsets[field.name]) != (it.name, it.kind, offset):
                 sys.exit(f"{field.name} of {name} is not {it.name} of {enum}")
+        self.sizes[name] = str(offsets["the end"])
         return Struct(name, fields, [doc])
-
-    def record(self, length, name, path, documented):
-        """Returns the struct of a record that C gets as a byte array. Each byte of the array belongs
-        to a field, so a field that may be absent is a number here."""
-        text = re.sub(r"Option<(\w+)>", r"\1", text_of(CRATES / "sock_diag_values/src" / path))
-        self.sizes[name] = constants_in(text)[length].value
-        comment, _, own, body = STRUCT.search(text).groups()
-        fields = [*fields_of(body)]
-        if documented != own:
-            docs = {field.name: field.doc for field in self.structs[documented].fields}
-            fields = [field._replace(doc=docs[field.name]) for field in fields]
-        return Struct(name, fields, doc_of(comment))
 
     def function(self, comment, attributes, name, inside, answer):
         if "#[unsafe(no_mangle)]" not in attributes:
             sys.exit(f"{name} is not exported")
-        parameters = [*parameters_of(inside)]
+        parameters = [*parameters_of(inside, FILLED.get(name))]
         kinds = [it.kind for it in passed(parameters)]
         for kind in [*kinds, *([answer] if answer else [])]:
             self.size_and_align(re.sub(r"^&(mut )?", "", kind))

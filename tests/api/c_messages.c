@@ -61,30 +61,6 @@ static void each_bit_of_an_answer(void) {
     free(it);
 }
 
-/* Versions are compatible if their first two numbers are equal. */
-static void each_part_of_a_version(void) {
-    const uint32_t own = SOCKDIAG_VERSION_NUMBER, first = own / 1000 * 1000;
-    uint32_t number, wrong = 0;
-    for (number = 0; number < 4000; number++)
-        wrong += sockdiag_is_compatible_with(first - 2000 + number) !=
-                 (uint32_t)(number >= 2000 && number < 3000);
-    check(wrong == 0, "versions near that of the library");
-    check(sockdiag_is_compatible_with(0) == 0, "the version 0");
-    check(sockdiag_is_compatible_with(UINT32_MAX) == 0, "the largest version");
-    check(sockdiag_is_compatible_with(own + 1000000) == 0, "the next first number");
-    check(sockdiag_is_compatible_with(first / 1000) == 0, "a version without its third number");
-    check(sockdiag_is_compatible() == 1, "the version of the header");
-    check(sockdiag_version() == own && sockdiag_abi_1_0() == own / 1000, "the version");
-}
-
-/* As a file that was compiled with the header of the next version. */
-#undef SOCKDIAG_VERSION_NUMBER
-#define SOCKDIAG_VERSION_NUMBER (sockdiag_version() + 1000000)
-
-static void has_a_header_of_another_version(void) {
-    check(sockdiag_is_compatible() == 0, "a header of the next version");
-}
-
 /* Each number that is a byte, and each bit, has a text. Each error has another one. */
 static void each_text_of_an_error(void) {
     const uint32_t least = SOCKDIAG_BUFFER_TOO_SMALL, most = SOCKDIAG_ENVELOPE_LENGTH_PAST;
@@ -114,8 +90,6 @@ static void each_text_of_an_error(void) {
 int main(void) {
     each_type_and_flag();
     each_bit_of_an_answer();
-    each_part_of_a_version();
-    has_a_header_of_another_version();
     each_text_of_an_error();
     return end_of_tests("c_messages");
 }

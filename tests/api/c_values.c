@@ -102,8 +102,8 @@ static void has_the_first_errors(void) {
           has_one(&rejections, 0, 0) && it.shutdown.is_set == 0, "a header by itself");
 }
 
-/* Each field of struct sockdiag_long_tcp_info after the fields of struct sockdiag_tcp_info. */
-static void check_later_fields(const struct sockdiag_long_tcp_info *it, const uint8_t *bytes) {
+/* Each field of struct sockdiag_tcp_info after snd_wnd, the last one of Linux 5.4. */
+static void check_later_fields(const struct sockdiag_tcp_info *it, const uint8_t *bytes) {
     FIELD(it->rcv_wnd, bytes + 232);
     FIELD(it->rehash, bytes + 236);
     FIELD(it->total_rto, bytes + 240);
@@ -142,10 +142,12 @@ static void reads_bit_fields(void) {
     memcpy(payload, inet_header, 72);
     number_bytes(value, sizeof value);
     for (row = 0; row < sizeof rows / sizeof rows[0]; row++) {
-        struct sockdiag_long_tcp_info it;
+        struct sockdiag_tcp_info it;
+        size_t end;
         memcpy(value + 276, rows[row].bytes, 4);
         memset(&it, UNTOUCHED, sizeof it);
-        check(sockdiag_inet_get_long_tcp_info(payload, put(payload, 72, 2, value, 280), &it) == 280,
+        end = put(payload, 72, 2, value, 280);
+        check(sockdiag_inet_get_tcp_info(payload, end, &it, sizeof it) == 280,
               "280 bytes of tcp_info");
         check(it.ecn_mode == rows[row].ecn_mode &&
               it.accecn_opt_seen == rows[row].accecn_opt_seen &&
@@ -155,62 +157,69 @@ static void reads_bit_fields(void) {
 }
 
 /* A value that ends within a field: the bytes that are there are copied, and the other ones are 0.
- * SOCKDIAG_HAS is the macro of the examples. */
+ */
 static void reads_a_part_of_a_field(void) {
     uint8_t payload[100], value[10];
-    struct sockdiag_long_tcp_info longer;
     struct sockdiag_tcp_info tcp;
     struct sockdiag_mptcp_info mptcp;
     size_t end, length;
     memcpy(payload, inet_header, 72);
     memset(value, 0xff, sizeof value);
     end = put(payload, 72, 2, value, sizeof value);
-    memset(&longer, UNTOUCHED, sizeof longer);
     memset(&tcp, UNTOUCHED, sizeof tcp);
     memset(&mptcp, UNTOUCHED, sizeof mptcp);
-    length = sockdiag_inet_get_long_tcp_info(payload, end, &longer);
-    check(length == 10 && sockdiag_inet_get_tcp_info(payload, end, &tcp) == 10 &&
-          sockdiag_inet_get_mptcp_info(payload, end, &mptcp) == 10, "a value of 10 bytes");
-    check(longer.delivery_rate_app_limited == 0xff && longer.rto == 0xffff && longer.ato == 0,
-          "a part of a field of the longer tcp_info");
-    check(tcp.rto == 0xffff && tcp.ato == 0, "a part of a field of tcp_info");
+    length = sockdiag_inet_get_tcp_info(payload, end, &tcp, sizeof tcp);
+    check(length == 10 && sockdiag_inet_get_mptcp_info(payload, end, &mptcp, sizeof mptcp) == 10,
+          "a value of 10 bytes");
+    check(tcp.delivery_rate_app_limited == 0xff && tcp.rto == 0xffff && tcp.ato == 0,
+          "a part of a field of tcp_info");
     check(mptcp.flags == 0xffff && mptcp.token == 0, "a part of a field of mptcp_info");
-    check(SOCKDIAG_HAS(length, longer, delivery_rate_app_limited) &&
-          !SOCKDIAG_HAS(length, longer, rto) && !SOCKDIAG_HAS(length, longer, ato) &&
-          SOCKDIAG_HAS(length, mptcp, add_addr_accepted_max) && !SOCKDIAG_HAS(length, mptcp, flags),
-          "whether a value of 10 bytes has a field");
+    check(SOCKDIAG_HAS(length, tcp, delivery_rate_app_limited) && !SOCKDIAG_HAS(length, tcp, rto) &&
+          !SOCKDIAG_HAS(length, tcp, ato) && SOCKDIAG_HAS(length, mptcp, add_addr_accepted_max) &&
+          !SOCKDIAG_HAS(length, mptcp, flags), "whether a value of 10 bytes has a field");
 }
 
-/* The fields of struct sockdiag_tcp_info are at the same offsets in the longer struct, so the bytes
- * of both are compared. */
-static void reads_long_tcp_info(void) {
-    uint8_t bytes[400], value[300];
+/* Values of several lengths, each with structs of several sizes: of an older header, of this one,
+ * and of a newer one. */
+static void reads_tcp_info(void) {
     const size_t lengths[8] = {1, 104, 224, 232, 248, 279, 280, 290};
-    size_t row;
+    const size_t sizes[6] = {0, 1, 232, 279, 280, 300};
+    uint8_t bytes[400], value[300];
+    size_t row, column;
     memcpy(bytes, inet_header, 72);
     number_bytes(value, sizeof value);
     for (row = 0; row < 8; row++) {
-        struct sockdiag_long_tcp_info it;
-        struct sockdiag_tcp_info shorter;
-        uint8_t padded[280];
+        struct sockdiag_tcp_info it;
+        uint8_t padded[300];
         const size_t length = lengths[row], end = put(bytes, 72, 2, value, length);
         memset(padded, 0, sizeof padded);
-        memcpy(padded, value, length < 280 ? length : 280);
+        memcpy(padded, value, length);
         memset(&it, UNTOUCHED, sizeof it);
-        check(sockdiag_inet_get_long_tcp_info(bytes, end, &it) == length, "a length of tcp_info");
-        check(memcmp(&it, padded, 280) == 0, "the bytes of the longer tcp_info");
+        check(sockdiag_inet_get_tcp_info(bytes, end, &it, sizeof it) == length,
+              "a length of tcp_info");
+        check(memcmp(&it, padded, 280) == 0, "the bytes of tcp_info");
         check_later_fields(&it, padded);
-        check(sockdiag_inet_get_tcp_info(bytes, end, &shorter) == length &&
-              memcmp(&shorter, &it, sizeof shorter) == 0, "the bytes of the shorter tcp_info");
         check(it.rto == (length >= 12 ? 0x0b0a0908 : 0) && it.state == value[0], "two fields");
+        for (column = 0; column < 6; column++) {
+            union {
+                struct sockdiag_tcp_info info;
+                uint8_t bytes[304];
+            } area;
+            const size_t size = sizes[column];
+            memset(&area, UNTOUCHED, sizeof area);
+            check(sockdiag_inet_get_tcp_info(bytes, end, &area.info, size) == length,
+                  "a struct of another size");
+            check(memcmp(area.bytes, padded, size) == 0 && area.bytes[size] == UNTOUCHED,
+                  "the bytes of a struct of another size");
+        }
     }
     {
         static const uint8_t zeros[280] = {0};
-        struct sockdiag_long_tcp_info it;
+        struct sockdiag_tcp_info it;
         memset(&it, UNTOUCHED, sizeof it);
-        check(sockdiag_inet_get_long_tcp_info(inet_header, 72, &it) == 0 &&
+        check(sockdiag_inet_get_tcp_info(inet_header, 72, &it, sizeof it) == 0 &&
               memcmp(&it, zeros, 280) == 0, "no tcp_info");
-        check(sockdiag_inet_get_long_tcp_info(NULL, 0, &it) == 0, "no tcp_info at a null pointer");
+        check(sockdiag_inet_get_tcp_info(NULL, 0, NULL, 0) == 0, "null pointers");
     }
 }
 
@@ -256,7 +265,8 @@ static void reads_mptcp_info(void) {
         memset(padded, 0, sizeof padded);
         memcpy(padded, value, length < 96 ? length : 96);
         memset(&it, UNTOUCHED, sizeof it);
-        check(sockdiag_inet_get_mptcp_info(bytes, end, &it) == length, "a length of mptcp_info");
+        check(sockdiag_inet_get_mptcp_info(bytes, end, &it, sizeof it) == length,
+              "a length of mptcp_info");
         check(memcmp(&it, padded, 96) == 0, "the bytes of mptcp_info");
         check_mptcp_info(&it, padded);
     }
@@ -264,9 +274,10 @@ static void reads_mptcp_info(void) {
         static const uint8_t zeros[96] = {0};
         struct sockdiag_mptcp_info it;
         memset(&it, UNTOUCHED, sizeof it);
-        check(sockdiag_inet_get_mptcp_info(inet_header, 72, &it) == 0 &&
+        check(sockdiag_inet_get_mptcp_info(inet_header, 72, &it, sizeof it) == 0 &&
               memcmp(&it, zeros, 96) == 0, "no mptcp_info");
-        check(sockdiag_inet_get_mptcp_info(NULL, 0, &it) == 0, "no mptcp_info at a null pointer");
+        check(sockdiag_inet_get_mptcp_info(NULL, 0, &it, sizeof it) == 0,
+              "no mptcp_info at a null pointer");
     }
 }
 
@@ -289,10 +300,6 @@ static void reads_mptcp_info(void) {
 static void reads_single_values(void) {
     uint8_t bytes[24];
     number_bytes(bytes, sizeof bytes);
-    {
-        GETTER(uid, uint32_t, sockdiag_get_uid, 4, 4);
-        FIELD(uid, bytes);
-    }
     {
         GETTER(id, uint64_t, sockdiag_get_cgroup_id, 8, 8);
         FIELD(id, bytes);
@@ -511,7 +518,7 @@ static void has_numbers(void) {
 
 int main(void) {
     has_the_first_errors();
-    reads_long_tcp_info();
+    reads_tcp_info();
     reads_bit_fields();
     reads_a_part_of_a_field();
     reads_mptcp_info();

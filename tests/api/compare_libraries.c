@@ -33,7 +33,7 @@ struct seed {
 
 /* The parameters of the calls. The buffer is in the last area. */
 static const uint8_t *input[2];
-static size_t length[2], buffer_length, position;
+static size_t length[2], buffer_length, struct_size;
 static uint8_t *buffer;
 static _Alignas(16) uint8_t area[STRUCTS + 1][AREA];
 static uint32_t message_type, flags, number;
@@ -215,9 +215,8 @@ static void make_error(void) {
 static void make_numbers(void) {
     message_type = any(4) ? 20 : any(65536);
     flags = any(2) ? any(65536) : 0x200 | 0x100 * any(2);
-    /* Often close to the version 1.0.0. */
-    number = any(3) ? any(4) ? any(3000000) : 999000 + any(3000) : any(UINT32_MAX);
-    position = any(8) ? any(6) : SIZE_MAX - any(3);
+    number = any(3) ? any(3000000) : any(UINT32_MAX);
+    struct_size = any(3) ? any(300) : any(AREA);
     buffer_length = any(3) ? any(AREA) : any(120);
     buffer = area[STRUCTS] + (any(2) ? AREA - buffer_length : 0);
     if (buffer_length == 0 && any(2))
@@ -287,7 +286,7 @@ int main(int count, char **words) {
         }
     int constant = 0;
     for (struct call *call = calls; call < calls + CALLS; call++)
-        if (call->zeros == call->calls && strncmp(call->name, "sockdiag_abi_", 13) != 0)
+        if (call->zeros == call->calls)
             constant = printf("%s returned 0 in all calls\n", call->name);
     printf("compare_libraries: %lu calls of %d functions, from %zu inputs: %lu differ\n", total,
            CALLS, seed_count, differing);

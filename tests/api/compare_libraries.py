@@ -29,7 +29,7 @@ IN_C = {"u16": "uint16_t", "u32": "uint32_t", "usize": "size_t"}
 # The lengths of the headers that precede the attributes.
 HEADERS = {"unix": 16, "inet": 72, "netlink": 28, "packet": 16, "vsock": 32, "xdp": 16}
 # The random number of compare_libraries.c that a parameter gets, by its name.
-NUMBERS = {"message_type": "message_type", "flags": "flags", "index": "position"}
+NUMBERS = {"message_type": "message_type", "flags": "flags"}
 MADE = 20_000
 
 
@@ -62,6 +62,8 @@ def parameter(it, counts):
         counts["structs"] += 1
         kind = re.sub(r"^&(mut )?", "", it.kind)
         return "void *", f"area[{counts['structs'] - 1}]", kind
+    if it.name.endswith("_size"):
+        return "size_t", "struct_size", None
     if it.name == "length" or it.name.endswith("_length"):
         is_buffer = counts["is_buffer"]
         return "size_t", "buffer_length" if is_buffer else f"length[{counts['inputs'] - 1}]", None

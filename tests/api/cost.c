@@ -64,14 +64,6 @@ static void unix_path(uint8_t *bytes, size_t length) {
     bytes[length - 1] = 0;
 }
 
-/* Half of the bytes are small attributes, and the other half is a list of connections. */
-static void unix_pending_late(uint8_t *bytes, size_t length) {
-    const size_t half = length / 8 * 4;
-    unix_empty(bytes, half);
-    memset(bytes + half, 1, length - half);
-    put_header(bytes + half, length - half, SOCKDIAG_UNIX_DIAG_ICONS);
-}
-
 /* A framing error after small attributes: the length field of the last one is under 4. */
 static void unix_cut(uint8_t *bytes, size_t length) {
     unix_empty(bytes, length);
@@ -110,6 +102,16 @@ static void check_message(const uint8_t *bytes, size_t length) {
     sink += sockdiag_check_message(bytes, length, SOCKDIAG_SOCK_DIAG_BY_FAMILY, &reply);
 }
 
+static void tcp_info(const uint8_t *bytes, size_t length) {
+    struct sockdiag_tcp_info info;
+    sink += sockdiag_inet_get_tcp_info(bytes, length, &info, sizeof info);
+}
+
+static void mptcp_info(const uint8_t *bytes, size_t length) {
+    struct sockdiag_mptcp_info info;
+    sink += sockdiag_inet_get_mptcp_info(bytes, length, &info, sizeof info);
+}
+
 static void explain_message(const uint8_t *bytes, size_t length) {
     struct sockdiag_error_details error;
     sink += sockdiag_message_explain(bytes, length, SOCKDIAG_SOCK_DIAG_BY_FAMILY, &error);
@@ -119,12 +121,6 @@ static void find_error_attributes(const uint8_t *bytes, size_t length) {
     struct sockdiag_cursor cursor = {0};
     sink += sockdiag_find_error_attributes(bytes, length, SOCKDIAG_NLMSG_ERROR,
                                            SOCKDIAG_NLM_F_ACK_TLVS, &cursor);
-}
-
-/* One call, with the last index. A loop over all indices is quadratic, as its comment says. */
-static void last_pending(const uint8_t *bytes, size_t length) {
-    uint32_t inode;
-    sink += sockdiag_unix_get_pending(bytes, length, length / 8 - 2, &inode);
 }
 
 /* All errors of a reply: each attribute is explained from its offset on. */
@@ -161,12 +157,11 @@ static void write_requests(const uint8_t *bytes, size_t length) {
     inet.family = 2;
     show.family = 16;
     sink += sockdiag_write_unix_request(&unix_request, output, length);
-    sink += sockdiag_write_unix_destroy(&unix_request, output, length);
     sink += sockdiag_write_inet_request(&inet, output, length);
     sink += sockdiag_write_inet_destroy(&inet, output, length);
     sink += sockdiag_write_show_request(&show, output, length);
     sink += sockdiag_write_vsock_request(&vsock, output, length);
-    sink += sockdiag_version() + sockdiag_abi_1_0();
+    sink += sockdiag_version();
 }
 
 /* Each row has a call, the type of what it stores, which is not read, and forms of inputs. */
@@ -195,14 +190,9 @@ static void write_requests(const uint8_t *bytes, size_t length) {
     LENIENT(sockdiag_vsock_get_lenient_details, struct sockdiag_vsock_header, vsock_empty)      \
     LENIENT(sockdiag_xdp_get_lenient_details, struct sockdiag_xdp_details, unix_empty,          \
             xdp_rejected, unix_cut)                                                             \
-    OTHER(last_pending, , unix_pending, unix_pending_late)                                      \
-    STRUCT(sockdiag_inet_get_tcp_info, struct sockdiag_tcp_info, inet_empty, inet_rejected)     \
-    STRUCT(sockdiag_inet_get_long_tcp_info, struct sockdiag_long_tcp_info, inet_empty,          \
-           inet_rejected)                                                                       \
-    STRUCT(sockdiag_inet_get_mptcp_info, struct sockdiag_mptcp_info, inet_empty, inet_rejected) \
-    STRUCT(sockdiag_inet_get_memory, struct sockdiag_inet_memory, inet_empty, inet_marks)       \
+    OTHER(tcp_info, , inet_empty, inet_rejected)                                                \
+    OTHER(mptcp_info, , inet_empty, inet_rejected)                                              \
     STRUCT(sockdiag_get_error_number, int32_t, value)                                           \
-    STRUCT(sockdiag_get_uid, uint32_t, value)                                                   \
     STRUCT(sockdiag_get_cgroup_id, uint64_t, value)                                             \
     STRUCT(sockdiag_get_socket_options, struct sockdiag_socket_options, value)                  \
     STRUCT(sockdiag_get_vegas_info, struct sockdiag_vegas_info, value)                          \

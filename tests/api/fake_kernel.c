@@ -45,8 +45,7 @@
  * the kernel before it sends and receives. If FAKE_KERNEL_REFUSES is set, connect fails. Requests
  * are answered all the same, as a kernel does, so a lister that ignores the failure lists sockets.
  */
-#define _DEFAULT_SOURCE        /* For syscall. */
-#define SOCKDIAG_NO_LINK_CHECK /* Only constants are used: a lister in Rust exports no function. */
+#define _DEFAULT_SOURCE /* For syscall. */
 #include "sockdiag.h"
 
 #include <errno.h>

@@ -96,48 +96,6 @@ static void add_text(struct words *words, const char *name, const struct sockdia
     add(words, " ");
 }
 
-static void add_unix(struct words *words, const struct sockdiag_unix_details *it) {
-    add(words, "kind=%u state=%u inode=%lu ", it->header.kind, it->header.state,
-        (unsigned long)it->header.inode);
-    add_field(words, "cookie", it->header.cookie, sizeof it->header.cookie);
-    add_text(words, "name", &it->name);
-    add_number(words, "file_inode", it->file_inode);
-    add_number(words, "file_device", it->file_device);
-    add_number(words, "peer", it->peer);
-    add_number(words, "recv_queue", it->recv_queue);
-    add_number(words, "send_queue", it->send_queue);
-    add_number(words, "receive_buffer", it->receive_buffer);
-    add_number(words, "send_buffer", it->send_buffer);
-    add_number(words, "queued", it->queued);
-    add_number(words, "shutdown", it->shutdown);
-}
-
-static void add_inet_header(struct words *words, const struct sockdiag_inet_header *it) {
-    add(words, "family=%u state=%u timer=%u retransmits=%u expires=%lu ", it->family, it->state,
-        it->timer, it->retransmits, (unsigned long)it->expires);
-    add(words, "source_port=%u destination_port=%u ", it->source_port, it->destination_port);
-    add_field(words, "source_address", it->source_address, sizeof it->source_address);
-    add_field(words, "destination_address", it->destination_address,
-              sizeof it->destination_address);
-    add(words, "interface_id=%lu ", (unsigned long)it->interface_id);
-    add_field(words, "cookie", it->cookie, sizeof it->cookie);
-    add(words, "recv_queue=%lu send_queue=%lu ", (unsigned long)it->recv_queue,
-        (unsigned long)it->send_queue);
-    add(words, "uid=%lu inode=%lu ", (unsigned long)it->uid, (unsigned long)it->inode);
-}
-
-static void add_inet(struct words *words, const struct sockdiag_inet_details *it) {
-    add_inet_header(words, &it->header);
-    add_text(words, "congestion", &it->congestion);
-    add_number(words, "tos", it->tos);
-    add_number(words, "tclass", it->tclass);
-    add_number(words, "shutdown", it->shutdown);
-    add_number(words, "protocol", it->protocol);
-    add_number(words, "v6only", it->v6only);
-    add_number(words, "mark", it->mark);
-    add_number(words, "class_id", it->class_id);
-}
-
 static void add_memory(struct words *words, const struct sockdiag_memory *it) {
     add_number(words, "memory_receive_queue", it->receive_queue);
     add_number(words, "memory_receive_queue_max", it->receive_queue_max);
@@ -162,6 +120,57 @@ static void add_record(struct words *words, const char *name, uint32_t has,
             add(words, "%s%llu", index ? "," : "", (unsigned long long)numbers[index]);
     }
     add(words, " ");
+}
+
+static void add_unix(struct words *words, const struct sockdiag_unix_details *it) {
+    add(words, "kind=%u state=%u inode=%lu ", it->header.kind, it->header.state,
+        (unsigned long)it->header.inode);
+    add_field(words, "cookie", it->header.cookie, sizeof it->header.cookie);
+    add_text(words, "name", &it->name);
+    add_number(words, "file_inode", it->file_inode);
+    add_number(words, "file_device", it->file_device);
+    add_number(words, "peer", it->peer);
+    add_number(words, "recv_queue", it->recv_queue);
+    add_number(words, "send_queue", it->send_queue);
+    add_memory(words, &it->memory);
+    add_number(words, "shutdown", it->shutdown);
+    add_number(words, "owner", it->owner);
+}
+
+static void add_inet_header(struct words *words, const struct sockdiag_inet_header *it) {
+    add(words, "family=%u state=%u timer=%u retransmits=%u expires=%lu ", it->family, it->state,
+        it->timer, it->retransmits, (unsigned long)it->expires);
+    add(words, "source_port=%u destination_port=%u ", it->source_port, it->destination_port);
+    add_field(words, "source_address", it->source_address, sizeof it->source_address);
+    add_field(words, "destination_address", it->destination_address,
+              sizeof it->destination_address);
+    add(words, "interface_id=%lu ", (unsigned long)it->interface_id);
+    add_field(words, "cookie", it->cookie, sizeof it->cookie);
+    add(words, "recv_queue=%lu send_queue=%lu ", (unsigned long)it->recv_queue,
+        (unsigned long)it->send_queue);
+    add(words, "uid=%lu inode=%lu ", (unsigned long)it->uid, (unsigned long)it->inode);
+}
+
+static void add_legacy_memory(struct words *words, const struct sockdiag_inet_details *it) {
+    const uint64_t numbers[4] = {
+        it->legacy_memory.receive_queue, it->legacy_memory.send_queue, it->legacy_memory.cache,
+        it->legacy_memory.bottom_send_queues,
+    };
+    add_record(words, "legacy_memory", it->has_legacy_memory, numbers, 4);
+}
+
+static void add_inet(struct words *words, const struct sockdiag_inet_details *it) {
+    add_inet_header(words, &it->header);
+    add_legacy_memory(words, it);
+    add_text(words, "congestion", &it->congestion);
+    add_number(words, "tos", it->tos);
+    add_number(words, "tclass", it->tclass);
+    add_memory(words, &it->memory);
+    add_number(words, "shutdown", it->shutdown);
+    add_number(words, "protocol", it->protocol);
+    add_number(words, "v6only", it->v6only);
+    add_number(words, "mark", it->mark);
+    add_number(words, "class_id", it->class_id);
 }
 
 static void add_netlink(struct words *words, const struct sockdiag_netlink_details *it) {

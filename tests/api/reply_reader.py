@@ -46,6 +46,10 @@ FAMILY_HEADER, FAMILY_ATTRIBUTE = 12, 13
 AF_NETLINK, AF_PACKET, AF_VSOCK, AF_XDP = 16, 17, 40, 44
 
 
+# The result for an invalid value that is not rejected.
+NOT_CHECKED = object()
+
+
 class Error(NamedTuple):
     """A decode error, with the fields of struct sockdiag_error_details in their order. The kind is
     a number, or `-` if the error has none."""
@@ -116,41 +120,6 @@ def number(start, end):
     return lambda value: int.from_bytes(value[start:end], "little")
 
 
-# The attributes that are parsed, by kind: the error of a value, and the details in a valid value.
-# The error is None if the value is valid.
-UNIX_ATTRIBUTES = {
-    0: (name_error, {"name": name_text}),
-    1: (at_least(VFS, 8), {"file_inode": number(0, 4), "file_device": number(4, 8)}),
-    2: (exactly(4), {"peer": number(0, 4)}),
-    3: (list_error, {}),
-    4: (exactly(8), {"recv_queue": number(0, 4), "send_queue": number(4, 8)}),
-    # u32, indexed by SK_MEMINFO_RCVBUF 1, SK_MEMINFO_SNDBUF 3 and SK_MEMINFO_WMEM_QUEUED 5.
-    5: (at_least(UNIX_MEMORY, 36), {
-        "receive_buffer": number(4, 8), "send_buffer": number(12, 16), "queued": number(20, 24),
-    }),
-    6: (exactly(1), {"shutdown": number(0, 1)}),
-}
-INET_ATTRIBUTES = {
-    1: (at_least(LEGACY_MEMORY, 16), {}),
-    2: (at_least(TCP_INFO, 232), {}),
-    4: (text_error, {"congestion": lambda value: f"text:{value.removesuffix(bytes(1)).hex()}"}),
-    5: (exactly(1), {"tos": number(0, 1)}),
-    6: (exactly(1), {"tclass": number(0, 1)}),
-    7: (at_least(MEMORY, 28), {}),
-    8: (exactly(1), {"shutdown": number(0, 1)}),
-    10: (exactly(1), {"protocol": number(0, 1)}),
-    11: (exactly(1), {"v6only": lambda value: int(value != bytes(1))}),
-    15: (exactly(4), {"mark": number(0, 4)}),
-    17: (exactly(4), {"class_id": number(0, 4)}),
-}
-
-
-def family_record(family, length):
-    """Returns a function that returns the error of a record in an attribute of this family."""
-    return lambda kind, value: None if len(value) >= length else Error(
-        TOO_SHORT, record=FAMILY_ATTRIBUTE, family=family, kind=kind, got=len(value), need=length)
-
-
 def any_value(*_):
     """Returns the error of a value that is not checked: none."""
     return None
@@ -173,13 +142,49 @@ def raw(value):
 
 U32 = exactly(4), number(0, 4)
 # u32, indexed by SK_MEMINFO_RMEM_ALLOC 0 to SK_MEMINFO_DROPS 8. Old kernels send the first seven.
-SOCKET_MEMORY = (at_least(MEMORY, 28), {
+MEMORY_FIELDS = {
     name: optional_number(4 * index) for index, name in enumerate((
         "memory_receive_queue", "memory_receive_queue_max", "memory_bottom_send_queues",
         "memory_send_queue_max", "memory_cache", "memory_send_queue", "memory_options",
         "memory_backlog_queue_length", "memory_drops",
     ))
-})
+}
+SOCKET_MEMORY = (at_least(MEMORY, 28), MEMORY_FIELDS)
+
+# The attributes that are parsed, by kind: the error of a value, and the details in a valid value.
+# The error is None if the value is valid.
+UNIX_ATTRIBUTES = {
+    0: (name_error, {"name": name_text}),
+    1: (at_least(VFS, 8), {"file_inode": number(0, 4), "file_device": number(4, 8)}),
+    2: (exactly(4), {"peer": number(0, 4)}),
+    3: (list_error, {}),
+    4: (exactly(8), {"recv_queue": number(0, 4), "send_queue": number(4, 8)}),
+    5: (at_least(UNIX_MEMORY, 36), MEMORY_FIELDS),
+    6: (exactly(1), {"shutdown": number(0, 1)}),
+    # A value of another length is not an error, and has no field.
+    7: (lambda _, value: None if len(value) == 4 else NOT_CHECKED, {"owner": U32[1]}),
+}
+INET_ATTRIBUTES = {
+    1: (at_least(LEGACY_MEMORY, 16), {"legacy_memory": numbers("4I")}),
+    2: (at_least(TCP_INFO, 232), {}),
+    4: (text_error, {"congestion": lambda value: f"text:{value.removesuffix(bytes(1)).hex()}"}),
+    5: (exactly(1), {"tos": number(0, 1)}),
+    6: (exactly(1), {"tclass": number(0, 1)}),
+    7: SOCKET_MEMORY,
+    8: (exactly(1), {"shutdown": number(0, 1)}),
+    10: (exactly(1), {"protocol": number(0, 1)}),
+    11: (exactly(1), {"v6only": lambda value: int(value != bytes(1))}),
+    15: (exactly(4), {"mark": number(0, 4)}),
+    17: (exactly(4), {"class_id": number(0, 4)}),
+}
+
+
+def family_record(family, length):
+    """Returns a function that returns the error of a record in an attribute of this family."""
+    return lambda kind, value: None if len(value) >= length else Error(
+        TOO_SHORT, record=FAMILY_ATTRIBUTE, family=family, kind=kind, got=len(value), need=length)
+
+
 # NETLINK_DIAG_MEMINFO, NETLINK_DIAG_GROUPS and NETLINK_DIAG_FLAGS.
 NETLINK_ATTRIBUTES = {
     0: SOCKET_MEMORY,
@@ -261,9 +266,9 @@ def inet_header(payload):
     return None, {
         "family": family,
         "state": state,
-        "timer": timer if timer <= 4 else 0,
-        "retransmits": retransmits if timer == 1 else 0,
-        "expires": expires if timer in (1, 2, 4) else 0,
+        "timer": timer,
+        "retransmits": retransmits,
+        "expires": expires,
         "source_port": source_port,
         "destination_port": destination_port,
         "source_address": addresses[0],
@@ -339,6 +344,8 @@ def answer(name, payload):
     for kind, value in split(payload, size):
         error_of, parts = attributes.get(kind, (any_value, {}))
         error = value if kind is None else error_of(kind, value)
+        if error is NOT_CHECKED:
+            continue
         if error:
             rejected.append((kind, error))
             continue

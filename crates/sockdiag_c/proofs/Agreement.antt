@@ -137,9 +137,9 @@ both_none None p none = (refl, none)
 both_none (Some x) p none = absurd cc
 
 module _ {D : Type 0} (family : Family D) (R : ResponseSpec)
-    (convert : R.header.Value → family.Header)
+    (convert : List ℕ → R.header.Value → family.Header)
     (header : (payload : List ℕ) → family.parse_header payload
-    ≡ map_ok convert (R.header.parses tt payload))
+    ≡ map_ok (convert payload) (R.header.parses tt payload))
     (size : family.header_size ≡ R.size)
     (same : (a : Attribute) → value_error family a
     ≡ result_err (decode_attribute R.attribute_set a)) where
@@ -147,7 +147,7 @@ module _ {D : Type 0} (family : Family D) (R : ResponseSpec)
   agrees_with_codec = (
     λ payload d found.
         let parts = found.0 in
-        let h = value_of_mapped convert (R.header.parses tt payload) parts.header
+        let h = value_of_mapped (convert payload) (R.header.parses tt payload) parts.header
         (sym (header payload) ∙ found.1.0) in
         let none = both_none _ _ found.2 in
         let more = decoded (decode_attribute R.attribute_set) (value_error family) same
@@ -170,10 +170,10 @@ module _ {D : Type 0} (family : Family D) (R : ResponseSpec)
       rejects : (payload : List ℕ) (e : DecodeError) → IsFirstError family payload e
           → (response_codec R).rejects payload tt e
       rejects payload e (inl error) =
-          inl (error_of_mapped convert (R.header.parses tt payload) e
+          inl (error_of_mapped (convert payload) (R.header.parses tt payload) e
           (sym (header payload) ∙ error))
       rejects payload e (inr (parts, (head, ends), is)) =
-          let h = value_of_mapped convert (R.header.parses tt payload) parts.header
+          let h = value_of_mapped (convert payload) (R.header.parses tt payload) parts.header
           (sym (header payload) ∙ head) in
           inr (
             h.0,

@@ -1,7 +1,9 @@
--- Parts for the rows of netlink, packet and XDP sockets: what an attribute of one kind says; None
--- for attributes of other kinds.
-use Rattle.std.specs.Prelude.{ℕ, List, Option, None, Some}
+-- Parts for the rows of the tables: what an attribute of one kind says; None for attributes of
+-- other kinds.
+use Rattle.std.specs.Prelude.{ℕ, if◌then◌else◌, List, Option, None, Some}
+use Rattle.sock_diag_values.specs.declared.inet.legacy_mem_info.LegacyMemInfo.{LegacyMemInfo}
 use Rattle.sock_diag_values.specs.declared.inet.mem_info.MemInfo.{MemInfo}
+use Rattle.sock_diag_attributes.specs.declared.unix.name.SocketName.TheVariants.{Abstract, Pathname}
 use Rattle.sock_diag_families.specs.declared.packet.attributes.PacketInfo.{PacketInfo}
 use Rattle.sock_diag_families.specs.declared.packet.attributes.PacketRing.{PacketRing}
 use Rattle.sock_diag_families.specs.declared.xdp.attributes.XdpInfo.{XdpInfo}
@@ -9,6 +11,84 @@ use Rattle.sock_diag_families.specs.declared.xdp.attributes.XdpStatistics.{XdpSt
 use Rattle.sock_diag_families.specs.declared.xdp.attributes.XdpUmem.{XdpUmem}
 use Rattle.sock_diag_extras.specs.AnyNla.{AnyValue}
 use Rattle.sock_diag_extras.specs.AnyNla as any
+use Rattle.sockdiag_c.specs.declared.details.TheConstants.{ABSTRACT, TEXT}
+
+-- the name of a UNIX socket: its kind, SOCKDIAG_TEXT for a pathname or SOCKDIAG_ABSTRACT, and its
+-- bytes
+abbrev pub name_of : AnyValue → Option (ℕ × List ℕ)
+name_of (any.name (Pathname path)) = Some (TEXT, path)
+name_of (any.name (Abstract address)) = Some (ABSTRACT, address)
+name_of other = None
+
+-- the inode of the file that a UNIX socket is bound to
+abbrev pub file_inode_of : AnyValue → Option ℕ
+file_inode_of (any.vfs file) = Some file.inode
+file_inode_of other = None
+
+-- the device of this file
+abbrev pub file_device_of : AnyValue → Option ℕ
+file_device_of (any.vfs file) = Some file.device
+file_device_of other = None
+
+-- the inode of the peer of a UNIX socket
+abbrev pub peer_of : AnyValue → Option ℕ
+peer_of (any.peer inode) = Some inode
+peer_of other = None
+
+-- the length of the receive queue of a UNIX socket
+abbrev pub recv_queue_of : AnyValue → Option ℕ
+recv_queue_of (any.queue_lengths receive send) = Some receive
+recv_queue_of other = None
+
+-- the length of the send queue of a UNIX socket
+abbrev pub send_queue_of : AnyValue → Option ℕ
+send_queue_of (any.queue_lengths receive send) = Some send
+send_queue_of other = None
+
+-- the directions that are shut down
+abbrev pub shutdown_of : AnyValue → Option ℕ
+shutdown_of (any.shutdown directions) = Some directions
+shutdown_of other = None
+
+-- the name of the congestion control algorithm, of the kind SOCKDIAG_TEXT
+abbrev pub congestion_of : AnyValue → Option (ℕ × List ℕ)
+congestion_of (any.congestion algorithm) = Some (TEXT, algorithm)
+congestion_of other = None
+
+-- the type of service
+abbrev pub tos_of : AnyValue → Option ℕ
+tos_of (any.tos n) = Some n
+tos_of other = None
+
+-- the traffic class of an IPv6 socket
+abbrev pub traffic_class_of : AnyValue → Option ℕ
+traffic_class_of (any.traffic_class n) = Some n
+traffic_class_of other = None
+
+-- the protocol, `IPPROTO_..`
+abbrev pub protocol_of : AnyValue → Option ℕ
+protocol_of (any.protocol n) = Some n
+protocol_of other = None
+
+-- 1 if the socket is for IPv6 only, else 0
+abbrev pub v6_only_of : AnyValue → Option ℕ
+v6_only_of (any.v6_only only) = Some (if only then 1 else 0)
+v6_only_of other = None
+
+-- the mark of the socket
+abbrev pub mark_of : AnyValue → Option ℕ
+mark_of (any.mark n) = Some n
+mark_of other = None
+
+-- the traffic control class
+abbrev pub class_id_of : AnyValue → Option ℕ
+class_id_of (any.class_id n) = Some n
+class_id_of other = None
+
+-- the memory of an internet socket in the format of old kernels
+abbrev pub legacy_memory_of : AnyValue → Option LegacyMemInfo
+legacy_memory_of (any.legacy_memory m) = Some m
+legacy_memory_of other = None
 
 -- the memory counters of a socket
 abbrev pub memory_of : AnyValue → Option MemInfo

@@ -1,14 +1,12 @@
 -- How replies are read into the structs of C: for each family how its attributes are decoded, and a
 -- table of rows, which says what fields have the decoded values.
 use Rattle.std.specs.Prelude.{◌≡◌, ◌≢◌, ◌<◌, ℕ, ◌⊎◌, ◌==◌, if◌then◌else◌, List, [], ◌∷◌, drop, ⊤}
-use Rattle.std.specs.Prelude.{Option, Some, None, option_map, option_and_then, slice_index}
+use Rattle.std.specs.Prelude.{Option, Some, None, option_and_then, slice_index}
 use Rattle.std.specs.Prelude.{Result, Ok, Err}
 use Rattle.std.specs.Result.{result_ok, result_err}
 use Rattle.std.specs.Option.{option_or}
 use Rattle.netlink_core.specs.Attribute.{Attribute, IsFramingError, SplitsIntoAttributes}
 use Rattle.netlink_core.specs.Attribute.{SplitsUntilError, attribute_kind}
-use Rattle.netlink_core.specs.AttributeSet.{AttributeSet, AttributeValue, ValueOfKind}
-use Rattle.netlink_core.specs.AttributeSet.{value_of_kind}
 use Rattle.netlink_core.specs.Errors.{error_code}
 use Rattle.netlink_core.specs.Response.{ResponseSpec, ReplyValue, response_codec}
 use Rattle.netlink_core.specs.declared.error.DecodeError.{DecodeError}
@@ -48,12 +46,6 @@ pub record Family (D : Type 0) : Type 1 where
   pub read : Attribute → Result Value DecodeError
   -- one row for each field, or for each record with its field `has_..`
   pub rows : List (StructRow Value D)
-
--- `part_of F kind part v`: of a decoded attribute `v` of the set `F`, `part` of its value if it is
--- of this kind; None if it is of another kind
-abbrev pub part_of : {A : Type 0} → (F : AttributeSet) → (kind : ℕ) → (ValueOfKind F kind → A)
-    → AttributeValue F → Option A
-part_of F kind part v = option_map part (value_of_kind F kind v)
 
 -- ---- the values of attributes
 

@@ -5,7 +5,6 @@ use Rattle.netlink_core.specs.Response.{ReplyValue, response_codec}
 use Rattle.netlink_core.specs.Table.{bytes_of}
 use Rattle.sock_diag_records.specs.declared.inet.response.InetResponseHeader.{InetResponseHeader}
 use Rattle.sock_diag_records.specs.declared.unix.response.UnixResponseHeader.{UnixResponseHeader}
-use Rattle.sock_diag_records.specs.Timer.{timer_data, u32_milliseconds}
 use Rattle.sock_diag_records.specs.IpVersions.{address_data}
 use Rattle.sock_diag_records.specs.SocketId.{address_fields, address_values}
 use Rattle.netlink_packet_sock_diag.specs.Message.{Message, message_codec, message_of}
@@ -13,6 +12,8 @@ use Rattle.sock_diag_records.specs.ResponseKind.{inet_request, inet_response, un
 use Rattle.sock_diag_records.specs.ResponseKind.{unix_response}
 use Rattle.sock_diag_replies.specs.InetResponseSpec.{inet_response_spec}
 use Rattle.sock_diag_replies.specs.UnixResponseSpec.{unix_response_spec}
+use Rattle.sock_diag_extras.specs.AnyHeader.{timer_at}
+use Rattle.sock_diag_extras.specs.declared.any.header.RawTimer.{RawTimer}
 use Rattle.sockdiag_c.specs.Answers.{Check}
 use Rattle.sockdiag_c.specs.declared.headers.InetHeader.{InetHeader}
 use Rattle.sockdiag_c.specs.declared.headers.Reply.{Reply}
@@ -30,18 +31,16 @@ unix_header_of h = record { kind = h.kind; state = h.state; inode = h.inode; coo
 abbrev pub address_octets_of : IpAddr → List ℕ
 address_octets_of ip = bytes_of (address_fields 0 (address_data ip).0) (address_values ip)
 
--- `inet_header_of h`: `struct sockdiag_inet_header` from the parsed `struct inet_diag_msg` `h`.
--- Each field is the field with the same name, except for `timer`, `retransmits` and `expires`.
--- These are the parts of `timer_data`: the code of the timer (`.0`; 0 if there is none), its number
--- of retransmissions (`.1`), and its milliseconds modulo 2^32 (of `.2`). Each is 0 if the timer
--- does not have it.
-abbrev pub inet_header_of : InetResponseHeader → InetHeader
-inet_header_of h = record {
+-- `inet_header_of timer h`: `struct sockdiag_inet_header` from the parsed `struct inet_diag_msg`
+-- `h` and its timer, as the kernel sends it (`timer_at`). Each field is the field with the same
+-- name.
+abbrev pub inet_header_of : RawTimer → InetResponseHeader → InetHeader
+inet_header_of timer h = record {
   family = h.family;
   state = h.state;
-  timer = (timer_data h.timer).0;
-  retransmits = (timer_data h.timer).1;
-  expires = u32_milliseconds (timer_data h.timer).2;
+  timer = timer.kind;
+  retransmits = timer.retransmits;
+  expires = timer.expires;
   source_port = h.socket_id.source_port;
   destination_port = h.socket_id.destination_port;
   source_address = address_octets_of h.socket_id.source_address;
@@ -67,19 +66,20 @@ abbrev pub inet_check : List ℕ → Check (ReplyValue inet_response_spec) InetH
 inet_check payload = record {
   parses = (response_codec inet_response_spec).parses payload tt;
   rejects = (response_codec inet_response_spec).rejects payload tt;
-  found = λ v. inet_header_of v.header;
+  found = λ v. inet_header_of (timer_at payload) v.header;
 }
 
--- `reply_of old message`: `struct sockdiag_reply` after a call that accepts the message; `old` is
--- the struct before the call. It has the kind and the header of the reply; the header of the other
--- kind is unchanged. The last two lines never apply, since a message is never parsed as a request.
-abbrev pub reply_of : Reply → Message → Reply
-reply_of old (message_of unix_response v) =
+-- `reply_of payload old message`: `struct sockdiag_reply` after a call that accepts the payload as
+-- this message; `old` is the struct before the call. It has the kind and the header of the reply;
+-- the header of the other kind is unchanged. The last two lines never apply, since a message is
+-- never parsed as a request.
+abbrev pub reply_of : List ℕ → Reply → Message → Reply
+reply_of payload old (message_of unix_response v) =
     record old { kind = UNIX; unix_header = unix_header_of v.header }
-reply_of old (message_of inet_response v) =
-    record old { kind = INET; inet_header = inet_header_of v.header }
-reply_of old (message_of unix_request v) = old
-reply_of old (message_of inet_request v) = old
+reply_of payload old (message_of inet_response v) =
+    record old { kind = INET; inet_header = inet_header_of (timer_at payload) v.header }
+reply_of payload old (message_of unix_request v) = old
+reply_of payload old (message_of inet_request v) = old
 
 -- `message_check payload message_type old`: the check of the payload of a message of this type,
 -- which stores the kind and the header of the reply in the struct `old`. Only replies are accepted,
@@ -88,5 +88,5 @@ abbrev pub message_check : List ℕ → ℕ → Reply → Check Message Reply
 message_check payload message_type old = record {
   parses = message_codec.parses payload message_type;
   rejects = message_codec.rejects payload message_type;
-  found = reply_of old;
+  found = reply_of payload old;
 }

@@ -6,6 +6,7 @@ pub mod Rewriting
 pub mod Family
 pub mod Details
 pub mod AnyParts
+pub mod CheckedKinds
 pub mod UnixDetails
 pub mod InetDetails
 pub mod AttributeValues

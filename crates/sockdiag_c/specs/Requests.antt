@@ -1,5 +1,5 @@
 -- The bytes of requests for UNIX and internet sockets.
-use Rattle.std.specs.Prelude.{◌≡◌, ℕ, ◌+◌, ◌%◌, ◌<◌, ◌≤◌, ◌==◌, nat_lt, if◌then◌else◌, List}
+use Rattle.std.specs.Prelude.{◌≡◌, ℕ, ◌⊎◌, ◌+◌, ◌<◌, ◌≤◌, ◌==◌, nat_lt, if◌then◌else◌, List}
 use Rattle.std.specs.Prelude.{[], ◌∷◌, ◌++◌, length, drop, replicate, slice_index}
 use Rattle.byteorder.specs.Endian.{little_bytes}
 use Rattle.std.specs.declared.net.ip_addr.IpAddr.{IpAddr}
@@ -10,6 +10,7 @@ use Rattle.netlink_core.specs.Attribute.{Attribute, SplitsUntilError, IsFramingE
 use Rattle.netlink_core.specs.Attribute.{SplitsIntoAttributes}
 use Rattle.netlink_core.specs.Attribute.{padding_length, attribute_bytes}
 use Rattle.netlink_core.specs.declared.error.DecodeError.{DecodeError}
+use Rattle.netlink_core.specs.declared.error.DecodeError.TheVariants.{UnsupportedFamily}
 use Rattle.netlink_core.specs.Layout.{record_bytes}
 use Rattle.netlink_core.specs.Header.{header_bytes}
 use Rattle.sock_diag_records.specs.InetRequest.{inet_request}
@@ -58,14 +59,20 @@ address_of_family family octets =
     }
     else V6 record { segments = segments_of octets }
 
+-- `protocol_byte protocol`: `sdiag_protocol` of a request, a `__u8`: the protocol if it is below
+-- 256; else 0 (`IPPROTO_IP`), for which a kernel lists no sockets, and the attribute of
+-- `protocol_attribute` has the protocol
+abbrev pub protocol_byte : ℕ → ℕ
+protocol_byte protocol = if nat_lt protocol 256 then protocol else 0
+
 -- `inet_request_from_c r`: `struct inet_diag_req_v2` from the request `r`
 -- (`struct sockdiag_inet_request`): each field is the field with the same name, with two
--- exceptions. The addresses are made by `address_of_family`, and `sdiag_protocol` is the low byte
--- of the protocol.
+-- exceptions. The addresses are made by `address_of_family`, and `sdiag_protocol` by
+-- `protocol_byte`.
 abbrev pub inet_request_from_c : InetRequest → inet.InetRequest
 inet_request_from_c r = record {
   family = r.family;
-  protocol = r.protocol % 256;
+  protocol = protocol_byte r.protocol;
   extensions = record { 0 = r.extensions };
   states = record { 0 = r.states };
   socket_id = record {
@@ -88,12 +95,12 @@ protocol_attribute protocol =
       value = little_bytes 4 protocol;
     }
 
--- `unix_message message_type r`: the netlink message of the request `r` for UNIX sockets, with the
--- type SOCK_DIAG_BY_FAMILY or SOCK_DESTROY. It has 40 bytes: a header of 16 bytes (`header_bytes`),
--- then the record of 24 bytes (`record_bytes`).
-abbrev pub unix_message : ℕ → UnixRequest → List ℕ
-unix_message message_type r =
-    header_bytes (request_header_of 40 message_type r.header)
+-- `unix_message r`: the netlink message of the request `r` for UNIX sockets, of type
+-- SOCK_DIAG_BY_FAMILY. It has 40 bytes: a header of 16 bytes (`header_bytes`), then the record of
+-- 24 bytes (`record_bytes`).
+abbrev pub unix_message : UnixRequest → List ℕ
+unix_message r =
+    header_bytes (request_header_of 40 SOCK_DIAG_BY_FAMILY r.header)
     ++ record_bytes unix_request (unix_request_from_c r)
 
 -- `inet_message_length protocol`: the number of bytes of a request for IPv4 or IPv6 sockets of this
@@ -166,13 +173,15 @@ abbrev pub HasFramingError : List ℕ → DecodeError → Type 0
 HasFramingError bytes e =
     (attributes : List Attribute) × SplitsUntilError IsFramingError bytes attributes e
 
--- `filtered_request r bytes`: how bytes of the caller are checked and written after the request
--- `r`. They have to be split into attributes, without bytes after them (`[]`). What is written
--- depends only on the bytes, so `is_writable` and `serialized` do not use the attributes (`_`).
+-- `filtered_request r bytes`: how the request `r` and bytes of the caller are checked and written.
+-- The family has to be AF_INET or AF_INET6. The bytes have to be split into attributes, without
+-- bytes after them (`[]`). What is written depends only on the bytes, so `is_writable` and
+-- `serialized` do not use the attributes (`_`).
 abbrev pub filtered_request : InetRequest → List ℕ → Conversion (List Attribute)
 filtered_request r bytes = record {
-  parses = λ attributes. SplitsIntoAttributes bytes attributes [];
-  rejects = HasFramingError bytes;
+  parses = λ attributes. IsInetFamily r.family × SplitsIntoAttributes bytes attributes [];
+  rejects = λ e. (¬ IsInetFamily r.family × (e ≡ UnsupportedFamily r.family))
+      ⊎ (IsInetFamily r.family × HasFramingError bytes e);
   is_writable = λ _. IsWritableInetRequest r bytes;
   serialized = λ _. request_with_attributes r bytes;
 }

@@ -1,4 +1,4 @@
--- The bytes of `struct tcp_info` and of socket memory.
+-- The bytes of `struct tcp_info` and `struct mptcp_info`.
 use Rattle.std.specs.Prelude.{ℕ, ◌-◌, ◌==◌, if◌then◌else◌, List, ◌++◌, length, take, drop}
 use Rattle.std.specs.Prelude.{replicate, [], Option, Some, None, unwrap_or}
 use Rattle.netlink_core.specs.Attribute.{Attribute, attribute_kind}

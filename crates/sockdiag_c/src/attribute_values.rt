@@ -17,7 +17,7 @@ use crate::walks::{Cursor, bytes_from};
 use byteorder::{ByteOrder, LittleEndian};
 use sock_diag_extras::{
     AttributeRecord, BbrInfo, DctcpInfo, Md5Signature, SocketOptions, StoredAddress, VegasInfo,
-    parse_cgroup_id, parse_uid, read_attribute_record,
+    parse_cgroup_id, read_attribute_record,
 };
 
 const _: () = prove!(std::mem::size_of::<SocketOptions>() == 2);
@@ -31,16 +31,6 @@ const _: () = prove!(std::mem::size_of::<BbrInfo>() == 24);
 const _: () = prove!(std::mem::size_of::<Md5Signature>() == 100);
 
 const _: () = prove!(std::mem::size_of::<StoredAddress>() == 128);
-
-/// Stores the user id of a UNIX socket's owner: the value of `UNIX_DIAG_UID`, 4 bytes. Returns 1;
-/// or 0 if the value has another length, and then the user id is unchanged.
-#[unsafe(no_mangle)]
-pub extern "C" fn sockdiag_get_uid(value: &[u8], uid: &mut u32) -> u32
-    ensures { IsStoredIf (length value.now ≡ 4) (little_number 4 value.now)
-        record { old = uid.old; new = uid.new; returned = result } }
-{
-    store(parse_uid(value), uid)
-}
 
 /// Stores the id of the control group (cgroup v2) of an IPv4 or IPv6 socket: the value of
 /// `INET_DIAG_CGROUP_ID`, 8 bytes. Returns 1; or 0 if the value has another length, and then the id

@@ -5,7 +5,7 @@ ghost use Rattle.netlink_core.specs.Errors.{error_code};
 ghost use Rattle.sockdiag_c.specs.Answers.{IsCheckResult};
 ghost use Rattle.sockdiag_c.specs.Headers.{inet_check, message_check, unix_check};
 
-use crate::headers::{INET, InetHeader, Reply, UNIX, UnixHeader};
+use crate::headers::{INET, InetHeader, Reply, UNIX, UnixHeader, inet_header};
 use netlink_core::DecodeError;
 use netlink_packet_sock_diag::SockDiagView;
 use netlink_packet_sock_diag::inet::InetResponseView;
@@ -55,18 +55,20 @@ pub extern "C" fn sockdiag_check_unix_reply(payload: &[u8], header: &mut UnixHea
 /// than 232 bytes has `SOCKDIAG_BUFFER_TOO_SMALL`. TCP sockets of kernels without `tcpi_snd_wnd`
 /// have such values, and MPTCP sockets of all kernels. `sockdiag_inet_get_lenient_details` returns
 /// the header of such a reply, and the first valid attribute of each kind that has a field in the
-/// details. These calls accept a value of any length:
-/// - the connection: `sockdiag_inet_get_long_tcp_info` and `sockdiag_inet_get_tcp_info`, and for
-///   MPTCP `sockdiag_inet_get_mptcp_info`;
-/// - the memory: `sockdiag_inet_get_memory`;
-/// - other attributes: `sockdiag_next_attribute`, which does not check their values.
+/// details. `sockdiag_inet_get_tcp_info` and `sockdiag_inet_get_mptcp_info` return a connection of
+/// any length. `sockdiag_next_attribute` returns all attributes, without a check of their values.
 #[unsafe(no_mangle)]
 pub extern "C" fn sockdiag_check_inet_reply(payload: &[u8], header: &mut InetHeader) -> u32
     ensures { IsCheckResult (inet_check payload.now)
         record { old = header.old; new = header.new; returned = result } }
 {
-    let parsed = InetResponseView::parse(payload);
-    store_parsed(parsed.map(|view| InetHeader::from(view.header())), header)
+    match InetResponseView::parse(payload) {
+        Ok(view) => {
+            *header = inet_header(payload, view.header());
+            OK
+        }
+        Err(error) => u32::from(error.number()),
+    }
 }
 
 /// Checks the whole payload of a message of this type, and stores the kind of the reply and its
@@ -92,7 +94,7 @@ pub extern "C" fn sockdiag_check_message(
         }
         Ok(SockDiagView::InetResponse(view)) => {
             reply.kind = INET;
-            reply.inet_header = InetHeader::from(view.header());
+            reply.inet_header = inet_header(payload, view.header());
             OK
         }
         Err(error) => u32::from(error.number()),

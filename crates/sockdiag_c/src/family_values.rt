@@ -1,21 +1,25 @@
-//! Memory counters and records of netlink, packet and XDP sockets, as C structs; and helpers that
-//! split a header off a payload, and store a value for C. In the contracts `o` is the value before
-//! a call, or None.
+//! Memory counters and records as C structs; and helpers that split a header off a payload, decode
+//! an attribute, and store a value for C. In the contracts `o` is the value before a call, or None.
 
 ghost use Rattle.std.specs.Prelude.{◌≡◌, drop, IfErr, IfOk, Ok, Err, Option, Some};
 ghost use Rattle.std.specs.Option.{option_or};
+ghost use Rattle.netlink_core.specs.Errors.{map_ok};
 ghost use Rattle.netlink_core.specs.Layout.{parse_record};
+ghost use Rattle.netlink_core.specs.Walk.{buffered_attribute};
 ghost use Rattle.sock_diag_values.specs.declared.inet.mem_info.MemInfo.{MemInfo as MemInfoModel};
+ghost use Rattle.sock_diag_extras.specs.AnyNla.{any_model, read_any};
 ghost use Rattle.sockdiag_c.specs.Answers.{IsGetterResult};
+ghost use Rattle.sockdiag_c.specs.CheckedKinds.{rejected_if};
 ghost use Rattle.sockdiag_c.specs.Details.{memory_struct, optional_number, optional_record};
 
 use crate::details::Number;
 use crate::walks::{END, ITEM};
-use netlink_core::{DecodeError, Record, read_record};
+use netlink_core::{DecodeError, NlaBuffer, Record, read_record};
+use sock_diag_extras::any::{AnyNla, Sockets};
 use sock_diag_values::inet::MemInfo;
 
-/// Memory of a netlink, packet or XDP socket: the fields `SK_MEMINFO_..` of `linux/sock_diag.h`. A
-/// reply contains the first seven fields together, or none of them.
+/// Memory of a socket: the fields `SK_MEMINFO_..` of `linux/sock_diag.h`. A reply contains the
+/// first seven fields together, or none of them.
 #[repr(C)]
 #[derive(Clone, Copy, Default)]
 pub struct Memory {
@@ -90,6 +94,23 @@ pub(crate) fn set_record<T: Copy>(found: T, is_set: &mut u32, record: &mut T)
     if *is_set == 0 {
         *is_set = 1;
         *record = found;
+    }
+}
+
+/// Decodes an attribute of a reply about these sockets. If it is not checked and its value is
+/// invalid, returns `AnyNla::Unknown`, and no error.
+#[inline(always)]
+pub(crate) fn read_nla<'a>(
+    sockets: Sockets,
+    is_checked: bool,
+    nla: &NlaBuffer<'a>,
+) -> Result<AnyNla<'a>, DecodeError>
+    ensures { map_ok any_model result ≡ rejected_if is_checked (buffered_attribute nla.now)
+        (read_any sockets (buffered_attribute nla.now)) }
+{
+    match AnyNla::read(sockets, nla) {
+        Err(_) if !is_checked => Ok(AnyNla::Unknown(*nla)),
+        read => read,
     }
 }
 

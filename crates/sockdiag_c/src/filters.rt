@@ -17,7 +17,7 @@ use crate::requests::{InetRequest, write_inet};
 use crate::rewriting::{Outcome, reject, write_value};
 use attribute_lists::check_nlas;
 use byteorder::{ByteOrder, LittleEndian};
-use netlink_core::{Emitable, NETLINK_HEADER_LEN, padded};
+use netlink_core::{DecodeError, Emitable, NETLINK_HEADER_LEN, padded};
 use netlink_packet_sock_diag::constants::{AF_INET, AF_INET6, SOCK_DIAG_BY_FAMILY};
 use netlink_packet_sock_diag::inet::INET_REQUEST_LEN;
 use sock_diag_families::RawNla;
@@ -34,10 +34,12 @@ use sock_diag_families::RawNla;
 ///
 /// Returns the number of bytes that were written, which is also stored in `outcome.needed`. Returns
 /// 0 if nothing was written, for the first of these reasons that applies:
+/// - The family is neither `AF_INET` nor `AF_INET6`. `outcome.error` is
+///   `SOCKDIAG_UNSUPPORTED_FAMILY`, and `outcome.needed` is 0.
 /// - The framing of the attributes is invalid. `outcome.error` is the code of the first error, 7 to
 ///   9; in all other cases it is 0. `outcome.needed` is 0.
-/// - The family is neither `AF_INET` nor `AF_INET6`, or the message has more than 4,294,967,295
-///   bytes, so that its length does not fit its length field. `outcome.needed` is 0.
+/// - The message has more than 4,294,967,295 bytes, so that its length does not fit its length
+///   field. `outcome.needed` is 0.
 /// - The buffer is shorter than needed. `outcome.needed` is the number of bytes that it has to
 ///   have.
 ///
@@ -56,6 +58,10 @@ pub extern "C" fn sockdiag_write_inet_request_with_attributes(
       returned = result;
     } }
 {
+    let family = request.family;
+    if family != AF_INET && family != AF_INET6 {
+        return reject(&DecodeError::UnsupportedFamily { family }, outcome);
+    }
     let filtered = FilteredRequest {
         request,
         attributes,

@@ -1,12 +1,12 @@
 //! The headers of replies, as C structs.
 
-ghost use Rattle.std.specs.Prelude.{◌≡◌};
+ghost use Rattle.std.specs.Prelude.{◌≡◌, ◌≤◌, length};
+ghost use Rattle.sock_diag_extras.specs.AnyHeader.{timer_at};
 ghost use Rattle.sockdiag_c.specs.Headers.{address_octets_of, inet_header_of, unix_header_of};
 
-use byteorder::{BigEndian, ByteOrder};
-use netlink_packet_sock_diag::inet::InetResponseHeader;
+use byteorder::{BigEndian, ByteOrder, LittleEndian};
+use netlink_packet_sock_diag::inet::{INET_RESPONSE_HEADER_LEN, InetResponseHeader};
 use netlink_packet_sock_diag::unix::UnixResponseHeader;
-use sock_diag_records::inet::timer_fields;
 use std::net::IpAddr;
 
 /// Header of a reply about a UNIX socket: `struct unix_diag_msg` of sock_diag(7).
@@ -33,17 +33,16 @@ const _: () = prove!(std::mem::size_of::<UnixHeader>() == 16);
 pub struct InetHeader {
     /// `AF_INET` or `AF_INET6` (`idiag_family`, at 0).
     pub family: u8,
-    /// State, one of `TCP_ESTABLISHED` to `TCP_CLOSING` (`idiag_state`, at 1). Most replies do not
-    /// contain the protocol: states are of TCP, UDP or another protocol, the one that was
-    /// requested.
+    /// State, one of `TCP_ESTABLISHED` to `TCP_CLOSING` (`idiag_state`, at 1), of the protocol that
+    /// was requested. The reply of an event has the protocol in `INET_DIAG_PROTOCOL`.
     pub state: u8,
-    /// Timer (`idiag_timer`, at 2): 1 retransmission, 2 keepalive, 3 TIME_WAIT, 4 zero-window
-    /// probe, 0 none. Any other value in the message is returned as 0.
+    /// Timer (`idiag_timer`, at 2): 0 none, 1 retransmission, 2 keepalive, 3 TIME_WAIT, 4
+    /// zero-window probe; 5 delayed acknowledgement, since Linux 7.2.
     pub timer: u8,
-    /// Number of retransmissions if the timer is 1, else 0 (`idiag_retrans`, at 3).
+    /// Number of retransmissions if the timer is 1, of probes if it is 2 or 4 (`idiag_retrans`, at
+    /// 3).
     pub retransmits: u8,
-    /// Milliseconds until the timer expires if the timer is 1, 2 or 4, else 0 (`idiag_expires`, at
-    /// 52). The time of a TIME_WAIT timer is not returned.
+    /// Milliseconds until the timer expires (`idiag_expires`, at 52).
     pub expires: u32,
     /// Local port (`idiag_sport`, at 4).
     pub source_port: u16,
@@ -106,30 +105,30 @@ impl From<UnixResponseHeader> for UnixHeader {
     }
 }
 
-impl From<InetResponseHeader> for InetHeader {
-    ghost from_gives = { λ header found. found ≡ inet_header_of header };
-
-    fn from(header: InetResponseHeader) -> InetHeader {
-        let (timer, retransmits, expires) = timer_fields(&header.timer);
-        let id = header.socket_id;
-        let cookie = id.cookie;
-        InetHeader {
-            family: header.family,
-            state: header.state,
-            timer,
-            retransmits,
-            expires,
-            source_port: id.source_port,
-            destination_port: id.destination_port,
-            source_address: address_octets(id.source_address),
-            destination_address: address_octets(id.destination_address),
-            interface_id: id.interface_id,
-            cookie,
-            recv_queue: header.recv_queue,
-            send_queue: header.send_queue,
-            uid: header.uid,
-            inode: header.inode,
-        }
+/// Returns the struct of a header, with its timer as the kernel sends it. The payload begins with
+/// the header.
+pub(crate) fn inet_header(payload: &[u8], header: InetResponseHeader) -> InetHeader
+    requires { INET_RESPONSE_HEADER_LEN ≤ length payload.now }
+    ensures { result ≡ inet_header_of (timer_at payload.now) header }
+{
+    let id = header.socket_id;
+    let cookie = id.cookie;
+    InetHeader {
+        family: header.family,
+        state: header.state,
+        timer: payload[2],
+        retransmits: payload[3],
+        expires: LittleEndian::read_u32(&payload[52..]),
+        source_port: id.source_port,
+        destination_port: id.destination_port,
+        source_address: address_octets(id.source_address),
+        destination_address: address_octets(id.destination_address),
+        interface_id: id.interface_id,
+        cookie,
+        recv_queue: header.recv_queue,
+        send_queue: header.send_queue,
+        uid: header.uid,
+        inode: header.inode,
     }
 }
 

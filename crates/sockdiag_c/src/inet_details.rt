@@ -1,19 +1,43 @@
-//! The contents of a reply about an IPv4 or IPv6 socket as a C struct, except for memory and
-//! `tcp_info`.
+//! The contents of a reply about an IPv4 or IPv6 socket as a C struct, except for its connection,
+//! `INET_DIAG_INFO`.
 
 ghost use Rattle.std.specs.Prelude.{◌≡◌, ◌≢◌};
-ghost use Rattle.sock_diag_attributes.specs.InetModel.{inet_nla_view_model};
+ghost use Rattle.netlink_core.specs.Attribute.{Attribute, attribute_kind};
+ghost use Rattle.sock_diag_attributes.specs.InetAttributes.{inet_attribute_set};
+ghost use Rattle.sock_diag_extras.specs.AnyAgreement.{has_kind};
+ghost use Rattle.sock_diag_extras.specs.AnyNla.{any_model};
 ghost use Rattle.sockdiag_c.specs.Family.{AreDetailsOf, IsCodeOf, IsFirstError};
-ghost use Rattle.sockdiag_c.specs.InetDetails.{inet_family};
+ghost use Rattle.sockdiag_c.specs.InetDetails.{inet_family, legacy_memory_struct};
 
 use crate::details::{Number, ReplyDetails, TEXT, Text, store_details};
-use crate::headers::InetHeader;
+use crate::family_values::{Memory, read_nla, set_record};
+use crate::headers::{InetHeader, inet_header};
 use netlink_core::{DecodeError, NlaBuffer};
-use netlink_packet_sock_diag::inet::nlas::NlaView;
+use netlink_packet_sock_diag::constants::*;
 use netlink_packet_sock_diag::inet::{INET_RESPONSE_HEADER_LEN, InetResponseHeader};
+use sock_diag_extras::any::{AnyNla, InfoFormat, Sockets};
+use sock_diag_values::inet::LegacyMemInfo;
 
-/// Everything that a reply contains about an IPv4 or IPv6 socket, except its TCP connection and its
-/// memory, which have separate calls.
+/// Memory of an IPv4 or IPv6 socket in the format of old kernels: `struct inet_diag_meminfo` of
+/// `linux/inet_diag.h`. The fields are those of `struct sockdiag_memory` with the same names.
+#[repr(C)]
+#[derive(Clone, Copy, Default)]
+pub struct LegacyMemory {
+    /// Memory in use by the receive queue, in bytes (`idiag_rmem`, at 0).
+    pub receive_queue: u32,
+    /// Memory in use by the send queue, in bytes (`idiag_wmem`, at 4).
+    pub send_queue: u32,
+    /// Memory that is allocated to the socket and not in use, in bytes (`idiag_fmem`, at 8).
+    pub cache: u32,
+    /// Memory of packets committed to the device queue, in bytes (`idiag_tmem`, at 12).
+    pub bottom_send_queues: u32,
+}
+
+const _: () = prove!(std::mem::size_of::<LegacyMemory>() == 16);
+
+/// Everything that a reply contains about an IPv4 or IPv6 socket, except its connection
+/// (`INET_DIAG_INFO`), which `sockdiag_inet_get_tcp_info` and `sockdiag_inet_get_mptcp_info`
+/// return.
 #[repr(C)]
 #[derive(Clone, Copy, Default)]
 pub struct InetDetails<'a> {
@@ -28,7 +52,7 @@ pub struct InetDetails<'a> {
     /// Directions that are shut down: 1 for receiving, 2 for sending, 3 for both
     /// (`INET_DIAG_SHUTDOWN`).
     pub shutdown: Number,
-    /// Protocol, one of `IPPROTO_..` (`INET_DIAG_PROTOCOL`).
+    /// Protocol, one of `IPPROTO_..` (`INET_DIAG_PROTOCOL`), in events and of raw sockets.
     pub protocol: Number,
     /// 1 if the socket is for IPv6 only, else 0 (`INET_DIAG_SKV6ONLY`).
     pub v6only: Number,
@@ -36,18 +60,23 @@ pub struct InetDetails<'a> {
     pub mark: Number,
     /// Traffic control class of the socket's packets (`INET_DIAG_CLASS_ID`).
     pub class_id: Number,
+    /// Socket memory (`INET_DIAG_SKMEMINFO`).
+    pub memory: Memory,
+    /// 1 if `legacy_memory` is set, else 0.
+    pub has_legacy_memory: u32,
+    /// Socket memory in the format of old kernels (`INET_DIAG_MEMINFO`).
+    pub legacy_memory: LegacyMemory,
 }
 
-const _: () = prove!(std::mem::size_of::<InetDetails<'static>>() == 152);
+const _: () = prove!(std::mem::size_of::<InetDetails<'static>>() == 248);
 
 /// Checks a whole reply about an IPv4 or IPv6 socket, as `sockdiag_check_inet_reply` does, and
-/// returns its header and the attributes that are a text or a number, in one pass over the
-/// attributes. Memory and `struct tcp_info` are checked, and not returned. The bytes are the
-/// payload of the netlink message. Returns 0, and sets all fields: a number that the reply does not
-/// contain is all 0. Or returns the code of the first error, in the order of the bytes, and then
-/// the details are unchanged. The previous contents of the details are not read. Each attribute is
-/// checked, and of several attributes of a kind the first one counts. Texts point into the payload,
-/// and are valid as long as it is.
+/// returns its contents, in one pass over the attributes. `INET_DIAG_INFO` is checked, and not
+/// returned. The bytes are the payload of the netlink message. Returns 0, and sets all fields: a
+/// number or a record that the reply does not contain is all 0. Or returns the code of the first
+/// error, in the order of the bytes, and then the details are unchanged. The previous contents of
+/// the details are not read. Each attribute is checked, and of several attributes of a kind the
+/// first one counts. Texts point into the payload, and are valid as long as it is.
 ///
 /// Attributes without a field, such as `INET_DIAG_MD5SIG` and others that are arrays or nested, are
 /// not an error: `sockdiag_next_attribute` returns them. A reply with a short `INET_DIAG_INFO` is
@@ -64,40 +93,77 @@ pub extern "C" fn sockdiag_inet_get_details<'a>(
     store_details(payload, details)
 }
 
+impl From<LegacyMemInfo> for LegacyMemory {
+    ghost from_gives = { λ value memory. memory ≡ legacy_memory_struct value };
+
+    fn from(memory: LegacyMemInfo) -> LegacyMemory {
+        // `LegacyMemInfo` has the names of the fields at 4 and 12 exchanged.
+        LegacyMemory {
+            receive_queue: memory.receive_queue,
+            send_queue: memory.bottom_send_queue,
+            cache: memory.cache,
+            bottom_send_queues: memory.send_queue,
+        }
+    }
+}
+
 impl<'a> ReplyDetails<'a> for InetDetails<'a> {
-    type Nla = NlaView<'a>;
+    type Nla = AnyNla<'a>;
 
     ghost family = { inet_family };
 
-    ghost model = { inet_nla_view_model };
+    ghost model = { any_model };
 
     #[tactic(auto, using(crate::proofs::InetHeaders::inet_header_rules))]
     #[inline(always)]
     fn parse_header(payload: &'a [u8]) -> Result<(Self, &'a [u8]), DecodeError> {
         let header = InetResponseHeader::from_prefix(payload)?;
         let mut details = InetDetails::default();
-        details.header = InetHeader::from(header);
+        details.header = inet_header(payload, header);
         Ok((details, &payload[INET_RESPONSE_HEADER_LEN..]))
     }
 
     #[inline(always)]
-    fn read(nla: &NlaBuffer<'a>) -> Result<NlaView<'a>, DecodeError> {
-        NlaView::parse(nla)
+    fn read(nla: &NlaBuffer<'a>) -> Result<AnyNla<'a>, DecodeError> {
+        let is_checked = is_checked(nla.kind());
+        read_nla(Sockets::Inet(InfoFormat::Unknown), is_checked, nla)
     }
 
-    fn set(&mut self, nla: NlaView<'a>) {
+    fn set(&mut self, nla: AnyNla<'a>) {
         match nla {
-            NlaView::Congestion(name) => self.congestion.set(TEXT, name.as_bytes()),
-            NlaView::Tos(tos) => self.tos.set(u32::from(tos)),
-            NlaView::Tc(class) => self.tclass.set(u32::from(class)),
-            NlaView::Shutdown(state) => self.shutdown.set(u32::from(state)),
-            NlaView::Protocol(protocol) => self.protocol.set(u32::from(protocol)),
-            NlaView::SkV6Only(only) => self.v6only.set(u32::from(only)),
-            NlaView::Mark(mark) => self.mark.set(mark),
-            NlaView::ClassId(class) => self.class_id.set(class),
-            // These have no field: other calls return memory, `tcp_info` and raw attributes.
-            NlaView::LegacyMemInfo(_) | NlaView::MemInfo(_) | NlaView::TcpInfo(_) => {}
-            NlaView::Other(_) => {}
+            AnyNla::Congestion(name) => self.congestion.set(TEXT, name.as_bytes()),
+            AnyNla::Tos(tos) => self.tos.set(u32::from(tos)),
+            AnyNla::TrafficClass(class) => self.tclass.set(u32::from(class)),
+            AnyNla::Shutdown(directions) => self.shutdown.set(u32::from(directions)),
+            AnyNla::Protocol(protocol) => self.protocol.set(u32::from(protocol)),
+            AnyNla::V6Only(only) => self.v6only.set(u32::from(only)),
+            AnyNla::Mark(mark) => self.mark.set(mark),
+            AnyNla::ClassId(class) => self.class_id.set(class),
+            AnyNla::Memory(memory) => self.memory.set(memory),
+            AnyNla::LegacyMemory(memory) => {
+                let memory = LegacyMemory::from(memory);
+                set_record(memory, &mut self.has_legacy_memory, &mut self.legacy_memory);
+            }
+            // These have no field: other calls return the connection and raw attributes.
+            _ => {}
         }
     }
+}
+
+// Returns whether the kind is one that `sockdiag_check_inet_reply` checks.
+fn is_checked(kind: u16) -> bool
+    ensures { (a : Attribute) → attribute_kind a ≡ kind
+        → result ≡ has_kind inet_attribute_set a }
+{
+    kind == INET_DIAG_MEMINFO
+        || kind == INET_DIAG_INFO
+        || kind == INET_DIAG_CONG
+        || kind == INET_DIAG_TOS
+        || kind == INET_DIAG_TCLASS
+        || kind == INET_DIAG_SKMEMINFO
+        || kind == INET_DIAG_SHUTDOWN
+        || kind == INET_DIAG_PROTOCOL
+        || kind == INET_DIAG_SKV6ONLY
+        || kind == INET_DIAG_MARK
+        || kind == INET_DIAG_CLASS_ID
 }

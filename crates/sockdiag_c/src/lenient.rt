@@ -137,15 +137,15 @@ pub extern "C" fn sockdiag_unix_get_lenient_details<'a>(
 }
 
 /// Returns the header of a reply about an IPv4 or IPv6 socket, the first valid attribute of each
-/// kind that has a field in the details (a text or a number), and the first error of each kind, in
-/// one pass over the attributes. What follows a framing error is not parsed. The bytes are the
-/// payload of the netlink message. Returns 0, and sets all fields of the details and of the
-/// rejections; or the code of the error of the header, and then both are unchanged. The previous
-/// contents of both are not read. The fields are set as `sockdiag_inet_get_details` sets them.
+/// kind that has a field in the details, and the first error of each kind, in one pass over the
+/// attributes. What follows a framing error is not parsed. The bytes are the payload of the netlink
+/// message. Returns 0, and sets all fields of the details and of the rejections; or the code of the
+/// error of the header, and then both are unchanged. The previous contents of both are not read.
+/// The fields are set as `sockdiag_inet_get_details` sets them.
 ///
 /// Use this call to list sockets: a value that this library does not accept, such as the
 /// `INET_DIAG_INFO` of an old kernel or of MPTCP, hides only itself, and not its socket.
-/// `sockdiag_inet_get_long_tcp_info` returns the value of an old kernel as far as it goes, and
+/// `sockdiag_inet_get_tcp_info` returns the value of an old kernel as far as it goes, and
 /// `sockdiag_inet_get_mptcp_info` that of MPTCP, which is another struct.
 #[unsafe(no_mangle)]
 pub extern "C" fn sockdiag_inet_get_lenient_details<'a>(

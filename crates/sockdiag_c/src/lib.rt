@@ -20,7 +20,6 @@ mod lenient;
 mod messages;
 mod netlink_details;
 mod packet_details;
-mod pending;
 mod requests;
 mod rewriting;
 mod tcp_info;

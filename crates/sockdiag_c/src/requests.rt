@@ -7,7 +7,7 @@ ghost use Rattle.netlink_core.specs.Header.{header_bytes};
 ghost use Rattle.sock_diag_records.specs.InetRequest.{inet_request};
 ghost use Rattle.sock_diag_records.specs.UnixRequest.{unix_request};
 ghost use Rattle.sockdiag_c.specs.Requests.{WritesInetMessage, WritesMessage, address_of_family};
-ghost use Rattle.sockdiag_c.specs.Requests.{inet_request_from_c, request_header_of};
+ghost use Rattle.sockdiag_c.specs.Requests.{inet_request_from_c, protocol_byte, request_header_of};
 ghost use Rattle.sockdiag_c.specs.Requests.{unix_message, unix_request_from_c};
 
 use bitflags::Flags;
@@ -73,12 +73,10 @@ pub struct InetRequest {
     /// (`idiag_ext`). For MPTCP, and for kernels without `tcpi_snd_wnd`, leave out
     /// `INET_DIAG_INFO`, or use a lenient call: `sockdiag_inet_get_details` rejects their replies.
     pub extensions: u8,
-    /// Protocol, one of `IPPROTO_..`. Request one protocol at a time, since replies do not contain
-    /// it. The low byte is written to the record (`sdiag_protocol`, byte 17 of the message). A
-    /// protocol above 255, such as `IPPROTO_MPTCP`, is also written as an attribute
-    /// `INET_DIAG_REQ_PROTOCOL`. A kernel that does not know this attribute may ignore it. The low
-    /// byte of `IPPROTO_MPTCP` is `IPPROTO_TCP`, so it then lists TCP sockets again. If byte 17 is
-    /// set to 0 before the message is sent, such a kernel answers with an error instead.
+    /// Protocol, one of `IPPROTO_..` (`sdiag_protocol`). Request one protocol at a time: replies to
+    /// a request do not contain it. A protocol above 255, such as `IPPROTO_MPTCP`, is written as an
+    /// attribute `INET_DIAG_REQ_PROTOCOL`, and `sdiag_protocol` is 0. A kernel that does not know
+    /// the attribute answers with an error.
     pub protocol: u32,
     /// States to include, with the bit `1 << TCP_LISTEN` for `TCP_LISTEN` (`idiag_states`).
     /// `UINT32_MAX` includes all. The bit `1 << TCP_BOUND_INACTIVE` includes TCP sockets that are
@@ -107,28 +105,23 @@ const _: () = prove!(std::mem::size_of::<InetRequest>() == 72);
 /// written.
 #[unsafe(no_mangle)]
 pub extern "C" fn sockdiag_write_unix_request(request: &UnixRequest, buffer: &mut [u8]) -> usize
-    ensures { WritesMessage 40 (unix_message SOCK_DIAG_BY_FAMILY request.now)
+    ensures { WritesMessage 40 (unix_message request.now)
         record { old = buffer.old; new = buffer.new; returned = result } }
 {
-    write_unix(SOCK_DIAG_BY_FAMILY, request, buffer)
-}
-
-/// Writes a request for the kernel to close the UNIX socket with the inode and the cookie, at the
-/// start of the buffer. It is a netlink message of 40 bytes, of type `SOCK_DESTROY` (21), and else
-/// equal to the one of `sockdiag_write_unix_request`. Returns 40, or 0 if the buffer is shorter;
-/// then nothing is written. Linux answers it with `EOPNOTSUPP`.
-#[unsafe(no_mangle)]
-pub extern "C" fn sockdiag_write_unix_destroy(request: &UnixRequest, buffer: &mut [u8]) -> usize
-    ensures { WritesMessage 40 (unix_message SOCK_DESTROY request.now)
-        record { old = buffer.old; new = buffer.new; returned = result } }
-{
-    write_unix(SOCK_DESTROY, request, buffer)
+    let record = unix::UnixRequest {
+        state_flags: unix::StateFlags::from_bits_retain(request.states),
+        inode: request.inode,
+        show_flags: ShowFlags::from_bits_retain(request.show),
+        cookie: request.cookie,
+    };
+    write_message(SOCK_DIAG_BY_FAMILY, &request.header, &record, &[], buffer)
 }
 
 /// Writes a request for IPv4 or IPv6 sockets at the start of the buffer; bytes after it are
 /// unchanged. It is a netlink message of 72 bytes, or of 80 if the protocol is above 255. Returns
 /// the number of bytes that were written. Returns 0 if the buffer is shorter, or if the family is
-/// neither `AF_INET` nor `AF_INET6`; then nothing is written.
+/// neither `AF_INET` nor `AF_INET6`; then nothing is written. In a buffer of
+/// `SOCKDIAG_INET_REQUEST_LENGTH` bytes, 0 means that the family is invalid.
 #[unsafe(no_mangle)]
 pub extern "C" fn sockdiag_write_inet_request(request: &InetRequest, buffer: &mut [u8]) -> usize
     ensures { WritesInetMessage SOCK_DIAG_BY_FAMILY request.now
@@ -151,21 +144,6 @@ pub extern "C" fn sockdiag_write_inet_destroy(request: &InetRequest, buffer: &mu
         record { old = buffer.old; new = buffer.new; returned = result } }
 {
     write_inet(SOCK_DESTROY, request, buffer)
-}
-
-// Writes a request for UNIX sockets with this message type. Returns 40, or 0 if the buffer is
-// shorter; then nothing is written.
-fn write_unix(message_type: u16, request: &UnixRequest, buffer: &mut [u8]) -> usize
-    ensures { WritesMessage 40 (unix_message message_type request.now)
-        record { old = buffer.old; new = buffer.new; returned = result } }
-{
-    let record = unix::UnixRequest {
-        state_flags: unix::StateFlags::from_bits_retain(request.states),
-        inode: request.inode,
-        show_flags: ShowFlags::from_bits_retain(request.show),
-        cookie: request.cookie,
-    };
-    write_message(message_type, &request.header, &record, &[], buffer)
 }
 
 // Writes a request for IPv4 or IPv6 sockets with this message type. Returns the number of bytes
@@ -194,7 +172,7 @@ fn inet_record(request: &InetRequest) -> inet::InetRequest
 {
     inet::InetRequest {
         family: request.family,
-        protocol: (request.protocol % 256) as u8,
+        protocol: protocol_byte(request.protocol),
         extensions: ExtensionFlags::from_bits_retain(request.extensions),
         states: inet::StateFlags::from_bits_retain(request.states),
         socket_id: SocketId {
@@ -206,6 +184,13 @@ fn inet_record(request: &InetRequest) -> inet::InetRequest
             cookie: request.cookie,
         },
     }
+}
+
+// Returns `sdiag_protocol` of a request: the protocol, or 0 if it needs an attribute.
+fn protocol_byte(protocol: u32) -> u8
+    ensures { result ≡ protocol_byte protocol }
+{
+    if protocol < 256 { protocol as u8 } else { 0 }
 }
 
 // Returns the address in the bytes, of the IP version of the family: IPv4 for `AF_INET`, else IPv6.

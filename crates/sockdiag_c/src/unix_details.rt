@@ -1,16 +1,18 @@
 //! The contents of a reply about a UNIX socket, as a C struct.
 
 ghost use Rattle.std.specs.Prelude.{◌≡◌, ◌≢◌};
-ghost use Rattle.sock_diag_attributes.specs.UnixModel.{unix_nla_view_model};
+ghost use Rattle.sock_diag_extras.specs.AnyNla.{any_model};
 ghost use Rattle.sockdiag_c.specs.Family.{AreDetailsOf, IsCodeOf, IsFirstError};
 ghost use Rattle.sockdiag_c.specs.UnixDetails.{unix_family};
 
 use crate::details::{ABSTRACT, Number, ReplyDetails, TEXT, Text, store_details};
-use crate::family_values::split_header;
+use crate::family_values::{Memory, read_nla, split_header};
 use crate::headers::UnixHeader;
 use netlink_core::{DecodeError, NlaBuffer};
+use netlink_packet_sock_diag::constants::UNIX_DIAG_SHUTDOWN;
 use netlink_packet_sock_diag::unix::UnixResponseHeader;
-use netlink_packet_sock_diag::unix::nlas::{NameView, NlaView};
+use netlink_packet_sock_diag::unix::nlas::NameView;
+use sock_diag_extras::any::{AnyNla, Sockets};
 
 /// Everything that a reply contains about a UNIX socket, except the connections that wait to be
 /// accepted.
@@ -35,21 +37,17 @@ pub struct UnixDetails<'a> {
     /// Limit of these connections for a listening socket, else bytes of memory in use by data that
     /// was sent and has not been read (`udiag_wqueue` of `UNIX_DIAG_RQLEN`).
     pub send_queue: Number,
-    /// Size of the receive buffer in bytes (`SK_MEMINFO_RCVBUF` of `UNIX_DIAG_MEMINFO`).
-    pub receive_buffer: Number,
-    /// Size of the send buffer in bytes, the limit of a datagram (`SK_MEMINFO_SNDBUF` of
-    /// `UNIX_DIAG_MEMINFO`).
-    pub send_buffer: Number,
-    /// Memory of data queued for sending, in bytes (`SK_MEMINFO_WMEM_QUEUED` of
-    /// `UNIX_DIAG_MEMINFO`). Linux sends 0, and counts data that the peer has not read in
-    /// `SK_MEMINFO_WMEM_ALLOC`, which has no field here: use `send_queue`.
-    pub queued: Number,
+    /// Socket memory (`UNIX_DIAG_MEMINFO`). Linux counts sent data that was not yet read in
+    /// `bottom_send_queues`, and `send_queue` is 0.
+    pub memory: Memory,
     /// Directions that are shut down: 1 for receiving, 2 for sending, 3 for both
     /// (`UNIX_DIAG_SHUTDOWN`).
     pub shutdown: Number,
+    /// User id of the owner (`UNIX_DIAG_UID`). It is not set if the value does not have 4 bytes.
+    pub owner: Number,
 }
 
-const _: () = prove!(std::mem::size_of::<UnixDetails<'static>>() == 112);
+const _: () = prove!(std::mem::size_of::<UnixDetails<'static>>() == 168);
 
 /// Checks a whole reply about a UNIX socket, as `sockdiag_check_unix_reply` does, and returns its
 /// contents, in one pass over the attributes. The bytes are the payload of the netlink message.
@@ -59,9 +57,8 @@ const _: () = prove!(std::mem::size_of::<UnixDetails<'static>>() == 112);
 /// attributes of a kind the first one counts. Texts point into the payload, and are valid as long
 /// as it is. The family, the first byte, is not checked: use it to choose the call.
 ///
-/// Attributes without a field, such as `UNIX_DIAG_UID`, are not an error: `sockdiag_next_attribute`
-/// returns them. Old kernels send values that are rejected: `sockdiag_unix_get_lenient_details`
-/// returns the other attributes.
+/// Attributes without a field are not an error: `sockdiag_next_attribute` returns them. Old kernels
+/// send values that are rejected: `sockdiag_unix_get_lenient_details` returns the other attributes.
 #[unsafe(no_mangle)]
 pub extern "C" fn sockdiag_unix_get_details<'a>(
     payload: &'a [u8],
@@ -75,11 +72,11 @@ pub extern "C" fn sockdiag_unix_get_details<'a>(
 }
 
 impl<'a> ReplyDetails<'a> for UnixDetails<'a> {
-    type Nla = NlaView<'a>;
+    type Nla = AnyNla<'a>;
 
     ghost family = { unix_family };
 
-    ghost model = { unix_nla_view_model };
+    ghost model = { any_model };
 
     #[inline(always)]
     fn parse_header(payload: &'a [u8]) -> Result<(Self, &'a [u8]), DecodeError> {
@@ -90,33 +87,31 @@ impl<'a> ReplyDetails<'a> for UnixDetails<'a> {
     }
 
     #[inline(always)]
-    fn read(nla: &NlaBuffer<'a>) -> Result<NlaView<'a>, DecodeError> {
-        NlaView::parse(nla)
+    fn read(nla: &NlaBuffer<'a>) -> Result<AnyNla<'a>, DecodeError> {
+        // The kinds that a check knows are 0 to 6.
+        read_nla(Sockets::Unix, nla.kind() <= UNIX_DIAG_SHUTDOWN, nla)
     }
 
-    fn set(&mut self, nla: NlaView<'a>) {
+    fn set(&mut self, nla: AnyNla<'a>) {
         match nla {
-            NlaView::Name(NameView::Pathname(path)) => self.name.set(TEXT, path),
-            NlaView::Name(NameView::Abstract(address)) => self.name.set(ABSTRACT, address),
-            NlaView::Vfs(file) => {
+            AnyNla::Name(name) => match name {
+                NameView::Pathname(path) => self.name.set(TEXT, path),
+                NameView::Abstract(address) => self.name.set(ABSTRACT, address),
+            },
+            AnyNla::Vfs(file) => {
                 self.file_inode.set(file.inode());
                 self.file_device.set(file.device());
             }
-            NlaView::Peer(inode) => self.peer.set(inode),
-            NlaView::ReceiveQueueLength(first, second) => {
-                self.recv_queue.set(first);
-                self.send_queue.set(second);
+            AnyNla::Peer(inode) => self.peer.set(inode),
+            AnyNla::QueueLengths(receive, send) => {
+                self.recv_queue.set(receive);
+                self.send_queue.set(send);
             }
-            // The port calls `SK_MEMINFO_SNDBUF` `max_datagram_size`, and `SK_MEMINFO_WMEM_QUEUED`
-            // `alloc`.
-            NlaView::MemInfo(memory) => {
-                self.receive_buffer.set(memory.so_rcvbuf);
-                self.send_buffer.set(memory.max_datagram_size);
-                self.queued.set(memory.alloc);
-            }
-            NlaView::Shutdown(state) => self.shutdown.set(u32::from(state)),
-            // These have no field: other calls return pending connections and raw attributes.
-            NlaView::PendingConnections(_) | NlaView::Other(_) => {}
+            AnyNla::Memory(memory) => self.memory.set(memory),
+            AnyNla::Shutdown(directions) => self.shutdown.set(u32::from(directions)),
+            AnyNla::Owner(user) => self.owner.set(user),
+            // These have no field: `sockdiag_next_attribute` returns them.
+            _ => {}
         }
     }
 }

@@ -3,7 +3,6 @@ use Rattle.std.proofs.Common.{◌≡◌, refl}
 use Rattle.sockdiag_c.specs.declared.details.TheConstants as details
 use Rattle.sockdiag_c.specs.declared.headers.TheConstants as headers
 use Rattle.sockdiag_c.specs.declared.lenient.TheConstants.{REJECTION_KINDS}
-use Rattle.sockdiag_c.specs.declared.tcp_info.TheConstants as tcp_info
 
 -- kinds of texts: SOCKDIAG_TEXT, SOCKDIAG_ABSTRACT and SOCKDIAG_BYTES of include/sockdiag.h
 pub text_kinds : (details.TEXT ≡ 1) × (details.ABSTRACT ≡ 2) × (details.BYTES ≡ 3)
@@ -16,8 +15,3 @@ reply_kinds = (refl, refl)
 -- SOCKDIAG_REJECTION_KINDS of include/sockdiag.h
 pub rejection_kinds : REJECTION_KINDS ≡ 32
 rejection_kinds = refl
-
--- lengths of the buffers of sockdiag_inet_get_long_tcp_info and sockdiag_inet_get_mptcp_info of
--- include/sockdiag.h
-pub buffer_lengths : (tcp_info.LONG_TCP_INFO_LEN ≡ 280) × (tcp_info.MPTCP_INFO_LEN ≡ 96)
-buffer_lengths = (refl, refl)

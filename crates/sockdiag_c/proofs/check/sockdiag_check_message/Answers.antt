@@ -1,4 +1,5 @@
 use Rattle.std.proofs.Common.{inl, refl}
+use Rattle.sock_diag_replies.specs.laws.InetResponseSpec.{inet_header_bytes_suffice}
 use Rattle.netlink_packet_sock_diag.specs.MessageViewModel.{message_view_model}
 use Rattle.sockdiag_c.proofs.check.sockdiag_check_message.Goals as goal
 
@@ -20,7 +21,7 @@ pub returns-in-Ok-InetResponse : goal.returns-in-Ok-InetResponse
 returns-in-Ok-InetResponse c =
     let read = c.in-Ok-InetResponse in
     let header = c.header-in-Ok-InetResponse.ensures in
-    let found = c.from-reply-in-Ok-InetResponse.ensures in
+    let found = c.inet_header-reply.ensures in
     inl (
       refl,
       (
@@ -29,3 +30,9 @@ returns-in-Ok-InetResponse c =
         rw (read.field-0-is, found, header) refl,
       ),
     )
+
+pub inet_header-reply-requires : goal.inet_header-reply-requires
+inet_header-reply-requires c =
+    let read = c.in-Ok-InetResponse in
+    let value = rw read.field-0-is at read.ensures.value in
+    inet_header_bytes_suffice _ _ value.1.0

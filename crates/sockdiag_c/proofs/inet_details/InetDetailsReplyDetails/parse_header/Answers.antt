@@ -4,7 +4,7 @@ use Rattle.sockdiag_c.proofs.inet_details.InetDetailsReplyDetails.parse_header.G
 
 pub returns-clause-header : goal.returns-clause-header
 returns-clause-header c =
-    grind (arith, c.from_prefix.ensures.value, c.from-details.ensures)
+    grind (arith, c.from_prefix.ensures.value, c.inet_header-details.ensures)
 
 pub returns-clause-rest : goal.returns-clause-rest
 returns-clause-rest c = take_rest c.args.payload.now 72
