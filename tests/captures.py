@@ -837,6 +837,31 @@ def lists_replies_of_older_types(sslist):
                                               "packets are at least 2 bytes"])
 
 
+def lists_by_the_protocol_of_a_reply(sslist):
+    """INET_DIAG_PROTOCOL, which events about closed sockets have, is the protocol of the socket,
+    whatever was requested. Replies about raw sockets have the protocol of their packets there."""
+    raw = TCP_REQUEST[:34] + "ff" + TCP_REQUEST[36:]
+    for requests, values, name, option in (
+        ((), ("11",), "udp  ", "-u"), ((), ("06",), "tcp  ", "-t"),
+        ((TCP_REQUEST,), ("11",), "udp  ", "-u"), ((SCTP_REQUEST,), ("06",), "tcp  ", "-t"),
+        ((TCP_REQUEST,), (), "tcp  ", "-t"), ((TCP_REQUEST,), ("1100",), "tcp  ", "-t"),
+        ((), ("1100", "11", "06"), "udp  ", "-u"), ((TCP_REQUEST,), ("01",), "inet ", "-4"),
+        ((raw,), ("06",), "raw  ", "-4"), ((raw,), ("01",), "raw  ", "-4"),
+        ((raw,), (), "raw  ", "-4"),
+    ):
+        reply = with_attributes(OBJECTS[4][0], *((10, value) for value in values))
+        capture = pcap(HEADERS[0], *((SOCK_DIAG, it) for it in requests), (SOCK_DIAG, reply))
+        columns = INET4_LINE.splitlines()[0].replace("inet ", name) + "\n"
+        sslist.run(capture, ["-oO", option], [columns])
+        for other in {"-t", "-u"} - {option}:
+            sslist.run(capture, ["-oO", other], [])
+        assert sslist.objects(capture)[0]["netid"] == name.strip()
+    reply = with_attributes(SHORT_INFO, (10, "06"))
+    sslist.run(pcap(HEADERS[0], (SOCK_DIAG, reply)), ["-tiO"], [
+        "tcp   ", SHORT_INFO_COLUMNS.splitlines()[0],
+        " ts sack wscale:(7,9) rto:204000 rtt:100 rttvar:50 cwnd:10 retrans:3\n"])
+
+
 def separates_lists(sslist):
     """A request with the type and the bytes of the first one begins another list, whatever its flags
     and numbers are. Other requests do not, also if they are repeated. -H omits the heading, and
@@ -975,7 +1000,8 @@ def main():
         selects_associations_by_state, names_timers, shows_names_in_utf8, lists_objects,
         selects_by_address,
         selects_states_without_a_name, lists_requests, lists_by_the_last_protocol_of_a_request,
-        lists_replies_of_older_types, separates_lists, lists_a_long_datagram,
+        lists_replies_of_older_types, lists_by_the_protocol_of_a_reply, separates_lists,
+        lists_a_long_datagram,
         reports_where_a_capture_is_truncated, reports_why, reports_another_capture,
         lists_sections_of_both_orders, lists_times_of_requests, reports_where_a_file_is_truncated,
         reports_invalid_blocks,

@@ -3,6 +3,7 @@ pub mod texts
 pub mod Messages
 pub mod Requests
 pub mod Lists
+pub mod Protocol
 pub mod Sctp
 pub mod Selection
 pub mod Table

@@ -1,6 +1,7 @@
 -- The lines and diagnostics of messages, datagrams and packets of a capture. `b` is the payload of
 -- a message. `list` is the number of the list of sockets that a reply belongs to (`PastRequests`),
--- and `protocol` is the protocol of its request, None if that is not known.
+-- `requested` is the protocol of its request, and `protocol` that of the socket, each None if it is
+-- not known.
 use Rattle.std.specs.Prelude.{◌≡◌, ◌↔◌, Bool, true, false, IsTrue, ℕ, ℤ, pos, negsuc, ◌+◌}
 use Rattle.std.specs.Prelude.{◌==◌, ◌&&◌, ◌||◌, if◌then◌else◌, nat_le, nat_lt, List, [], ◌++◌}
 use Rattle.std.specs.Prelude.{◌≤◌, ◌⊎◌}
@@ -36,6 +37,7 @@ use Rattle.sock_diag_families.specs.VsockResponseHeader.{vsock_header}
 use Rattle.sock_diag_families.specs.XdpResponseHeader.{xdp_header}
 use Rattle.sslist_lister.specs.Collected.{Summary, summary_of}
 use Rattle.sock_diag_extras.specs.Pieces.{AttributeOrError, framing_error_of, pieces_in}
+use Rattle.sslist_lister.specs.Protocol.{protocol_of_reply}
 use Rattle.sslist_lister.specs.Sctp.{is_association}
 use Rattle.sslist_lister.specs.Table.{info_of_reply}
 use Rattle.sock_diag_extras.specs.declared.any.nla.Sockets.{Sockets}
@@ -120,13 +122,12 @@ family_error (Some Vsock) b = reply_error vsock_header b
 family_error (Some Xdp) b = reply_error xdp_header b
 family_error None b = None
 
--- `is_association_in protocol b`: the reply with the payload `b` is about an SCTP association.
--- `protocol` is the protocol of the request.
+-- `is_association_in protocol b`: the reply with the payload `b` is about an SCTP association
 abbrev pub is_association_in : Option ℕ → List ℕ → Bool
 is_association_in protocol b = is_association protocol (drop inet_response_header.least b)
 
 -- `inet_socket protocol b header`: the IPv4 or IPv6 socket of the reply with the payload `b`, which
--- begins with this header. `protocol` is the protocol of the request.
+-- begins with this header
 abbrev pub inet_socket : Option ℕ → List ℕ → InetResponseHeader → InetSocket
 inet_socket protocol b header = record {
   protocol = protocol;
@@ -134,6 +135,14 @@ inet_socket protocol b header = record {
   timer = timer_in b;
   header = header;
 }
+
+-- `inet_reply_lines o list protocol b`: the lines of the reply with the payload `b`, about an IPv4
+-- or IPv6 socket of this protocol
+abbrev pub inet_reply_lines : Options → ℕ → Option ℕ → List ℕ → List ℕ
+inet_reply_lines o list protocol b =
+    reply_lines inet_response_header
+    (about.Inet (info_of_reply protocol (is_association_in protocol b)))
+    (λ header s. inet_output o list (inet_socket protocol b header) s) b
 
 -- a reply of this type of message is about an IPv4 or IPv6 socket
 abbrev pub is_inet_type : ℕ → Bool
@@ -146,22 +155,19 @@ abbrev pub reply_kind : List ℕ → ℕ → Result MessageKind DecodeError
 reply_kind b t =
     if is_inet_type t && nat_le 2 (length b) then Ok inet_response else response_kind b t
 
--- `payload_lines o list protocol kind b`: the lines of the payload `b`, in the list of the number
+-- `payload_lines o list requested kind b`: the lines of the payload `b`, in the list of the number
 -- `list`. `kind` is the kind of the reply, or the reason why it is not one. `b` begins with the
--- header, a `struct unix_diag_msg` or a `struct inet_diag_msg`. `protocol` is the protocol of the
--- request, if it is known. A payload that is not a reply has no lines, except for one about a
--- netlink, packet, vsock or XDP socket (`family_lines`).
+-- header, a `struct unix_diag_msg` or a `struct inet_diag_msg`. A payload that is not a reply has
+-- no lines, except for one about a netlink, packet, vsock or XDP socket (`family_lines`).
 abbrev pub payload_lines : Options → ℕ → Option ℕ → Result MessageKind DecodeError → List ℕ
     → List ℕ
-payload_lines o list protocol (Ok unix_response) b =
+payload_lines o list requested (Ok unix_response) b =
     reply_lines unix_response_header about.Unix (unix_output o list) b
-payload_lines o list protocol (Ok inet_response) b =
-    reply_lines inet_response_header
-    (about.Inet (info_of_reply protocol (is_association_in protocol b)))
-    (λ header s. inet_output o list (inet_socket protocol b header) s) b
-payload_lines o list protocol (Err (UnknownFamily n)) b =
+payload_lines o list requested (Ok inet_response) b =
+    inet_reply_lines o list (protocol_of_reply requested b) b
+payload_lines o list requested (Err (UnknownFamily n)) b =
     family_lines o list (family_numbered n) b
-payload_lines o list protocol _ b = []
+payload_lines o list requested _ b = []
 
 -- `payload_error kind b`: the decode error of the payload `b`: that of the reply, or the reason why
 -- it is not a reply. An invalid value of an attribute is not considered. `UnknownFamily n` is the

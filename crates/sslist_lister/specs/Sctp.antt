@@ -12,7 +12,7 @@ use Rattle.sslist_lister.specs.texts.Cells.{state_name}
 
 -- `is_association protocol bytes`: a reply with the attributes in `bytes` is about an association.
 -- The kernel sends INET_DIAG_PEERS about each association, and about nothing else. `protocol` is
--- the protocol of the request, None if that is not known.
+-- the protocol of the socket, None if that is not known.
 abbrev pub is_association : Option ℕ → List ℕ → Bool
 is_association protocol bytes =
     option_map_or (λ number. number == IPPROTO_SCTP) protocol true

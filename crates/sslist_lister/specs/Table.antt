@@ -163,8 +163,8 @@ abbrev pub unix_lines : Options → UnixResponseHeader → Summary → List ℕ
 unix_lines o h s =
     unix_columns o h s ++ details_after_separator o (details o no_timer h.cookie s) ++ 10 ∷ []
 
--- the format of INET_DIAG_INFO of a socket, by the protocol of the request; Unknown for any other
--- protocol, or if it is not known (None)
+-- the format of INET_DIAG_INFO of a socket of this protocol; Unknown for any other protocol, or if
+-- it is not known (None)
 abbrev pub info_of_protocol : Option ℕ → InfoFormat
 info_of_protocol None = Unknown
 info_of_protocol (Some protocol) =
@@ -172,7 +172,7 @@ info_of_protocol (Some protocol) =
     else if protocol == IPPROTO_SCTP then Sctp else Unknown
 
 -- `info_of_reply protocol is_association`: the format of INET_DIAG_INFO of a socket, or of an SCTP
--- association, whose request may be unknown
+-- association, whose protocol may be unknown
 abbrev pub info_of_reply : Option ℕ → Bool → InfoFormat
 info_of_reply protocol is_association =
     if is_association then Sctp else info_of_protocol protocol

@@ -34,6 +34,7 @@ mod name_cells;
 mod number_names;
 mod others;
 mod pieces;
+mod protocol;
 mod request_line;
 mod requests;
 mod sctp;

@@ -1,7 +1,7 @@
 //! Lines of the replies about UNIX, IPv4 and IPv6 sockets. If a function of this module fails, an
 //! allocation failed, and the content of the text is not specified. `list` is the number of the
 //! list of sockets that a reply belongs to, since a repeated request begins another list; only JSON
-//! has it. `protocol` is that of the request that a reply answers, if it is known.
+//! has it. `protocol` is that of the socket, if it is known.
 //!
 //! In the contracts, `pieces_in bytes` is each attribute in the bytes, and then the framing error,
 //! if there is one. `collected found.now` is what the attributes in `found` say.
@@ -17,10 +17,11 @@ ghost use Rattle.sslist_lister.specs.Collected.{collected, first_in, summary_of}
 ghost use Rattle.sslist_lister.specs.JsonAttributes.{socket_json};
 ghost use Rattle.sslist_lister.specs.JsonListing.{inet_output, unix_output};
 ghost use Rattle.sslist_lister.specs.JsonSockets.{inet_header_members, unix_header_members};
-ghost use Rattle.sslist_lister.specs.Listing.{inet_socket, is_association_in, is_inet_type};
+ghost use Rattle.sslist_lister.specs.Listing.{inet_reply_lines, is_inet_type};
 ghost use Rattle.sslist_lister.specs.Listing.{reply_error, reply_kind, reply_lines};
 ghost use Rattle.sslist_lister.specs.Listing.{payload_error, payload_lines};
 ghost use Rattle.sock_diag_extras.specs.Pieces.{framing_error_of, pieces_in};
+ghost use Rattle.sslist_lister.specs.Protocol.{protocol_of_reply};
 ghost use Rattle.sslist_lister.specs.Selection.{lists_inet};
 ghost use Rattle.sslist_lister.specs.Table.{inet_columns, inet_first_columns, inet_lines};
 ghost use Rattle.sslist_lister.specs.Table.{info_of_reply, unix_columns, unix_first_columns};
@@ -35,6 +36,7 @@ use crate::kinds::{name_of_inet_kind, name_of_unix_kind};
 use crate::name_cells::push_name_column;
 use crate::others::push_other;
 use crate::pieces::find_framing_error;
+use crate::protocol::protocol_of_reply;
 use crate::sctp::{is_association, name_of_inet_state, tcp_state_of};
 use crate::texts::cells::{
     Cells, name_of_state, push_endpoint, push_endpoint_column, push_first_columns,
@@ -64,7 +66,8 @@ pub(crate) const LOCAL_WIDTH: usize = 30;
 /// No interface, for the peer: the interface is shown after the local address only.
 const NO_INTERFACE: u32 = 0;
 
-/// Appends the lines of a message of this type with this payload.
+/// Appends the lines of a message of this type with this payload. `requested` is the protocol of
+/// the request that the message answers, if it is known.
 ///
 /// Returns the decode error of the message, if it has one: it is not a reply, its header is
 /// invalid, or bytes after the header are not an attribute. An attribute with an invalid value is
@@ -73,12 +76,12 @@ pub(crate) fn push_reply(
     text: &mut Vec<u8>,
     options: Options,
     list: u64,
-    protocol: Option<u32>,
+    requested: Option<u32>,
     message_type: u16,
     payload: &[u8],
 ) -> Result<Option<DecodeError>, AllocError>
     ensures lines { OnOk result (text.new.items ≡ text.old.items ++ payload_lines options list
-        protocol (reply_kind payload.now message_type) payload.now) }
+        requested (reply_kind payload.now message_type) payload.now) }
     ensures error { IfOk result (λ error.
         error ≡ payload_error (reply_kind payload.now message_type) payload.now) }
 {
@@ -87,14 +90,14 @@ pub(crate) fn push_reply(
         return Ok(Some(DecodeError::MessageTooShort { got }));
     }
     if is_inet_type(message_type) {
-        return push_inet(text, options, list, protocol, payload);
+        return push_inet(text, options, list, requested, payload);
     }
     if message_type != SOCK_DIAG_BY_FAMILY {
         return Ok(Some(DecodeError::UnknownMessageType { message_type }));
     }
     match payload[0] {
         AF_UNIX => push_unix(text, options, list, payload),
-        AF_INET | AF_INET6 => push_inet(text, options, list, protocol, payload),
+        AF_INET | AF_INET6 => push_inet(text, options, list, requested, payload),
         family => push_other(text, options, list, family, payload),
     }
 }
@@ -255,7 +258,7 @@ fn user_in(found: &Attributes<'_>) -> Option<u32>
 /// An IPv4 or IPv6 socket.
 #[derive(Drop)]
 pub(crate) struct InetSocket {
-    /// The protocol of the request, if it is known.
+    /// The protocol of the socket, if it is known.
     pub(crate) protocol: Option<u32>,
     /// Whether the reply is about an SCTP association instead of a socket.
     pub(crate) is_association: bool,
@@ -265,9 +268,26 @@ pub(crate) struct InetSocket {
     pub(crate) header: InetResponseHeader,
 }
 
-/// Appends what is written for an IPv4 or IPv6 socket, if the options select it. Returns the error
-/// of the header, or else of the bytes after the last attribute, if there is one.
+/// Appends what is written for an IPv4 or IPv6 socket, if the options select it. `requested` is the
+/// protocol of the request that the reply answers, if it is known. Returns the error of the header,
+/// or else of the bytes after the last attribute, if there is one.
 fn push_inet(
+    text: &mut Vec<u8>,
+    options: Options,
+    list: u64,
+    requested: Option<u32>,
+    payload: &[u8],
+) -> Result<Option<DecodeError>, AllocError>
+    ensures lines { OnOk result (text.new.items ≡ text.old.items
+        ++ inet_reply_lines options list (protocol_of_reply requested payload.now) payload.now) }
+    ensures error { IfOk result (λ error. error ≡ reply_error inet_response_header payload.now) }
+{
+    let protocol = protocol_of_reply(requested, payload);
+    push_inet_reply(text, options, list, protocol, payload)
+}
+
+/// Does what [`push_inet`] does, for a socket of this protocol.
+fn push_inet_reply(
     text: &mut Vec<u8>,
     options: Options,
     list: u64,
@@ -275,11 +295,7 @@ fn push_inet(
     payload: &[u8],
 ) -> Result<Option<DecodeError>, AllocError>
     ensures lines { OnOk result (text.new.items ≡ text.old.items
-        ++ reply_lines inet_response_header
-        (Inet (info_of_reply protocol (is_association_in protocol payload.now)))
-        (λ header summary.
-        inet_output options list (inet_socket protocol payload.now header) summary)
-        payload.now) }
+        ++ inet_reply_lines options list protocol payload.now) }
     ensures error { IfOk result (λ error. error ≡ reply_error inet_response_header payload.now) }
 {
     match InetResponseHeader::from_prefix(payload) {

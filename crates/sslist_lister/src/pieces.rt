@@ -6,6 +6,7 @@ ghost use Rattle.std.specs.Prelude.{◌≡◌, option_map};
 ghost use Rattle.netlink_core.specs.Walk.{buffered_attribute};
 ghost use Rattle.sock_diag_extras.specs.Pieces.{YieldsFirstPiece, first_of_kind, pieces_in};
 ghost use Rattle.sock_diag_extras.specs.Pieces.{framing_error_of, last_of_kind};
+ghost use Rattle.sslist_lister.specs.Protocol.{first_byte};
 
 use netlink_core::{DecodeError, NlaBuffer, NlasIterator};
 
@@ -30,6 +31,21 @@ pub(crate) fn find_kind<'a>(bytes: &'a [u8], kind: u16) -> Option<NlaBuffer<'a>>
     while let Some(piece) = next_piece(&mut walk) {
         match piece {
             Ok(nla) if nla.kind() == kind => return Some(nla),
+            _ => {}
+        }
+    }
+    None
+}
+
+/// Returns the value of the first attribute of this kind whose value is one byte. Returns `None` if
+/// there is none before the end, or before bytes that are not an attribute.
+pub(crate) fn find_byte(bytes: &[u8], kind: u16) -> Option<u8>
+    ensures { result ≡ first_byte kind (pieces_in bytes.now) }
+{
+    let mut walk = NlasIterator::new(bytes);
+    while let Some(piece) = next_piece(&mut walk) {
+        match piece {
+            Ok(nla) if nla.kind() == kind && nla.value().len() == 1 => return Some(nla.value()[0]),
             _ => {}
         }
     }

@@ -16,7 +16,7 @@ const NO_TCP_STATE: u8 = u8::MAX;
 
 /// Returns whether a reply with the attributes in `bytes` is about an association. The kernel sends
 /// `INET_DIAG_PEERS` about each association, and about nothing else. `protocol` is that of the
-/// request, if it is known.
+/// socket, if it is known.
 pub(crate) fn is_association(protocol: Option<u32>, bytes: &[u8]) -> bool
     ensures { result ≡ is_association protocol bytes.now }
 {

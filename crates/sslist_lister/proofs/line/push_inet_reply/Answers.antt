@@ -3,7 +3,7 @@ use Rattle.std.proofs.lemmas.List.{take_rest}
 use Rattle.netlink_core.proofs.LayoutLaws.{parsed_by_fields}
 use Rattle.sock_diag_records.specs.InetResponse.{inet_response_header}
 use Rattle.sock_diag_records.specs.laws.InetResponse.{inet_response_header_has_fixed_length}
-use Rattle.sslist_lister.proofs.line.push_inet.Goals as goal
+use Rattle.sslist_lister.proofs.line.push_inet_reply.Goals as goal
 
 pub slice_bounds-attributes-count : goal.slice_bounds-attributes-count
 slice_bounds-attributes-count c =
