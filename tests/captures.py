@@ -827,14 +827,14 @@ def lists_replies_of_older_types(sslist):
             sslist.run(capture, [option], [INET4_LINE.replace("inet ", name)])
             sslist.run(capture, ["-u"], [])
         capture = pcap(WIDE_HEADER, (SOCK_DIAG, UNIX[:8] + kind + UNIX[10:]))
-        sslist.run(capture, lines=[], errors=["packet 1, message 1: InetResponseHeader: buffer of 40 "
-                                              "bytes, at least 72 needed"])
+        sslist.run(capture, lines=[], errors=["packet 1, message 1: InetResponseHeader: buffer of "
+                                              "40 bytes, at least 72 needed"])
         capture = pcap(HEADERS[0], (SOCK_DIAG, reply[:32] + "10" + reply[34:]))
         sslist.run(capture, lines=[], errors=["packet 1, message 1: unsupported address family 16: "
                                               "expected AF_INET (2) or AF_INET6 (10)"])
         capture = pcap(HEADERS[0], (SOCK_DIAG, f"11000000{kind}000200070000000000000002000000"))
-        sslist.run(capture, lines=[], errors=["packet 1, message 1: invalid buffer: length is 1 but "
-                                              "packets are at least 2 bytes"])
+        sslist.run(capture, lines=[], errors=["packet 1, message 1: invalid buffer: length is 1 "
+                                              "but packets are at least 2 bytes"])
 
 
 def lists_by_the_protocol_of_a_reply(sslist):
