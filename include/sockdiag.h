@@ -1,19 +1,13 @@
 /*
  * Parses and serializes messages of sock_diag(7) with the headers of netlink(7), in the caller's
- * memory.
- *
- * The source of the library is the crate sockdiag_c of the sources, in crates/sockdiag_c, which a
- * release does not contain. What this header says of a call is proved there, by the contract of the
- * function of the same name and by those of the functions in src/laws.rt:
- * a_step_passes_the_first_attribute and a_step_passes_the_first_message, about iteration;
- * lenient_calls_agree_with_strict_calls; strict_calls_agree_with_checks; and
- * every_rejected_kind_has_a_code. No clause states:
- * - that the library does not allocate, opens no files or sockets, and has no state;
- * - that a call makes one pass over the attributes, and how long it takes;
- * - where the pointer of a text points: the clauses state the bytes of the text;
- * - that the previous contents of a struct are not read: the clauses state the new contents without
- *   them.
- * The only function that is defined here, sockdiag_error_text, is not proved.
+ * memory. To list sockets:
+ * 1. Write a request, by sockdiag_write_inet_request and its siblings, and send it to a socket of
+ *    NETLINK_SOCK_DIAG.
+ * 2. Receive datagrams, and iterate over the messages of each by sockdiag_next_any_message, until
+ *    sockdiag_ends_answer.
+ * 3. Parse the payload of each message by the lenient call of its family, the first byte, such as
+ *    sockdiag_inet_get_lenient_details.
+ * A payload is the bytes of a message after its netlink header.
  *
  * The library does not allocate, opens no files or sockets, and has no state between calls. So any
  * thread may call it at any time, with memory that meets the requirements below. It needs at most
@@ -29,17 +23,9 @@
  *   memory that the call is given. No other thread reads or writes it during the call. Memory that
  *   a call only reads is not written during the call.
  *
- * A struct or number that a call returns need not be initialized, or set to zeros: no return value
- * depends on its contents. These are left unchanged:
- * - all of it, if a check, a sockdiag_.._get_details or a sockdiag_.._get_lenient_details returns
- *   the code of an error; if sockdiag_get_error_number, sockdiag_find_error_attributes or a call of
- *   the section "values of single attributes" returns 0; if a sockdiag_.._explain or
- *   sockdiag_.._explain_attribute returns 0; and if an iteration returns 0 or the code of a framing
- *   error;
- * - if sockdiag_check_message returns 0, the header of the other kind.
- *
- * All other fields are set. sockdiag_inet_get_tcp_info and sockdiag_inet_get_mptcp_info set all
- * bytes of the struct in any case, and each call with a struct sockdiag_outcome sets its fields.
+ * A struct or number that a call returns need not be initialized: no return value depends on its
+ * contents. Unless the comment of a call says otherwise, it is unchanged if the call returns the
+ * code of an error, or 0 for a missing item, and all of its fields are set if the call succeeds.
  * The padding between fields may have any contents, so do not compare structs by memcmp.
  *
  * Numbers in structs are in the byte order of the host, ports included. Addresses are in network
@@ -47,12 +33,17 @@
  * message. The cookie of a netlink, packet, vsock or XDP socket is a number, which is little-endian
  * in the message. Offsets in comments are those in the kernel's structs.
  *
- * The payload of a message is its bytes after the netlink header. The kind of an attribute is its
- * type without the two flag bits, as SOCKDIAG_UNIX_DIAG_NAME; the field kind of the header of a
- * reply is the type of the socket, SOCK_STREAM and so on. A port id is the address of a netlink
- * socket, and not a port number.
+ * The kind of an attribute is its type without the two flag bits, as SOCKDIAG_UNIX_DIAG_NAME; the
+ * field kind of the header of a reply is the type of the socket, SOCK_STREAM and so on. A port id
+ * is the address of a netlink socket, and not a port number.
  *
- * In the sources, tools/bindings writes this file from the source of the library.
+ * tools/bindings of the sources writes this file from the crate sockdiag_c. What it says of a call
+ * is proved there, by the contract of the function of the same name, and by those of the functions
+ * in src/laws.rt: a_step_passes_the_first_attribute, a_step_passes_the_first_message,
+ * lenient_calls_agree_with_strict_calls, strict_calls_agree_with_checks and
+ * every_rejected_kind_has_a_code. No contract states that the library does not allocate and has no
+ * state, how long a call takes, where the pointer of a text points, that a call does not read the
+ * previous contents of a struct, and what sockdiag_error_text returns.
  */
 #ifndef SOCKDIAG_H
 #define SOCKDIAG_H
@@ -509,107 +500,25 @@ enum sockdiag_xdp_attribute {
     SOCKDIAG_XDP_DIAG_STATS = 9                 /* Kind of struct sockdiag_xdp_statistics. */
 };
 
-/* ---- replies */
-
-/* Offsets of the attributes in a reply, where an iteration over them starts. */
-#define SOCKDIAG_UNIX_ATTRIBUTES 16 /* Size of struct unix_diag_msg in bytes. */
-#define SOCKDIAG_INET_ATTRIBUTES 72 /* Size of struct inet_diag_msg in bytes. */
-
-/* Header of a reply about a UNIX socket: struct unix_diag_msg of sock_diag(7). */
-struct sockdiag_unix_header {
-    uint8_t kind;      /* Type of the socket, one of SOCK_.. (udiag_type, at 1). */
-    uint8_t state;     /* State (udiag_state, at 2): TCP_LISTEN (10) if the socket listens,
-                          TCP_ESTABLISHED (1) if it was connected, whether or not it has a peer
-                          now, else TCP_CLOSE (7), as of most datagram sockets. */
-    uint32_t inode;    /* Inode of the socket (udiag_ino, at 4). */
-    uint8_t cookie[8]; /* Cookie that distinguishes sockets with the same inode (udiag_cookie, at
-                          8). */
-};
-
-/* Header of a reply about an IPv4 or IPv6 socket: struct inet_diag_msg of sock_diag(7). */
-struct sockdiag_inet_header {
-    uint8_t family;                  /* AF_INET or AF_INET6 (idiag_family, at 0). */
-    uint8_t state;                   /* State, one of TCP_ESTABLISHED to TCP_CLOSING
-                                        (idiag_state, at 1), of the protocol that was requested.
-                                        The reply of an event has the protocol in
-                                        INET_DIAG_PROTOCOL. */
-    uint8_t timer;                   /* Timer (idiag_timer, at 2): 0 none, 1 retransmission, 2
-                                        keepalive, 3 TIME_WAIT, 4 zero-window probe; 5 delayed
-                                        acknowledgement, since Linux 7.2. */
-    uint8_t retransmits;             /* Number of retransmissions if the timer is 1, of probes if
-                                        it is 2 or 4 (idiag_retrans, at 3). */
-    uint32_t expires;                /* Milliseconds until the timer expires (idiag_expires, at
-                                        52). */
-    uint16_t source_port;            /* Local port (idiag_sport, at 4). */
-    uint16_t destination_port;       /* Remote port (idiag_dport, at 6). */
-    uint8_t source_address[16];      /* Local address in network byte order (idiag_src, at 8).
-                                        For AF_INET, four bytes followed by twelve zeros. */
-    uint8_t destination_address[16]; /* Remote address, in the same format (idiag_dst, at 24). */
-    uint32_t interface_id;           /* Index of the interface that the socket is bound to, or 0
-                                        (idiag_if, at 40). */
-    uint8_t cookie[8];               /* Cookie that distinguishes sockets with the same addresses
-                                        and ports (idiag_cookie, at 44). */
-    uint32_t recv_queue;             /* Number of pending connections of a listening TCP socket,
-                                        else bytes that have not been read (idiag_rqueue, at 56). */
-    uint32_t send_queue;             /* Limit of pending connections (backlog) of a listening TCP
-                                        socket, else bytes in the send queue: for TCP, those that
-                                        are not yet acknowledged (idiag_wqueue, at 60). */
-    uint32_t uid;                    /* User id of the owner (idiag_uid, at 64). */
-    uint32_t inode;                  /* Inode of the socket (idiag_inode, at 68). */
-};
-
-#define SOCKDIAG_UNIX 1 /* Kind of a reply about a UNIX socket. */
-#define SOCKDIAG_INET 2 /* Kind of a reply about an IPv4 or IPv6 socket. */
-
-/* A reply about a UNIX, IPv4 or IPv6 socket. */
-struct sockdiag_reply {
-    uint32_t kind;                           /* SOCKDIAG_UNIX or SOCKDIAG_INET: which of the two
-                                                headers is set. */
-    struct sockdiag_unix_header unix_header; /* Header of a reply about a UNIX socket. */
-    struct sockdiag_inet_header inet_header; /* Header of a reply about an IPv4 or IPv6 socket. */
-};
-
-/*
- * Checks a whole reply about a UNIX socket, with its attributes, and returns its header. The bytes
- * are the payload of the netlink message. Returns 0, or the code of the first error; then the
- * header is unchanged. The family, the first byte, is not checked: use it to choose the call.
+/* ---- replies
  *
- * An attribute with an invalid value makes the whole reply invalid. UNIX_DIAG_MEMINFO with fewer
- * than 36 bytes, which old kernels send, has SOCKDIAG_BUFFER_TOO_SMALL.
- * sockdiag_unix_get_lenient_details returns the header of such a reply, and the first valid
- * attribute of each kind that has a field in the details. sockdiag_next_attribute returns all
- * attributes, without a check of their values.
- */
-uint32_t sockdiag_check_unix_reply(const uint8_t *payload, size_t length,
-                                   struct sockdiag_unix_header *header);
-
-/*
- * Checks a whole reply about an IPv4 or IPv6 socket, with its attributes, and returns its header.
- * The bytes are the payload of the netlink message. Returns 0, or the code of the first error; then
- * the header is unchanged.
+ * A reply is the payload of a message. Its first byte is the family of the socket, which determines
+ * the call. Strict calls, sockdiag_.._get_details, reject a reply with any error. Lenient calls,
+ * sockdiag_.._get_lenient_details, reject one with an invalid header only, and return the first
+ * error of each kind of attribute. Use the lenient calls to list sockets: kernels send values that
+ * the library does not accept, an INET_DIAG_INFO of fewer than 232 bytes (of MPTCP, and of TCP from
+ * kernels without tcpi_snd_wnd) and a UNIX_DIAG_MEMINFO of fewer than 36 bytes.
  *
- * An attribute with an invalid value makes the whole reply invalid. INET_DIAG_INFO with fewer than
- * 232 bytes has SOCKDIAG_BUFFER_TOO_SMALL. TCP sockets of kernels without tcpi_snd_wnd have such
- * values, and MPTCP sockets of all kernels. sockdiag_inet_get_lenient_details returns the header of
- * such a reply, and the first valid attribute of each kind that has a field in the details.
- * sockdiag_inet_get_tcp_info and sockdiag_inet_get_mptcp_info return a connection of any length.
- * sockdiag_next_attribute returns all attributes, without a check of their values.
+ * For all of them:
+ * - If the return value is 0, all fields are set: a number, text or record that the reply does not
+ *   contain is all 0. If it is the code of an error, nothing is written.
+ * - Of several attributes of a kind the first valid one counts.
+ * - An attribute without a field is not an error: sockdiag_next_attribute returns it.
+ * - Bytes after the last field of a record are ignored, since newer kernels send more. A shorter
+ *   record is SOCKDIAG_BUFFER_TOO_SMALL, and a number of another length SOCKDIAG_WRONG_LENGTH.
+ * - Texts point into the payload, and are valid as long as it is.
+ * - The family is not checked, except that it is AF_INET or AF_INET6.
  */
-uint32_t sockdiag_check_inet_reply(const uint8_t *payload, size_t length,
-                                   struct sockdiag_inet_header *header);
-
-/*
- * Checks the whole payload of a message of this type, and stores the kind of the reply and its
- * header. The first byte is the family: AF_UNIX for a reply about a UNIX socket, AF_INET or
- * AF_INET6 for one about an internet socket. Any other family is rejected with
- * SOCKDIAG_UNKNOWN_FAMILY: replies about netlink, packet, vsock and XDP sockets have other calls,
- * sockdiag_netlink_get_details and so on. The header of the other kind is unchanged. Returns 0, or
- * the code of the first error; then the reply is unchanged.
- */
-uint32_t sockdiag_check_message(const uint8_t *payload, size_t length, uint16_t message_type,
-                                struct sockdiag_reply *reply);
-
-/* ---- the contents of a reply */
 
 /* A number that a reply may contain. */
 struct sockdiag_number {
@@ -667,6 +576,19 @@ struct sockdiag_memory {
                                                     at 32). Older kernels do not send it. */
 };
 
+/* ---- UNIX sockets */
+
+/* Header of a reply about a UNIX socket: struct unix_diag_msg of sock_diag(7). */
+struct sockdiag_unix_header {
+    uint8_t kind;      /* Type of the socket, one of SOCK_.. (udiag_type, at 1). */
+    uint8_t state;     /* State (udiag_state, at 2): TCP_LISTEN (10) if the socket listens,
+                          TCP_ESTABLISHED (1) if it was connected, whether or not it has a peer
+                          now, else TCP_CLOSE (7), as of most datagram sockets. */
+    uint32_t inode;    /* Inode of the socket (udiag_ino, at 4). */
+    uint8_t cookie[8]; /* Cookie that distinguishes sockets with the same inode (udiag_cookie, at
+                          8). */
+};
+
 /*
  * Everything that a reply contains about a UNIX socket, except the connections that wait to be
  * accepted.
@@ -694,6 +616,47 @@ struct sockdiag_unix_details {
                                            sending, 3 for both (UNIX_DIAG_SHUTDOWN). */
     struct sockdiag_number owner;       /* User id of the owner (UNIX_DIAG_UID). It is not set if
                                            the value does not have 4 bytes. */
+};
+
+/*
+ * Parses a reply about a UNIX socket. Returns 0, or the code of its first error; then the details
+ * are unchanged.
+ */
+uint32_t sockdiag_unix_get_details(const uint8_t *payload, size_t length,
+                                   struct sockdiag_unix_details *details);
+
+/* ---- IPv4 and IPv6 sockets */
+
+/* Header of a reply about an IPv4 or IPv6 socket: struct inet_diag_msg of sock_diag(7). */
+struct sockdiag_inet_header {
+    uint8_t family;                  /* AF_INET or AF_INET6 (idiag_family, at 0). */
+    uint8_t state;                   /* State, one of TCP_ESTABLISHED to TCP_CLOSING
+                                        (idiag_state, at 1), of the protocol that was requested.
+                                        The reply of an event has the protocol in
+                                        INET_DIAG_PROTOCOL. */
+    uint8_t timer;                   /* Timer (idiag_timer, at 2): 0 none, 1 retransmission, 2
+                                        keepalive, 3 TIME_WAIT, 4 zero-window probe; 5 delayed
+                                        acknowledgement, since Linux 7.2. */
+    uint8_t retransmits;             /* Number of retransmissions if the timer is 1, of probes if
+                                        it is 2 or 4 (idiag_retrans, at 3). */
+    uint32_t expires;                /* Milliseconds until the timer expires (idiag_expires, at
+                                        52). */
+    uint16_t source_port;            /* Local port (idiag_sport, at 4). */
+    uint16_t destination_port;       /* Remote port (idiag_dport, at 6). */
+    uint8_t source_address[16];      /* Local address in network byte order (idiag_src, at 8).
+                                        For AF_INET, four bytes followed by twelve zeros. */
+    uint8_t destination_address[16]; /* Remote address, in the same format (idiag_dst, at 24). */
+    uint32_t interface_id;           /* Index of the interface that the socket is bound to, or 0
+                                        (idiag_if, at 40). */
+    uint8_t cookie[8];               /* Cookie that distinguishes sockets with the same addresses
+                                        and ports (idiag_cookie, at 44). */
+    uint32_t recv_queue;             /* Number of pending connections of a listening TCP socket,
+                                        else bytes that have not been read (idiag_rqueue, at 56). */
+    uint32_t send_queue;             /* Limit of pending connections (backlog) of a listening TCP
+                                        socket, else bytes in the send queue: for TCP, those that
+                                        are not yet acknowledged (idiag_wqueue, at 60). */
+    uint32_t uid;                    /* User id of the owner (idiag_uid, at 64). */
+    uint32_t inode;                  /* Inode of the socket (idiag_inode, at 68). */
 };
 
 /*
@@ -739,37 +702,12 @@ struct sockdiag_inet_details {
 };
 
 /*
- * Checks a whole reply about a UNIX socket, as sockdiag_check_unix_reply does, and returns its
- * contents, in one pass over the attributes. The bytes are the payload of the netlink message.
- * Returns 0, and sets all fields: a number that the reply does not contain is all 0. Or returns the
- * code of the first error, in the order of the bytes, and then the details are unchanged. The
- * previous contents of the details are not read. Each attribute is checked, and of several
- * attributes of a kind the first one counts. Texts point into the payload, and are valid as long as
- * it is. The family, the first byte, is not checked: use it to choose the call.
- *
- * Attributes without a field are not an error: sockdiag_next_attribute returns them. Old kernels
- * send values that are rejected: sockdiag_unix_get_lenient_details returns the other attributes.
- */
-uint32_t sockdiag_unix_get_details(const uint8_t *payload, size_t length,
-                                   struct sockdiag_unix_details *details);
-
-/*
- * Checks a whole reply about an IPv4 or IPv6 socket, as sockdiag_check_inet_reply does, and returns
- * its contents, in one pass over the attributes. INET_DIAG_INFO is checked, and not returned. The
- * bytes are the payload of the netlink message. Returns 0, and sets all fields: a number or a
- * record that the reply does not contain is all 0. Or returns the code of the first error, in the
- * order of the bytes, and then the details are unchanged. The previous contents of the details are
- * not read. Each attribute is checked, and of several attributes of a kind the first one counts.
- * Texts point into the payload, and are valid as long as it is.
- *
- * Attributes without a field, such as INET_DIAG_MD5SIG and others that are arrays or nested, are
- * not an error: sockdiag_next_attribute returns them. A reply with a short INET_DIAG_INFO is
- * rejected: sockdiag_inet_get_lenient_details returns its other attributes.
+ * Parses a reply about an IPv4 or IPv6 socket. Returns 0, or the code of its first error; then the
+ * details are unchanged. INET_DIAG_INFO is checked, and not returned: sockdiag_inet_get_tcp_info
+ * returns it.
  */
 uint32_t sockdiag_inet_get_details(const uint8_t *payload, size_t length,
                                    struct sockdiag_inet_details *details);
-
-/* ---- connections */
 
 /*
  * The state of a TCP connection: struct tcp_info of linux/tcp.h in Linux 7.2. Later versions of
@@ -1032,116 +970,7 @@ struct sockdiag_mptcp_info {
 size_t sockdiag_inet_get_mptcp_info(const uint8_t *payload, size_t length,
                                     struct sockdiag_mptcp_info *info, size_t info_size);
 
-/* ---- lenient: list every socket
- *
- * A call of this section rejects a reply only if its header is invalid. It returns the first valid
- * attribute of each kind that has a field in the details, and the first error of each kind. Use
- * these calls to list sockets. Real kernels send values that the library does not accept: an
- * INET_DIAG_INFO of fewer than 232 bytes (of MPTCP, and of TCP from kernels without tcpi_snd_wnd),
- * and a UNIX_DIAG_MEMINFO of fewer than 36 bytes. By the calls of the previous section, one of them
- * hides its whole socket. The next section has the lenient calls for the other families.
- *
- * After such a call this prints each kind that is rejected, with its first error:
- *
- *     for (kind = 0; kind < SOCKDIAG_REJECTION_KINDS; kind++)
- *         if (rejections.errors[kind] != 0)
- *             printf("%d: %s\n", kind, sockdiag_error_text(rejections.errors[kind]));
- *
- * Each code, also one that an element of errors has as a byte, is one of enum sockdiag_error.
- */
-
-#define SOCKDIAG_REJECTION_KINDS 32 /* Number of elements of errors of struct
-                                       sockdiag_rejections, and so the end of a loop over them.
-                                       Each kind of attribute that can be rejected is less. */
-
-/*
- * Why attributes of a reply are rejected: codes of errors, as sockdiag_error_text takes them. A
- * code is 0 if there is no such error. If a reply has several attributes of a kind, the kind can
- * have a value in the details and an error here: the value is that of the first valid attribute,
- * and the error that of the first rejected one. Values of kinds that are not in the list below are
- * not checked: of INET_DIAG_CGROUP_ID, for example, only sockdiag_get_cgroup_id checks the length,
- * and returns 0 if it is wrong. The index of an element of errors is a kind of attribute, whose
- * meaning depends on the family of the reply. The kinds that can be rejected are:
- * - UNIX sockets: 0 to 6, from UNIX_DIAG_NAME to UNIX_DIAG_SHUTDOWN;
- * - IPv4 and IPv6 sockets: INET_DIAG_MEMINFO (1), INET_DIAG_INFO (2), INET_DIAG_CONG (4),
- *   INET_DIAG_TOS (5), INET_DIAG_TCLASS (6), INET_DIAG_SKMEMINFO (7), INET_DIAG_SHUTDOWN (8),
- *   INET_DIAG_PROTOCOL (10), INET_DIAG_SKV6ONLY (11), INET_DIAG_MARK (15) and INET_DIAG_CLASS_ID
- *   (17);
- * - netlink sockets: NETLINK_DIAG_MEMINFO (0) and NETLINK_DIAG_FLAGS (4) of linux/netlink_diag.h;
- * - packet sockets: PACKET_DIAG_INFO (0), PACKET_DIAG_RX_RING (2), PACKET_DIAG_TX_RING (3),
- *   PACKET_DIAG_FANOUT (4), PACKET_DIAG_UID (5) and PACKET_DIAG_MEMINFO (6) of linux/packet_diag.h;
- * - vsock sockets: none;
- * - XDP sockets: 1 to 9, from XDP_DIAG_INFO to XDP_DIAG_STATS of linux/xdp_diag.h.
- */
-struct sockdiag_rejections {
-    uint32_t first;     /* Code of the first error, in the order of the bytes: the strict call
-                           for this reply, a sockdiag_.._get_details, returns the same code. If
-                           it is 0, both calls return the same details. */
-    uint32_t framing;   /* Code of the framing error after the last attribute, 7 to 9. What
-                           follows is not parsed. */
-    uint8_t errors[32]; /* Codes of the errors of attributes. The index is the kind, below
-                           SOCKDIAG_REJECTION_KINDS: for an IPv4 or IPv6 socket
-                           errors[SOCKDIAG_INET_DIAG_INFO] is the error of the first
-                           INET_DIAG_INFO that is rejected. sockdiag_next_attribute returns the
-                           bytes of the attribute. */
-};
-
-/*
- * Returns the header of a reply about a UNIX socket, the first valid attribute of each kind that
- * has a field in the details, and the first error of each kind, in one pass over the attributes.
- * What follows a framing error is not parsed. The bytes are the payload of the netlink message.
- * Returns 0, and sets all fields of the details and of the rejections; or the code of the error of
- * the header, and then both are unchanged. The previous contents of both are not read. The fields
- * are set as sockdiag_unix_get_details sets them. The family, the first byte, is not checked: use
- * it to choose the call.
- *
- * Use this call to list sockets: a value that this library does not accept, such as the
- * UNIX_DIAG_MEMINFO of an old kernel, hides only itself, and not its socket.
- */
-uint32_t sockdiag_unix_get_lenient_details(const uint8_t *payload, size_t length,
-                                           struct sockdiag_unix_details *details,
-                                           struct sockdiag_rejections *rejections);
-
-/*
- * Returns the header of a reply about an IPv4 or IPv6 socket, the first valid attribute of each
- * kind that has a field in the details, and the first error of each kind, in one pass over the
- * attributes. What follows a framing error is not parsed. The bytes are the payload of the netlink
- * message. Returns 0, and sets all fields of the details and of the rejections; or the code of the
- * error of the header, and then both are unchanged. The previous contents of both are not read. The
- * fields are set as sockdiag_inet_get_details sets them.
- *
- * Use this call to list sockets: a value that this library does not accept, such as the
- * INET_DIAG_INFO of an old kernel or of MPTCP, hides only itself, and not its socket.
- * sockdiag_inet_get_tcp_info returns the value of an old kernel as far as it goes, and
- * sockdiag_inet_get_mptcp_info that of MPTCP, which is another struct.
- */
-uint32_t sockdiag_inet_get_lenient_details(const uint8_t *payload, size_t length,
-                                           struct sockdiag_inet_details *details,
-                                           struct sockdiag_rejections *rejections);
-
-/* ---- netlink, packet, vsock and XDP sockets
- *
- * The calls of this section do not check the family, which is the first byte of the payload: use it
- * to choose the call. Iterate over a dump by sockdiag_next_any_message: sockdiag_next_message
- * rejects these replies.
- *
- * A payload that is shorter than the header is rejected with SOCKDIAG_BUFFER_TOO_SMALL. A value
- * that is shorter than its record is SOCKDIAG_BUFFER_TOO_SMALL, and a number that does not have 4
- * bytes is SOCKDIAG_WRONG_LENGTH. Bytes after the last field of a record are ignored, since newer
- * kernels send more. An attribute of another kind is not an error; sockdiag_next_attribute returns
- * it.
- *
- * sockdiag_netlink_get_details and its siblings are strict: one attribute that is rejected hides
- * its socket. To list every socket use the lenient calls, sockdiag_netlink_get_lenient_details and
- * so on: an attribute that is rejected hides only itself, and struct sockdiag_rejections has its
- * error.
- */
-
-/* Offsets of the attributes, which are the lengths of the headers. */
-#define SOCKDIAG_NETLINK_ATTRIBUTES 28 /* Size of struct netlink_diag_msg in bytes. */
-#define SOCKDIAG_PACKET_ATTRIBUTES 16  /* Size of struct packet_diag_msg in bytes. */
-#define SOCKDIAG_VSOCK_ATTRIBUTES 32   /* Size of struct vsock_diag_msg in bytes. */
-#define SOCKDIAG_XDP_ATTRIBUTES 16     /* Size of struct xdp_diag_msg in bytes. */
+/* ---- netlink, packet, vsock and XDP sockets */
 
 /* The header of a reply about a netlink socket: struct netlink_diag_msg of linux/netlink_diag.h. */
 struct sockdiag_netlink_header {
@@ -1178,6 +1007,13 @@ struct sockdiag_netlink_details {
     struct sockdiag_number flags;          /* The bits NDIAG_FLAG_.. (NETLINK_DIAG_FLAGS, type
                                               4). */
 };
+
+/*
+ * Parses a reply about a netlink socket. Returns 0, or the code of its first error; then the
+ * details are unchanged. Linux 6.18 lists a netlink socket twice if it is a member of a group.
+ */
+uint32_t sockdiag_netlink_get_details(const uint8_t *payload, size_t length,
+                                      struct sockdiag_netlink_details *details);
 
 /* The header of a reply about a packet socket: struct packet_diag_msg of linux/packet_diag.h. */
 struct sockdiag_packet_header {
@@ -1254,6 +1090,13 @@ struct sockdiag_packet_details {
 };
 
 /*
+ * Parses a reply about a packet socket. Returns 0, or the code of its first error; then the details
+ * are unchanged.
+ */
+uint32_t sockdiag_packet_get_details(const uint8_t *payload, size_t length,
+                                     struct sockdiag_packet_details *details);
+
+/*
  * The header of a reply about a vsock socket: struct vsock_diag_msg of linux/vm_sockets_diag.h.
  * Linux sends no attributes after it.
  */
@@ -1272,6 +1115,13 @@ struct sockdiag_vsock_header {
     uint64_t cookie;              /* Cookie that distinguishes sockets with the same inode number
                                      (vdiag_cookie), at offset 24. */
 };
+
+/*
+ * Parses a reply about a vsock socket. Returns 0, or the code of its first error; then the header
+ * is unchanged. Linux sends no attributes: of bytes after the header only the framing is checked.
+ */
+uint32_t sockdiag_vsock_get_details(const uint8_t *payload, size_t length,
+                                    struct sockdiag_vsock_header *details);
 
 /* The header of a reply about an XDP socket: struct xdp_diag_msg of linux/xdp_diag.h. */
 struct sockdiag_xdp_header {
@@ -1351,111 +1201,152 @@ struct sockdiag_xdp_details {
 };
 
 /*
- * Checks a whole reply about a netlink socket, and returns its contents, in one pass over the
- * attributes. The bytes are the payload of the netlink message. Returns 0, and sets all fields: a
- * number or a record that the reply does not contain is all 0. Or returns the code of the first
- * error, in the order of the bytes, and then the details are unchanged. The previous contents of
- * the details are not read. Each attribute is checked, and of several attributes of a kind the
- * first one counts. Texts point into the payload, and are valid as long as it is.
- *
- * One rejected attribute hides the others: sockdiag_netlink_get_lenient_details returns them. Linux
- * 6.18 lists a netlink socket twice if it is a member of a group.
- */
-uint32_t sockdiag_netlink_get_details(const uint8_t *payload, size_t length,
-                                      struct sockdiag_netlink_details *details);
-
-/*
- * Checks a whole reply about a packet socket, and returns its contents, in one pass over the
- * attributes. The bytes are the payload of the netlink message. Returns 0, and sets all fields: a
- * number or a record that the reply does not contain is all 0. Or returns the code of the first
- * error, in the order of the bytes, and then the details are unchanged. The previous contents of
- * the details are not read. Each attribute is checked, and of several attributes of a kind the
- * first one counts. Texts point into the payload, and are valid as long as it is.
- *
- * One rejected attribute hides the others: sockdiag_packet_get_lenient_details returns them.
- */
-uint32_t sockdiag_packet_get_details(const uint8_t *payload, size_t length,
-                                     struct sockdiag_packet_details *details);
-
-/*
- * Checks a whole reply about a vsock socket, and returns its header. The bytes are the payload of
- * the netlink message. Returns 0, or the code of the first error; then the header is unchanged.
- *
- * The record has 32 bytes, and Linux sends no others. Bytes after it are attributes: their framing
- * is checked, and nothing else. So one to three more bytes are rejected with
- * SOCKDIAG_ATTRIBUTE_HEADER_CUT, and four zero bytes with SOCKDIAG_ATTRIBUTE_LENGTH_UNDER_4, since
- * they are an attribute whose length field is 0. sockdiag_vsock_get_lenient_details returns the
- * header of such a reply.
- */
-uint32_t sockdiag_vsock_get_details(const uint8_t *payload, size_t length,
-                                    struct sockdiag_vsock_header *details);
-
-/*
- * Checks a whole reply about an XDP socket, and returns its contents, in one pass over the
- * attributes. The bytes are the payload of the netlink message. Returns 0, and sets all fields: a
- * number or a record that the reply does not contain is all 0. Or returns the code of the first
- * error, in the order of the bytes, and then the details are unchanged. The previous contents of
- * the details are not read. Each attribute is checked, and of several attributes of a kind the
- * first one counts.
- *
- * One rejected attribute hides the others: sockdiag_xdp_get_lenient_details returns them.
+ * Parses a reply about an XDP socket. Returns 0, or the code of its first error; then the details
+ * are unchanged.
  */
 uint32_t sockdiag_xdp_get_details(const uint8_t *payload, size_t length,
                                   struct sockdiag_xdp_details *details);
 
+/* ---- lenient calls
+ *
+ * After such a call this prints each kind that is rejected, with its first error:
+ *
+ *     for (kind = 0; kind < SOCKDIAG_REJECTION_KINDS; kind++)
+ *         if (rejections.errors[kind] != 0)
+ *             printf("%d: %s\n", kind, sockdiag_error_text(rejections.errors[kind]));
+ */
+
+#define SOCKDIAG_REJECTION_KINDS 32 /* Number of elements of errors of struct
+                                       sockdiag_rejections, and so the end of a loop over them.
+                                       Each kind of attribute that can be rejected is less. */
+
 /*
- * Returns the header of a reply about a netlink socket, the first valid attribute of each kind that
- * has a field in the details, and the first error of each kind, in one pass over the attributes.
- * What follows a framing error is not parsed. The bytes are the payload of the netlink message.
- * Returns 0, and sets all fields of the details and of the rejections; or the code of the error of
- * the header, and then both are unchanged. The previous contents of both are not read. The family,
- * attributes of other kinds, and the bytes of groups are not checked. Texts point into the payload,
- * and are valid as long as it is.
+ * Why attributes of a reply are rejected: codes of errors, as sockdiag_error_text takes them. A
+ * code is 0 if there is no such error. If a reply has several attributes of a kind, the kind can
+ * have a value in the details and an error here: the value is that of the first valid attribute,
+ * and the error that of the first rejected one. Values of kinds that are not in the list below are
+ * not checked: of INET_DIAG_CGROUP_ID, for example, only sockdiag_get_cgroup_id checks the length,
+ * and returns 0 if it is wrong. The index of an element of errors is a kind of attribute, whose
+ * meaning depends on the family of the reply. The kinds that can be rejected are:
+ * - UNIX sockets: 0 to 6, from UNIX_DIAG_NAME to UNIX_DIAG_SHUTDOWN;
+ * - IPv4 and IPv6 sockets: INET_DIAG_MEMINFO (1), INET_DIAG_INFO (2), INET_DIAG_CONG (4),
+ *   INET_DIAG_TOS (5), INET_DIAG_TCLASS (6), INET_DIAG_SKMEMINFO (7), INET_DIAG_SHUTDOWN (8),
+ *   INET_DIAG_PROTOCOL (10), INET_DIAG_SKV6ONLY (11), INET_DIAG_MARK (15) and INET_DIAG_CLASS_ID
+ *   (17);
+ * - netlink sockets: NETLINK_DIAG_MEMINFO (0) and NETLINK_DIAG_FLAGS (4) of linux/netlink_diag.h;
+ * - packet sockets: PACKET_DIAG_INFO (0), PACKET_DIAG_RX_RING (2), PACKET_DIAG_TX_RING (3),
+ *   PACKET_DIAG_FANOUT (4), PACKET_DIAG_UID (5) and PACKET_DIAG_MEMINFO (6) of linux/packet_diag.h;
+ * - vsock sockets: none;
+ * - XDP sockets: 1 to 9, from XDP_DIAG_INFO to XDP_DIAG_STATS of linux/xdp_diag.h.
+ */
+struct sockdiag_rejections {
+    uint32_t first;     /* Code of the first error, in the order of the bytes: the strict call
+                           for this reply, a sockdiag_.._get_details, returns the same code. If
+                           it is 0, both calls return the same details. */
+    uint32_t framing;   /* Code of the framing error after the last attribute, 7 to 9. What
+                           follows is not parsed. */
+    uint8_t errors[32]; /* Codes of the errors of attributes. The index is the kind, below
+                           SOCKDIAG_REJECTION_KINDS: for an IPv4 or IPv6 socket
+                           errors[SOCKDIAG_INET_DIAG_INFO] is the error of the first
+                           INET_DIAG_INFO that is rejected. sockdiag_next_attribute returns the
+                           bytes of the attribute. */
+};
+
+/*
+ * Parses a reply about a UNIX socket leniently. Returns 0, or the code of the error of its header;
+ * then details and rejections are unchanged.
+ */
+uint32_t sockdiag_unix_get_lenient_details(const uint8_t *payload, size_t length,
+                                           struct sockdiag_unix_details *details,
+                                           struct sockdiag_rejections *rejections);
+
+/*
+ * Parses a reply about an IPv4 or IPv6 socket leniently. Returns 0, or the code of the error of its
+ * header; then details and rejections are unchanged. An INET_DIAG_INFO of fewer than 232 bytes, as
+ * of MPTCP, is in the rejections: sockdiag_inet_get_tcp_info and sockdiag_inet_get_mptcp_info
+ * return a value of any length.
+ */
+uint32_t sockdiag_inet_get_lenient_details(const uint8_t *payload, size_t length,
+                                           struct sockdiag_inet_details *details,
+                                           struct sockdiag_rejections *rejections);
+
+/*
+ * Parses a reply about a netlink socket leniently. Returns 0, or the code of the error of its
+ * header; then details and rejections are unchanged.
  */
 uint32_t sockdiag_netlink_get_lenient_details(const uint8_t *payload, size_t length,
                                               struct sockdiag_netlink_details *details,
                                               struct sockdiag_rejections *rejections);
 
 /*
- * Returns the header of a reply about a packet socket, the first valid attribute of each kind, and
- * the first error of each kind, in one pass over the attributes. What follows a framing error is
- * not parsed. The bytes are the payload of the netlink message. Returns 0, and sets all fields of
- * the details and of the rejections: a record of which the reply has no valid attribute is all 0,
- * and its field has_.. is 0. Or returns the code of the error of the header, and then both are
- * unchanged. The previous contents of both are not read. The family, attributes of other kinds, and
- * the bytes of addresses and filter are not checked. Texts point into the payload, and are valid as
- * long as it is.
+ * Parses a reply about a packet socket leniently. Returns 0, or the code of the error of its
+ * header; then details and rejections are unchanged.
  */
 uint32_t sockdiag_packet_get_lenient_details(const uint8_t *payload, size_t length,
                                              struct sockdiag_packet_details *details,
                                              struct sockdiag_rejections *rejections);
 
 /*
- * Returns the header of a reply about a vsock socket, and the framing error of the bytes after it,
- * in one pass over them. The bytes are the payload of the netlink message. Returns 0, and sets all
- * fields of the header and of the rejections; or the code of the error of the header, and then both
- * are unchanged. The previous contents of both are not read. Linux sends no attributes. Values of
- * attributes are not checked, so only first and framing of the rejections can be other than 0, and
- * they are equal.
+ * Parses a reply about a vsock socket leniently. Returns 0, or the code of the error of its header;
+ * then header and rejections are unchanged. The only rejection can be the framing error of bytes
+ * after the header.
  */
 uint32_t sockdiag_vsock_get_lenient_details(const uint8_t *payload, size_t length,
                                             struct sockdiag_vsock_header *details,
                                             struct sockdiag_rejections *rejections);
 
 /*
- * Returns the header of a reply about an XDP socket, the first valid attribute of each kind, and
- * the first error of each kind, in one pass over the attributes. What follows a framing error is
- * not parsed. The bytes are the payload of the netlink message. Returns 0, and sets all fields of
- * the details and of the rejections: a record of which the reply has no valid attribute is all 0,
- * and its field has_.. is 0. Or returns the code of the error of the header, and then both are
- * unchanged. The previous contents of both are not read. The family and attributes of other kinds
- * are not checked.
+ * Parses a reply about an XDP socket leniently. Returns 0, or the code of the error of its header;
+ * then details and rejections are unchanged.
  */
 uint32_t sockdiag_xdp_get_lenient_details(const uint8_t *payload, size_t length,
                                           struct sockdiag_xdp_details *details,
                                           struct sockdiag_rejections *rejections);
 
+/* ---- checks without details */
+
+#define SOCKDIAG_UNIX 1 /* Kind of a reply about a UNIX socket. */
+#define SOCKDIAG_INET 2 /* Kind of a reply about an IPv4 or IPv6 socket. */
+
+/* A reply about a UNIX, IPv4 or IPv6 socket. */
+struct sockdiag_reply {
+    uint32_t kind;                           /* SOCKDIAG_UNIX or SOCKDIAG_INET: which of the two
+                                                headers is set. */
+    struct sockdiag_unix_header unix_header; /* Header of a reply about a UNIX socket. */
+    struct sockdiag_inet_header inet_header; /* Header of a reply about an IPv4 or IPv6 socket. */
+};
+
+/*
+ * Checks a reply about a UNIX socket, as sockdiag_unix_get_details does, and returns its header
+ * only. Returns 0, or the code of the first error; then the header is unchanged.
+ */
+uint32_t sockdiag_check_unix_reply(const uint8_t *payload, size_t length,
+                                   struct sockdiag_unix_header *header);
+
+/*
+ * Checks a reply about an IPv4 or IPv6 socket, as sockdiag_inet_get_details does, and returns its
+ * header only. Returns 0, or the code of the first error; then the header is unchanged.
+ */
+uint32_t sockdiag_check_inet_reply(const uint8_t *payload, size_t length,
+                                   struct sockdiag_inet_header *header);
+
+/*
+ * Checks the payload of a message of this type, and stores the kind and the header of the reply.
+ * The header of the other kind is unchanged. Returns 0, or the code of the first error; then the
+ * reply is unchanged. A family other than AF_UNIX, AF_INET and AF_INET6 is SOCKDIAG_UNKNOWN_FAMILY.
+ */
+uint32_t sockdiag_check_message(const uint8_t *payload, size_t length, uint16_t message_type,
+                                struct sockdiag_reply *reply);
+
 /* ---- iteration */
+
+/* Offsets of the attributes in a reply, where an iteration over them starts. */
+#define SOCKDIAG_UNIX_ATTRIBUTES 16    /* Size of struct unix_diag_msg in bytes. */
+#define SOCKDIAG_INET_ATTRIBUTES 72    /* Size of struct inet_diag_msg in bytes. */
+#define SOCKDIAG_NETLINK_ATTRIBUTES 28 /* Size of struct netlink_diag_msg in bytes. */
+#define SOCKDIAG_PACKET_ATTRIBUTES 16  /* Size of struct packet_diag_msg in bytes. */
+#define SOCKDIAG_VSOCK_ATTRIBUTES 32   /* Size of struct vsock_diag_msg in bytes. */
+#define SOCKDIAG_XDP_ATTRIBUTES 16     /* Size of struct xdp_diag_msg in bytes. */
 
 /* State of an iteration. An iteration over all of the bytes starts with offset 0. */
 struct sockdiag_cursor {
@@ -1548,9 +1439,8 @@ uint32_t sockdiag_next_any_message(const uint8_t *datagram, size_t length,
  *
  * An NLMSG_ERROR with 0 is an acknowledgement. A dump that failed also ends with NLMSG_DONE, so
  * look at the number there too. A kernel that lacks the protocol answers a request for it with
- * -ENOENT or -EINVAL; one without MPTCP may list TCP sockets instead, see the field protocol of
- * struct sockdiag_inet_request. What follows the number is not returned: the request, and for a
- * socket with NETLINK_EXT_ACK more about the error, which sockdiag_find_error_attributes finds.
+ * -ENOENT or -EINVAL. What follows the number is not returned: the request, and for a socket with
+ * NETLINK_EXT_ACK more about the error, which sockdiag_find_error_attributes finds.
  */
 uint32_t sockdiag_get_error_number(const uint8_t *payload, size_t length, int32_t *number);
 
@@ -1776,9 +1666,8 @@ uint32_t sockdiag_next_address(const uint8_t *value, size_t length, struct sockd
 
 /* ---- errors with their fields
  *
- * All other calls return the code of an error, and no more. If a call rejected bytes, pass the same
- * bytes to a call of this section. It checks them again, and returns the error with the lengths,
- * kinds and numbers that belong to it.
+ * All other calls return the code of an error. sockdiag_explain checks bytes that they rejected
+ * again, and returns the error with the lengths, kinds and numbers that belong to it.
  */
 
 /* Records that can have too few bytes: the numbers of the field record_name. */
@@ -1812,7 +1701,6 @@ struct sockdiag_error_details {
                                     (SOCKDIAG_UNSUPPORTED_FAMILY) or not known
                                     (SOCKDIAG_UNKNOWN_FAMILY). If record_name is one of
                                     SOCKDIAG_RECORD_FAMILY_.., the family of the record. */
-    uint32_t message_type;       /* Message type (SOCKDIAG_UNKNOWN_MESSAGE_TYPE). */
     struct sockdiag_number kind; /* Kind of the attribute whose value has a wrong length
                                     (SOCKDIAG_WRONG_LENGTH), or too few bytes for its record
                                     (SOCKDIAG_RECORD_FAMILY_ATTRIBUTE). Not set for other
@@ -1826,91 +1714,31 @@ struct sockdiag_error_details {
                                     (SOCKDIAG_NAME_INNER_ZERO). */
 };
 
-/*
- * Stores the first error of a reply about a UNIX socket, with its fields: the error with which
- * sockdiag_unix_get_details and sockdiag_check_unix_reply reject the reply. The bytes are the
- * payload of the netlink message. Returns the code of the error; or 0 if the reply is accepted, and
- * then the error is unchanged.
- */
-uint32_t sockdiag_unix_explain(const uint8_t *payload, size_t length,
-                               struct sockdiag_error_details *error);
+#define SOCKDIAG_EXPLAIN_MESSAGE 256        /* what of sockdiag_explain: the payload of a
+                                               message. */
+#define SOCKDIAG_EXPLAIN_DATAGRAM 257       /* what of sockdiag_explain: a datagram from the
+                                               cursor on. */
+#define SOCKDIAG_EXPLAIN_UNIX_ATTRIBUTE 258 /* what of sockdiag_explain: an attribute of a UNIX
+                                               socket. */
+#define SOCKDIAG_EXPLAIN_INET_ATTRIBUTE 259 /* what of sockdiag_explain: an attribute of an IPv4
+                                               or IPv6 socket. */
 
 /*
- * Stores the first error of a reply about an IPv4 or IPv6 socket, with its fields: the error with
- * which sockdiag_inet_get_details and sockdiag_check_inet_reply reject the reply. The bytes are the
- * payload of the netlink message. Returns the code of the error; or 0 if the reply is accepted, and
- * then the error is unchanged.
+ * Stores the error of bytes that another call rejected, with its fields. Returns its code; or 0 if
+ * the bytes are accepted, and then the error is unchanged. what says what the bytes are:
+ * - a family, such as AF_INET: a whole reply about a socket of this family, which
+ *   sockdiag_.._get_details rejects. It is the first byte of the reply. If it is another family,
+ *   the error is SOCKDIAG_UNKNOWN_FAMILY;
+ * - SOCKDIAG_EXPLAIN_MESSAGE: the payload of a message of type SOCK_DIAG_BY_FAMILY, which
+ *   sockdiag_next_message rejects;
+ * - SOCKDIAG_EXPLAIN_DATAGRAM: a datagram from the cursor on, whose framing
+ *   sockdiag_next_any_message rejects;
+ * - SOCKDIAG_EXPLAIN_UNIX_ATTRIBUTE or SOCKDIAG_EXPLAIN_INET_ATTRIBUTE: a part of a reply that
+ *   begins with the attribute, which a lenient call rejects. No bytes are accepted;
+ * - any other number: returns 0.
  */
-uint32_t sockdiag_inet_explain(const uint8_t *payload, size_t length,
-                               struct sockdiag_error_details *error);
-
-/*
- * Stores the first error of a reply about a netlink socket, with its fields: the error with which
- * sockdiag_netlink_get_details rejects the reply. Returns the code of the error; or 0 if the reply
- * is accepted, and then the error is unchanged.
- */
-uint32_t sockdiag_netlink_explain(const uint8_t *payload, size_t length,
-                                  struct sockdiag_error_details *error);
-
-/*
- * Stores the first error of a reply about a packet socket, with its fields: the error with which
- * sockdiag_packet_get_details rejects the reply. Returns the code of the error; or 0 if the reply
- * is accepted, and then the error is unchanged.
- */
-uint32_t sockdiag_packet_explain(const uint8_t *payload, size_t length,
-                                 struct sockdiag_error_details *error);
-
-/*
- * Stores the first error of a reply about a vsock socket, with its fields: the error with which
- * sockdiag_vsock_get_details rejects the reply. Returns the code of the error; or 0 if the reply is
- * accepted, and then the error is unchanged.
- */
-uint32_t sockdiag_vsock_explain(const uint8_t *payload, size_t length,
-                                struct sockdiag_error_details *error);
-
-/*
- * Stores the first error of a reply about an XDP socket, with its fields: the error with which
- * sockdiag_xdp_get_details rejects the reply. Returns the code of the error; or 0 if the reply is
- * accepted, and then the error is unchanged.
- */
-uint32_t sockdiag_xdp_explain(const uint8_t *payload, size_t length,
-                              struct sockdiag_error_details *error);
-
-/*
- * Stores the first error of the payload of a message of this type, with its fields: the error with
- * which sockdiag_next_message rejects the payload. Returns the code of the error; or 0 if the
- * payload is accepted, and then the error is unchanged. Do not pass one of the four NLMSG_.. types:
- * sockdiag_next_message does not check their payload.
- */
-uint32_t sockdiag_message_explain(const uint8_t *payload, size_t length, uint16_t message_type,
-                                  struct sockdiag_error_details *error);
-
-/*
- * Stores the framing error with which sockdiag_next_message and sockdiag_next_any_message reject a
- * datagram at the cursor, with its fields. The bytes are those of the datagram from the cursor on.
- * Returns the code of the error; or 0 if the bytes begin with a message, and then the error is
- * unchanged.
- */
-uint32_t sockdiag_framing_explain(const uint8_t *bytes, size_t length,
-                                  struct sockdiag_error_details *error);
-
-/*
- * Stores the error of an attribute of a UNIX socket, with its fields: its framing error, or the
- * error of its value. The bytes are a part of a reply, and begin with the attribute. Returns the
- * code of the error; or 0 if the attribute is accepted or there are no bytes, and then the error is
- * unchanged.
- */
-uint32_t sockdiag_unix_explain_attribute(const uint8_t *bytes, size_t length,
-                                         struct sockdiag_error_details *error);
-
-/*
- * Stores the error of an attribute of an IPv4 or IPv6 socket, with its fields: its framing error,
- * or the error of its value. The bytes are a part of a reply, and begin with the attribute. Returns
- * the code of the error; or 0 if the attribute is accepted or there are no bytes, and then the
- * error is unchanged.
- */
-uint32_t sockdiag_inet_explain_attribute(const uint8_t *bytes, size_t length,
-                                         struct sockdiag_error_details *error);
+uint32_t sockdiag_explain(uint32_t what, const uint8_t *bytes, size_t length,
+                          struct sockdiag_error_details *error);
 
 /* ---- requests
  *

@@ -30,19 +30,19 @@ static int has_one(const struct sockdiag_rejections *it, uint32_t kind, uint32_t
 
 /* An error with these fields. `kind` is below 0 if there is none. */
 struct expected {
-    uint32_t code, record_name, family, message_type;
+    uint32_t code, record_name, family;
     int kind;
     size_t got, need, length, index;
 };
 
 /* Errors by the fields that they have, and no error. */
-#define NO_ERROR {SOCKDIAG_OK, 0, 0, 0, -1, 0, 0, 0, 0}
-#define LENGTHS(code, got, length) {code, 0, 0, 0, -1, got, 0, length, 0}
-#define OTHER(code, family, message_type) {code, 0, family, message_type, -1, 0, 0, 0, 0}
-#define WRONG(kind, got, need) {SOCKDIAG_WRONG_LENGTH, 0, 0, 0, kind, got, need, 0, 0}
-#define SMALL(record, got, need) {SOCKDIAG_BUFFER_TOO_SMALL, record, 0, 0, -1, got, need, 0, 0}
+#define NO_ERROR {SOCKDIAG_OK, 0, 0, -1, 0, 0, 0, 0}
+#define LENGTHS(code, got, length) {code, 0, 0, -1, got, 0, length, 0}
+#define OTHER(code, family) {code, 0, family, -1, 0, 0, 0, 0}
+#define WRONG(kind, got, need) {SOCKDIAG_WRONG_LENGTH, 0, 0, kind, got, need, 0, 0}
+#define SMALL(record, got, need) {SOCKDIAG_BUFFER_TOO_SMALL, record, 0, -1, got, need, 0, 0}
 #define SMALL_OF(record, family, kind, got, need) \
-    {SOCKDIAG_BUFFER_TOO_SMALL, record, family, 0, kind, got, need, 0, 0}
+    {SOCKDIAG_BUFFER_TOO_SMALL, record, family, kind, got, need, 0, 0}
 
 typedef uint32_t explain(const uint8_t *, size_t, struct sockdiag_error_details *);
 
@@ -59,7 +59,7 @@ static void check_error(explain *call, const uint8_t *bytes, size_t length,
         return;
     }
     check(it.code == expected->code && it.record_name == expected->record_name &&
-          it.family == expected->family && it.message_type == expected->message_type, what);
+          it.family == expected->family, what);
     check(it.kind.is_set == is_set && it.kind.value == (is_set ? (uint32_t)expected->kind : 0),
           what);
     check(it.got == expected->got && it.need == expected->need &&
@@ -407,19 +407,19 @@ static void reads_addresses(void) {
 static void explains_headers_and_framing(void) {
     uint8_t bytes[128];
     memcpy(bytes, unix_header, 16);
-    EXPLAINS(sockdiag_unix_explain, bytes, 16, NO_ERROR);
-    EXPLAINS(sockdiag_unix_explain, bytes, 15, SMALL(SOCKDIAG_RECORD_UNIX_RESPONSE_HEADER, 15, 16));
-    EXPLAINS(sockdiag_unix_explain, NULL, 0, SMALL(SOCKDIAG_RECORD_UNIX_RESPONSE_HEADER, 0, 16));
+    EXPLAINS(explain_unix, bytes, 16, NO_ERROR);
+    EXPLAINS(explain_unix, bytes, 15, SMALL(SOCKDIAG_RECORD_UNIX_RESPONSE_HEADER, 15, 16));
+    EXPLAINS(explain_unix, NULL, 0, SMALL(SOCKDIAG_RECORD_UNIX_RESPONSE_HEADER, 0, 16));
     memcpy(bytes + 16, "\3\0\0\0\11\1\0\0\0", 9);
-    EXPLAINS(sockdiag_unix_explain, bytes, 19, LENGTHS(SOCKDIAG_ATTRIBUTE_HEADER_CUT, 3, 0));
-    EXPLAINS(sockdiag_unix_explain, bytes, 21, LENGTHS(SOCKDIAG_ATTRIBUTE_LENGTH_UNDER_4, 0, 3));
+    EXPLAINS(explain_unix, bytes, 19, LENGTHS(SOCKDIAG_ATTRIBUTE_HEADER_CUT, 3, 0));
+    EXPLAINS(explain_unix, bytes, 21, LENGTHS(SOCKDIAG_ATTRIBUTE_LENGTH_UNDER_4, 0, 3));
     memcpy(bytes + 16, "\11\1\0\0", 4);
-    EXPLAINS(sockdiag_unix_explain, bytes, 25, LENGTHS(SOCKDIAG_ATTRIBUTE_LENGTH_PAST, 9, 265));
+    EXPLAINS(explain_unix, bytes, 25, LENGTHS(SOCKDIAG_ATTRIBUTE_LENGTH_PAST, 9, 265));
     memcpy(bytes, inet_header, 72);
-    EXPLAINS(sockdiag_inet_explain, bytes, 72, NO_ERROR);
-    EXPLAINS(sockdiag_inet_explain, bytes, 71, SMALL(SOCKDIAG_RECORD_INET_RESPONSE_HEADER, 71, 72));
+    EXPLAINS(explain_inet, bytes, 72, NO_ERROR);
+    EXPLAINS(explain_inet, bytes, 71, SMALL(SOCKDIAG_RECORD_INET_RESPONSE_HEADER, 71, 72));
     bytes[0] = 1;
-    EXPLAINS(sockdiag_inet_explain, bytes, 72, OTHER(SOCKDIAG_UNSUPPORTED_FAMILY, 1, 0));
+    EXPLAINS(explain_inet, bytes, 72, OTHER(SOCKDIAG_UNSUPPORTED_FAMILY, 1));
 }
 
 static void explains_other_replies(void) {
@@ -428,67 +428,60 @@ static void explains_other_replies(void) {
     uint8_t bytes[128], numbers[48];
     number_bytes(numbers, sizeof numbers);
     memset(bytes, 0, sizeof bytes);
-    EXPLAINS(sockdiag_netlink_explain, bytes, SOCKDIAG_NETLINK_ATTRIBUTES, NO_ERROR);
-    EXPLAINS(sockdiag_packet_explain, bytes, SOCKDIAG_PACKET_ATTRIBUTES, NO_ERROR);
-    EXPLAINS(sockdiag_vsock_explain, bytes, SOCKDIAG_VSOCK_ATTRIBUTES, NO_ERROR);
-    EXPLAINS(sockdiag_xdp_explain, bytes, SOCKDIAG_XDP_ATTRIBUTES, NO_ERROR);
-    EXPLAINS(sockdiag_netlink_explain, bytes, 27, SMALL_OF(header, 16, -1, 27, 28));
-    EXPLAINS(sockdiag_packet_explain, bytes, 1, SMALL_OF(header, 17, -1, 1, 16));
-    EXPLAINS(sockdiag_vsock_explain, bytes, 31, SMALL_OF(header, 40, -1, 31, 32));
-    EXPLAINS(sockdiag_xdp_explain, bytes, 15, SMALL_OF(header, 44, -1, 15, 16));
-    EXPLAINS(sockdiag_netlink_explain, bytes, put(bytes, 28, 4, numbers, 3), WRONG(4, 3, 4));
-    EXPLAINS(sockdiag_packet_explain, bytes, put(bytes, 16, 5, numbers, 8), WRONG(5, 8, 4));
-    EXPLAINS(sockdiag_xdp_explain, bytes, put(bytes, 16, 6, numbers, 0), WRONG(6, 0, 4));
-    EXPLAINS(sockdiag_packet_explain, bytes, put(bytes, 16, 6, numbers, 27),
+    EXPLAINS(explain_netlink, bytes, SOCKDIAG_NETLINK_ATTRIBUTES, NO_ERROR);
+    EXPLAINS(explain_packet, bytes, SOCKDIAG_PACKET_ATTRIBUTES, NO_ERROR);
+    EXPLAINS(explain_vsock, bytes, SOCKDIAG_VSOCK_ATTRIBUTES, NO_ERROR);
+    EXPLAINS(explain_xdp, bytes, SOCKDIAG_XDP_ATTRIBUTES, NO_ERROR);
+    EXPLAINS(explain_netlink, bytes, 27, SMALL_OF(header, 16, -1, 27, 28));
+    EXPLAINS(explain_packet, bytes, 1, SMALL_OF(header, 17, -1, 1, 16));
+    EXPLAINS(explain_vsock, bytes, 31, SMALL_OF(header, 40, -1, 31, 32));
+    EXPLAINS(explain_xdp, bytes, 15, SMALL_OF(header, 44, -1, 15, 16));
+    EXPLAINS(explain_netlink, bytes, put(bytes, 28, 4, numbers, 3), WRONG(4, 3, 4));
+    EXPLAINS(explain_packet, bytes, put(bytes, 16, 5, numbers, 8), WRONG(5, 8, 4));
+    EXPLAINS(explain_xdp, bytes, put(bytes, 16, 6, numbers, 0), WRONG(6, 0, 4));
+    EXPLAINS(explain_packet, bytes, put(bytes, 16, 6, numbers, 27),
              SMALL(SOCKDIAG_RECORD_MEM_INFO, 27, 28));
-    EXPLAINS(sockdiag_packet_explain, bytes, put(bytes, 16, 3, numbers, 27),
+    EXPLAINS(explain_packet, bytes, put(bytes, 16, 3, numbers, 27),
              SMALL_OF(value, 17, 3, 27, 28));
-    EXPLAINS(sockdiag_xdp_explain, bytes, put(bytes, 16, 9, numbers, 47),
+    EXPLAINS(explain_xdp, bytes, put(bytes, 16, 9, numbers, 47),
              SMALL_OF(value, 44, 9, 47, 48));
     memset(bytes + 32, 0, 4);
-    EXPLAINS(sockdiag_vsock_explain, bytes, 36, LENGTHS(SOCKDIAG_ATTRIBUTE_LENGTH_UNDER_4, 0, 0));
+    EXPLAINS(explain_vsock, bytes, 36, LENGTHS(SOCKDIAG_ATTRIBUTE_LENGTH_UNDER_4, 0, 0));
 }
 
-static uint32_t explain_reply(const uint8_t *bytes, size_t length,
-                              struct sockdiag_error_details *error) {
-    return sockdiag_message_explain(bytes, length, SOCKDIAG_SOCK_DIAG_BY_FAMILY, error);
-}
-
-static uint32_t explain_destroy(const uint8_t *bytes, size_t length,
-                                struct sockdiag_error_details *error) {
-    return sockdiag_message_explain(bytes, length, SOCKDIAG_SOCK_DESTROY, error);
-}
+EXPLAINS_AS(other_family, 43)
+EXPLAINS_AS(nothing, SOCKDIAG_EXPLAIN_INET_ATTRIBUTE + 1)
 
 static void explains_messages(void) {
     static const uint8_t other[16] = {17};
-    EXPLAINS(explain_reply, unix_header, 16, NO_ERROR);
-    EXPLAINS(explain_reply, inet_header, 72, NO_ERROR);
-    EXPLAINS(explain_reply, unix_header, 1, LENGTHS(SOCKDIAG_MESSAGE_TOO_SHORT, 1, 0));
-    EXPLAINS(explain_reply, other, 16, OTHER(SOCKDIAG_UNKNOWN_FAMILY, 17, 0));
-    EXPLAINS(explain_destroy, unix_header, 16,
-             OTHER(SOCKDIAG_UNKNOWN_MESSAGE_TYPE, 0, SOCKDIAG_SOCK_DESTROY));
-    EXPLAINS(explain_reply, unix_header, 12, SMALL(SOCKDIAG_RECORD_UNIX_RESPONSE_HEADER, 12, 16));
-    EXPLAINS(explain_reply, inet_header, 12, SMALL(SOCKDIAG_RECORD_INET_RESPONSE_HEADER, 12, 72));
+    EXPLAINS(explain_message, unix_header, 16, NO_ERROR);
+    EXPLAINS(explain_message, inet_header, 72, NO_ERROR);
+    EXPLAINS(explain_message, unix_header, 1, LENGTHS(SOCKDIAG_MESSAGE_TOO_SHORT, 1, 0));
+    EXPLAINS(explain_message, other, 16, OTHER(SOCKDIAG_UNKNOWN_FAMILY, 17));
+    EXPLAINS(explain_other_family, unix_header, 16, OTHER(SOCKDIAG_UNKNOWN_FAMILY, 43));
+    EXPLAINS(explain_nothing, NULL, 0, NO_ERROR);
+    EXPLAINS(explain_message, unix_header, 12, SMALL(SOCKDIAG_RECORD_UNIX_RESPONSE_HEADER, 12, 16));
+    EXPLAINS(explain_message, inet_header, 12, SMALL(SOCKDIAG_RECORD_INET_RESPONSE_HEADER, 12, 72));
 }
 
 static void explains_framing(void) {
     uint8_t bytes[20] = {20, 0, 0, 0, 3};
-    EXPLAINS(sockdiag_framing_explain, bytes, 20, NO_ERROR);
-    EXPLAINS(sockdiag_framing_explain, bytes, 15, LENGTHS(SOCKDIAG_ENVELOPE_CUT, 15, 0));
-    EXPLAINS(sockdiag_framing_explain, bytes, 19, LENGTHS(SOCKDIAG_ENVELOPE_LENGTH_PAST, 19, 20));
+    EXPLAINS(explain_datagram, bytes, 20, NO_ERROR);
+    EXPLAINS(explain_datagram, bytes, 15, LENGTHS(SOCKDIAG_ENVELOPE_CUT, 15, 0));
+    EXPLAINS(explain_datagram, bytes, 19, LENGTHS(SOCKDIAG_ENVELOPE_LENGTH_PAST, 19, 20));
     bytes[0] = 15;
-    EXPLAINS(sockdiag_framing_explain, bytes, 20,
+    EXPLAINS(explain_datagram, bytes, 20,
              LENGTHS(SOCKDIAG_ENVELOPE_LENGTH_UNDER_16, 0, 15));
     memset(bytes, 0xff, 4);
-    EXPLAINS(sockdiag_framing_explain, bytes, 20,
+    EXPLAINS(explain_datagram, bytes, 20,
              LENGTHS(SOCKDIAG_ENVELOPE_LENGTH_PAST, 20, UINT32_MAX));
 }
 
 /* The kind 3 is a list of inodes in one family, and not parsed in the other. */
 static void explains_attributes(void) {
     static const uint8_t inodes[12] = {9, 0, 3, 0, 1}, mark[16] = {9, 0, 15, 0, 1};
-    explain *const of_unix = sockdiag_unix_explain_attribute;
-    explain *const of_inet = sockdiag_inet_explain_attribute;
+    explain *const of_unix = explain_unix_attribute;
+    explain *const of_inet = explain_inet_attribute;
     EXPLAINS(of_inet, inodes, 12, NO_ERROR);
     EXPLAINS(of_unix, inodes, 12, LENGTHS(SOCKDIAG_NOT_MULTIPLE_OF_FOUR, 5, 0));
     EXPLAINS(of_unix, mark, 16, NO_ERROR);

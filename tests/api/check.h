@@ -81,13 +81,31 @@ static inline size_t put(uint8_t *bytes, size_t at, uint16_t type_word, const vo
     return at + (length + 7) / 4 * 4;
 }
 
+/* sockdiag_explain for one kind of bytes. */
+#define EXPLAINS_AS(name, what)                                                                 \
+    static inline uint32_t explain_##name(const uint8_t *bytes, size_t length,                  \
+                                          struct sockdiag_error_details *error) {               \
+        return sockdiag_explain(what, bytes, length, error);                                    \
+    }
+
+EXPLAINS_AS(unix, 1)
+EXPLAINS_AS(inet, 2)
+EXPLAINS_AS(netlink, 16)
+EXPLAINS_AS(packet, 17)
+EXPLAINS_AS(vsock, 40)
+EXPLAINS_AS(xdp, 44)
+EXPLAINS_AS(message, SOCKDIAG_EXPLAIN_MESSAGE)
+EXPLAINS_AS(datagram, SOCKDIAG_EXPLAIN_DATAGRAM)
+EXPLAINS_AS(unix_attribute, SOCKDIAG_EXPLAIN_UNIX_ATTRIBUTE)
+EXPLAINS_AS(inet_attribute, SOCKDIAG_EXPLAIN_INET_ATTRIBUTE)
+
 /* Explains an attribute of a family by itself: the bytes before it, which are in the reply, take
  * the place of the header. `length` is that of this attribute, or of all bytes that are left if
  * they are not an attribute. */
 #define EXPLAINS_ATTRIBUTE(family, ATTRIBUTES)                                                  \
     static inline uint32_t explain_##family##_attribute(const uint8_t *bytes, size_t length,    \
                                                         struct sockdiag_error_details *error) { \
-        return sockdiag_##family##_explain(bytes - (ATTRIBUTES), length + (ATTRIBUTES), error); \
+        return explain_##family(bytes - (ATTRIBUTES), length + (ATTRIBUTES), error);            \
     }
 
 EXPLAINS_ATTRIBUTE(netlink, SOCKDIAG_NETLINK_ATTRIBUTES)

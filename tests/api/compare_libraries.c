@@ -36,7 +36,7 @@ static const uint8_t *input[2];
 static size_t length[2], buffer_length, struct_size;
 static uint8_t *buffer;
 static _Alignas(16) uint8_t area[STRUCTS + 1][AREA];
-static uint32_t message_type, flags, number;
+static uint32_t message_type, flags, number, what;
 
 #include "calls.h"
 
@@ -213,8 +213,10 @@ static void make_error(void) {
 }
 
 static void make_numbers(void) {
+    static const uint16_t kinds[12] = {1, 2, 10, 16, 17, 40, 44, 256, 257, 258, 259, 260};
     message_type = any(4) ? 20 : any(65536);
     flags = any(2) ? any(65536) : 0x200 | 0x100 * any(2);
+    what = any(4) ? kinds[any(12)] : any(300);
     number = any(3) ? any(3000000) : any(UINT32_MAX);
     struct_size = any(3) ? any(300) : any(AREA);
     buffer_length = any(3) ? any(AREA) : any(120);

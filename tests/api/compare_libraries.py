@@ -29,7 +29,7 @@ IN_C = {"u16": "uint16_t", "u32": "uint32_t", "usize": "size_t"}
 # The lengths of the headers that precede the attributes.
 HEADERS = {"unix": 16, "inet": 72, "netlink": 28, "packet": 16, "vsock": 32, "xdp": 16}
 # The random number of compare_libraries.c that a parameter gets, by its name.
-NUMBERS = {"message_type": "message_type", "flags": "flags"}
+NUMBERS = {"message_type": "message_type", "flags": "flags", "what": "what"}
 MADE = 20_000
 
 

@@ -112,11 +112,6 @@ static void mptcp_info(const uint8_t *bytes, size_t length) {
     sink += sockdiag_inet_get_mptcp_info(bytes, length, &info, sizeof info);
 }
 
-static void explain_message(const uint8_t *bytes, size_t length) {
-    struct sockdiag_error_details error;
-    sink += sockdiag_message_explain(bytes, length, SOCKDIAG_SOCK_DIAG_BY_FAMILY, &error);
-}
-
 static void find_error_attributes(const uint8_t *bytes, size_t length) {
     struct sockdiag_cursor cursor = {0};
     sink += sockdiag_find_error_attributes(bytes, length, SOCKDIAG_NLMSG_ERROR,
@@ -130,7 +125,7 @@ static void explain_each(const uint8_t *bytes, size_t length) {
     struct sockdiag_cursor cursor = {SOCKDIAG_UNIX_ATTRIBUTES};
     size_t start = cursor.offset;
     while (sockdiag_next_attribute(bytes, length, &cursor, &attribute) == SOCKDIAG_ITEM) {
-        sink += sockdiag_unix_explain_attribute(bytes + start, length - start, &error);
+        sink += explain_unix_attribute(bytes + start, length - start, &error);
         start = cursor.offset;
     }
 }
@@ -198,18 +193,18 @@ static void write_requests(const uint8_t *bytes, size_t length) {
     STRUCT(sockdiag_get_vegas_info, struct sockdiag_vegas_info, value)                          \
     STRUCT(sockdiag_get_dctcp_info, struct sockdiag_dctcp_info, value)                          \
     STRUCT(sockdiag_get_bbr_info, struct sockdiag_bbr_info, value)                              \
-    STRUCT(sockdiag_unix_explain, struct sockdiag_error_details, unix_empty, unix_peers,        \
+    STRUCT(explain_unix, struct sockdiag_error_details, unix_empty, unix_peers,        \
            unix_path, unix_pending, unix_cut)                                                   \
-    STRUCT(sockdiag_inet_explain, struct sockdiag_error_details, inet_empty, inet_marks,        \
+    STRUCT(explain_inet, struct sockdiag_error_details, inet_empty, inet_marks,        \
            inet_text, inet_rejected)                                                            \
-    STRUCT(sockdiag_netlink_explain, struct sockdiag_error_details, netlink_empty)              \
-    STRUCT(sockdiag_packet_explain, struct sockdiag_error_details, unix_empty, unix_cut)        \
-    STRUCT(sockdiag_vsock_explain, struct sockdiag_error_details, vsock_empty)                  \
-    STRUCT(sockdiag_xdp_explain, struct sockdiag_error_details, unix_empty, unix_cut)           \
-    OTHER(explain_message, , inet_empty, inet_marks, inet_text)                                 \
-    STRUCT(sockdiag_framing_explain, struct sockdiag_error_details, many_messages, one_message) \
-    STRUCT(sockdiag_unix_explain_attribute, struct sockdiag_error_details, attributes, value)   \
-    STRUCT(sockdiag_inet_explain_attribute, struct sockdiag_error_details, attributes, value)   \
+    STRUCT(explain_netlink, struct sockdiag_error_details, netlink_empty)              \
+    STRUCT(explain_packet, struct sockdiag_error_details, unix_empty, unix_cut)        \
+    STRUCT(explain_vsock, struct sockdiag_error_details, vsock_empty)                  \
+    STRUCT(explain_xdp, struct sockdiag_error_details, unix_empty, unix_cut)           \
+    STRUCT(explain_message, struct sockdiag_error_details, inet_empty, inet_marks, inet_text)   \
+    STRUCT(explain_datagram, struct sockdiag_error_details, many_messages, one_message) \
+    STRUCT(explain_unix_attribute, struct sockdiag_error_details, attributes, value)   \
+    STRUCT(explain_inet_attribute, struct sockdiag_error_details, attributes, value)   \
     OTHER(find_error_attributes, , value)                                                       \
     OTHER(explain_each, , unix_empty, unix_rejected, unix_path)                                 \
     WALK(sockdiag_next_attribute, struct sockdiag_attribute, attributes)                        \

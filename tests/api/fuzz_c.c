@@ -239,7 +239,7 @@ static uint32_t try_unix(const uint8_t *payload, size_t length) {
     expect(it_fault == header_fault, "the error of the details of a UNIX reply");
     if (it_fault == SOCKDIAG_OK)
         expect_text(&it->name, payload, length);
-    try_explaining(sockdiag_unix_explain, payload, length, it_fault);
+    try_explaining(explain_unix, payload, length, it_fault);
     return it_fault;
 }
 
@@ -250,7 +250,7 @@ static uint32_t try_inet(const uint8_t *payload, size_t length) {
     if (it_fault == SOCKDIAG_OK)
         expect_text(&it->congestion, payload, length);
     try_info(payload, length);
-    try_explaining(sockdiag_inet_explain, payload, length, it_fault);
+    try_explaining(explain_inet, payload, length, it_fault);
     return it_fault;
 }
 
@@ -260,7 +260,7 @@ static void try_families(const uint8_t *payload, size_t length) {
              sockdiag_netlink_get_details(payload, length, it));
         if (it_fault == SOCKDIAG_OK)
             expect_text(&it->groups, payload, length);
-        try_explaining(sockdiag_netlink_explain, payload, length, it_fault);
+        try_explaining(explain_netlink, payload, length, it_fault);
     }
     {
         CALL(it, struct sockdiag_packet_details, sockdiag_packet_get_details(payload, length, it));
@@ -268,15 +268,15 @@ static void try_families(const uint8_t *payload, size_t length) {
             expect_text(&it->addresses, payload, length);
             expect_text(&it->filter, payload, length);
         }
-        try_explaining(sockdiag_packet_explain, payload, length, it_fault);
+        try_explaining(explain_packet, payload, length, it_fault);
     }
     {
         CALL(it, struct sockdiag_xdp_details, sockdiag_xdp_get_details(payload, length, it));
-        try_explaining(sockdiag_xdp_explain, payload, length, it_fault);
+        try_explaining(explain_xdp, payload, length, it_fault);
     }
     {
         CALL(it, struct sockdiag_vsock_header, sockdiag_vsock_get_details(payload, length, it));
-        try_explaining(sockdiag_vsock_explain, payload, length, it_fault);
+        try_explaining(explain_vsock, payload, length, it_fault);
     }
 }
 
@@ -317,14 +317,6 @@ static void try_attributes(const uint8_t *bytes, size_t length, size_t index) {
     expect(sockdiag_next_attribute(bytes, length, &cursor, it) == SOCKDIAG_END, "nothing is left");
 }
 
-/* The type of the message that explain_message explains. */
-static uint16_t explained_type;
-
-static uint32_t explain_message(const uint8_t *payload, size_t length,
-                                struct sockdiag_error_details *error) {
-    return sockdiag_message_explain(payload, length, explained_type, error);
-}
-
 /* The calls about a message compare its fields. */
 static void try_message(const struct sockdiag_message *it) {
     const uint32_t number = it->sequence_number ^ random_below(2), port = it->port_number;
@@ -350,8 +342,7 @@ static void try_messages(const uint8_t *bytes, size_t length) {
         expect(other >= SOCKDIAG_ITEM && other <= SOCKDIAG_NAME_WITHOUT_END &&
                message.offset == it->offset && message.length == it->length &&
                checked.offset == cursor.offset, "the same message, checked");
-        explained_type = message.message_type;
-        if (explained_type > SOCKDIAG_NLMSG_OVERRUN || explained_type == 0)
+        if (message.message_type == SOCKDIAG_SOCK_DIAG_BY_FAMILY)
             try_explaining(explain_message, bytes + it->offset, it->length,
                            other == SOCKDIAG_ITEM ? SOCKDIAG_OK : other);
         end = cursor.offset;
@@ -360,7 +351,7 @@ static void try_messages(const uint8_t *bytes, size_t length) {
                                       answer <= SOCKDIAG_ENVELOPE_LENGTH_PAST),
            "the end of an iteration over messages");
     if (answer != SOCKDIAG_END)
-        try_explaining(sockdiag_framing_explain, bytes + end, length - end, answer);
+        try_explaining(explain_datagram, bytes + end, length - end, answer);
     expect(sockdiag_next_message(bytes, length, &checked, &message) == answer, "the same end");
 }
 

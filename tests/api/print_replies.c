@@ -256,8 +256,8 @@ static uint32_t explain_part(explain *call, size_t start, size_t end) {
 }
 
 static void add_error(struct words *words) {
-    add(words, "%lu/%lu/%lu/%lu/", (unsigned long)error->code, (unsigned long)error->record_name,
-        (unsigned long)error->family, (unsigned long)error->message_type);
+    add(words, "%lu/%lu/%lu/", (unsigned long)error->code, (unsigned long)error->record_name,
+        (unsigned long)error->family);
     expect(error->kind.is_set <= 1 && (error->kind.is_set || error->kind.value == 0), "a kind");
     if (error->kind.is_set)
         add(words, "%lu", (unsigned long)error->kind.value);
@@ -342,7 +342,7 @@ static void print_header_error(struct words *words) {
                "unchanged details of a strict call");                                            \
         code = sockdiag_##family##_get_lenient_details(payload, payload_length, found,           \
                                                        rejections);                              \
-        expect(explain_part(sockdiag_##family##_explain, 0, payload_length) == first,            \
+        expect(explain_part(explain_##family, 0, payload_length) == first,            \
                "the first error");                                                               \
         if (code != SOCKDIAG_OK) {                                                               \
             expect(code == first, "the error of the header");                                    \
@@ -360,8 +360,8 @@ static void print_header_error(struct words *words) {
         puts(words.text);                                                                        \
     }
 
-TRY(unix, struct sockdiag_unix_details, SOCKDIAG_UNIX_ATTRIBUTES, sockdiag_unix_explain_attribute)
-TRY(inet, struct sockdiag_inet_details, SOCKDIAG_INET_ATTRIBUTES, sockdiag_inet_explain_attribute)
+TRY(unix, struct sockdiag_unix_details, SOCKDIAG_UNIX_ATTRIBUTES, explain_unix_attribute)
+TRY(inet, struct sockdiag_inet_details, SOCKDIAG_INET_ATTRIBUTES, explain_inet_attribute)
 TRY(netlink, struct sockdiag_netlink_details, SOCKDIAG_NETLINK_ATTRIBUTES,
     explain_netlink_attribute)
 TRY(packet, struct sockdiag_packet_details, SOCKDIAG_PACKET_ATTRIBUTES, explain_packet_attribute)

@@ -57,7 +57,6 @@ class Error(NamedTuple):
     code: int
     record: int = 0
     family: int = 0
-    message_type: int = 0
     kind: object = "-"
     got: int = 0
     need: int = 0

@@ -48,7 +48,6 @@ no_error_details = record {
   code = 0;
   record_name = 0;
   family = 0;
-  message_type = 0;
   kind = optional_number None;
   got = 0;
   need = 0;
@@ -59,7 +58,8 @@ no_error_details = record {
 -- `error_fields e`: the struct with the fields of the error `e`, each in the member with its name.
 -- All other members are 0, also `code`. Two fields of errors have other members: `left`, the number
 -- of bytes left, is in `got`; and `which`, the record, is in `record_name`, `family` and `kind`.
--- The last line is for all errors without fields.
+-- The last line is for all errors without fields, and for UnknownMessageType, whose field is in the
+-- header of the message.
 abbrev pub error_fields : DecodeError → ErrorDetails
 error_fields (error.BufferTooSmall which got need) = record no_error_details {
   record_name = record_code which;
@@ -71,8 +71,6 @@ error_fields (error.BufferTooSmall which got need) = record no_error_details {
 error_fields (error.UnsupportedFamily family) = record no_error_details { family = family }
 error_fields (error.MessageTooShort got) = record no_error_details { got = got }
 error_fields (error.UnknownFamily family) = record no_error_details { family = family }
-error_fields (error.UnknownMessageType message_type) =
-    record no_error_details { message_type = message_type }
 error_fields (error.AttributeHeaderCut left) = record no_error_details { got = left }
 error_fields (error.AttributeLengthUnder4 length) = record no_error_details { length = length }
 error_fields (error.AttributeLengthPast length left) =

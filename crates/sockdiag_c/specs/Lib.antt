@@ -17,5 +17,6 @@ pub mod PacketDetails
 pub mod VsockDetails
 pub mod XdpDetails
 pub mod FamilyRequests
+pub mod ExplainedReplies
 pub mod laws
 pub mod private

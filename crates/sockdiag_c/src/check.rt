@@ -29,15 +29,8 @@ pub(crate) fn store_parsed<T: Copy>(parsed: Result<T, DecodeError>, target: &mut
     }
 }
 
-/// Checks a whole reply about a UNIX socket, with its attributes, and returns its header. The bytes
-/// are the payload of the netlink message. Returns 0, or the code of the first error; then the
-/// header is unchanged. The family, the first byte, is not checked: use it to choose the call.
-///
-/// An attribute with an invalid value makes the whole reply invalid. `UNIX_DIAG_MEMINFO` with fewer
-/// than 36 bytes, which old kernels send, has `SOCKDIAG_BUFFER_TOO_SMALL`.
-/// `sockdiag_unix_get_lenient_details` returns the header of such a reply, and the first valid
-/// attribute of each kind that has a field in the details. `sockdiag_next_attribute` returns all
-/// attributes, without a check of their values.
+/// Checks a reply about a UNIX socket, as `sockdiag_unix_get_details` does, and returns its header
+/// only. Returns 0, or the code of the first error; then the header is unchanged.
 #[unsafe(no_mangle)]
 pub extern "C" fn sockdiag_check_unix_reply(payload: &[u8], header: &mut UnixHeader) -> u32
     ensures { IsCheckResult (unix_check payload.now)
@@ -47,16 +40,8 @@ pub extern "C" fn sockdiag_check_unix_reply(payload: &[u8], header: &mut UnixHea
     store_parsed(parsed.map(|view| UnixHeader::from(view.header())), header)
 }
 
-/// Checks a whole reply about an IPv4 or IPv6 socket, with its attributes, and returns its header.
-/// The bytes are the payload of the netlink message. Returns 0, or the code of the first error;
-/// then the header is unchanged.
-///
-/// An attribute with an invalid value makes the whole reply invalid. `INET_DIAG_INFO` with fewer
-/// than 232 bytes has `SOCKDIAG_BUFFER_TOO_SMALL`. TCP sockets of kernels without `tcpi_snd_wnd`
-/// have such values, and MPTCP sockets of all kernels. `sockdiag_inet_get_lenient_details` returns
-/// the header of such a reply, and the first valid attribute of each kind that has a field in the
-/// details. `sockdiag_inet_get_tcp_info` and `sockdiag_inet_get_mptcp_info` return a connection of
-/// any length. `sockdiag_next_attribute` returns all attributes, without a check of their values.
+/// Checks a reply about an IPv4 or IPv6 socket, as `sockdiag_inet_get_details` does, and returns
+/// its header only. Returns 0, or the code of the first error; then the header is unchanged.
 #[unsafe(no_mangle)]
 pub extern "C" fn sockdiag_check_inet_reply(payload: &[u8], header: &mut InetHeader) -> u32
     ensures { IsCheckResult (inet_check payload.now)
@@ -71,12 +56,10 @@ pub extern "C" fn sockdiag_check_inet_reply(payload: &[u8], header: &mut InetHea
     }
 }
 
-/// Checks the whole payload of a message of this type, and stores the kind of the reply and its
-/// header. The first byte is the family: `AF_UNIX` for a reply about a UNIX socket, `AF_INET` or
-/// `AF_INET6` for one about an internet socket. Any other family is rejected with
-/// `SOCKDIAG_UNKNOWN_FAMILY`: replies about netlink, packet, vsock and XDP sockets have other
-/// calls, `sockdiag_netlink_get_details` and so on. The header of the other kind is unchanged.
-/// Returns 0, or the code of the first error; then the reply is unchanged.
+/// Checks the payload of a message of this type, and stores the kind and the header of the reply.
+/// The header of the other kind is unchanged. Returns 0, or the code of the first error; then the
+/// reply is unchanged. A family other than `AF_UNIX`, `AF_INET` and `AF_INET6` is
+/// `SOCKDIAG_UNKNOWN_FAMILY`.
 #[unsafe(no_mangle)]
 pub extern "C" fn sockdiag_check_message(
     payload: &[u8],

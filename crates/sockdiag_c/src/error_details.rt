@@ -1,6 +1,6 @@
 //! Decode errors with their fields, as a C struct. The other calls return the code only.
 
-ghost use Rattle.std.specs.Prelude.{◌≡◌, MatchResult};
+ghost use Rattle.std.specs.Prelude.{◌≡◌, ◌<◌, MatchResult};
 ghost use Rattle.netlink_core.specs.Errors.{error_code};
 ghost use Rattle.netlink_core.specs.Header.{HasHeader, IsMessageError};
 ghost use Rattle.netlink_core.specs.Response.{response_codec};
@@ -10,25 +10,36 @@ ghost use Rattle.sock_diag_replies.specs.UnixResponseSpec.{unix_response_spec};
 ghost use Rattle.sock_diag_attributes.specs.InetAttributes.{inet_attribute_set};
 ghost use Rattle.sock_diag_attributes.specs.UnixAttributes.{unix_attribute_set};
 ghost use Rattle.sockdiag_c.specs.ErrorDetails.{IsExplained, IsItemExplained, error_details_of};
+ghost use Rattle.sockdiag_c.specs.ExplainedReplies.{IsReplyExplained};
 ghost use Rattle.sockdiag_c.specs.ErrorDetails.{record_code, record_family, record_kind};
 ghost use Rattle.sockdiag_c.specs.Family.{AreDetailsOf, IsFirstError};
-ghost use Rattle.sockdiag_c.specs.NetlinkDetails.{netlink_family};
-ghost use Rattle.sockdiag_c.specs.PacketDetails.{packet_family};
-ghost use Rattle.sockdiag_c.specs.VsockDetails.{vsock_family};
-ghost use Rattle.sockdiag_c.specs.XdpDetails.{xdp_family};
 
 use crate::check::OK;
-use crate::details::{Number, strict_details};
+use crate::details::{Number, ReplyDetails, strict_details};
 use crate::netlink_details::NetlinkDetails;
 use crate::packet_details::PacketDetails;
 use crate::xdp_details::XdpDetails;
 use netlink_core::{DecodeError, FamilyView, NetlinkHeader, NlasIterator, RecordName};
-use netlink_packet_sock_diag::SockDiagView;
+use netlink_packet_sock_diag::constants::{AF_INET, AF_INET6, AF_UNIX, SOCK_DIAG_BY_FAMILY};
 use netlink_packet_sock_diag::inet::InetResponseView;
 use netlink_packet_sock_diag::unix::UnixResponseView;
+use netlink_packet_sock_diag::{AF_NETLINK, AF_PACKET, SockDiagView};
 use sock_diag_attributes::inet::nlas::NlaView as InetNlaView;
 use sock_diag_attributes::unix::nlas::NlaView as UnixNlaView;
-use sock_diag_families::vsock::VsockResponseHeader;
+use sock_diag_families::vsock::{AF_VSOCK, VsockResponseHeader};
+use sock_diag_families::xdp::AF_XDP;
+
+/// `what` of `sockdiag_explain`: the payload of a message.
+pub(crate) const EXPLAIN_MESSAGE: u32 = 256;
+
+/// `what` of `sockdiag_explain`: a datagram from the cursor on.
+pub(crate) const EXPLAIN_DATAGRAM: u32 = 257;
+
+/// `what` of `sockdiag_explain`: an attribute of a UNIX socket.
+pub(crate) const EXPLAIN_UNIX_ATTRIBUTE: u32 = 258;
+
+/// `what` of `sockdiag_explain`: an attribute of an IPv4 or IPv6 socket.
+pub(crate) const EXPLAIN_INET_ATTRIBUTE: u32 = 259;
 
 /// A decode error with its fields. A field that the error does not have is 0.
 #[repr(C)]
@@ -44,8 +55,6 @@ pub struct ErrorDetails {
     /// (`SOCKDIAG_UNKNOWN_FAMILY`). If `record_name` is one of `SOCKDIAG_RECORD_FAMILY_..`, the
     /// family of the record.
     pub family: u32,
-    /// Message type (`SOCKDIAG_UNKNOWN_MESSAGE_TYPE`).
-    pub message_type: u32,
     /// Kind of the attribute whose value has a wrong length (`SOCKDIAG_WRONG_LENGTH`), or too few
     /// bytes for its record (`SOCKDIAG_RECORD_FAMILY_ATTRIBUTE`). Not set for other records, such
     /// as memory counters.
@@ -103,9 +112,6 @@ fn details_of(error: DecodeError) -> ErrorDetails
         }
         DecodeError::UnsupportedFamily { family } => details.family = u32::from(family),
         DecodeError::UnknownFamily { family } => details.family = u32::from(family),
-        DecodeError::UnknownMessageType { message_type } => {
-            details.message_type = u32::from(message_type);
-        }
         DecodeError::MessageTooShort { got }
         | DecodeError::AttributeHeaderCut { left: got }
         | DecodeError::NotMultipleOfFour { got }
@@ -148,12 +154,65 @@ fn explain<T: Drop>(parsed: Result<T, DecodeError>, error: &mut ErrorDetails) ->
     }
 }
 
-/// Stores the first error of a reply about a UNIX socket, with its fields: the error with which
-/// `sockdiag_unix_get_details` and `sockdiag_check_unix_reply` reject the reply. The bytes are the
-/// payload of the netlink message. Returns the code of the error; or 0 if the reply is accepted,
-/// and then the error is unchanged.
+/// Stores the error of bytes that another call rejected, with its fields. Returns its code; or 0 if
+/// the bytes are accepted, and then the error is unchanged. `what` says what the bytes are:
+/// - a family, such as `AF_INET`: a whole reply about a socket of this family, which
+///   `sockdiag_.._get_details` rejects. It is the first byte of the reply. If it is another family,
+///   the error is `SOCKDIAG_UNKNOWN_FAMILY`;
+/// - `SOCKDIAG_EXPLAIN_MESSAGE`: the payload of a message of type `SOCK_DIAG_BY_FAMILY`, which
+///   `sockdiag_next_message` rejects;
+/// - `SOCKDIAG_EXPLAIN_DATAGRAM`: a datagram from the cursor on, whose framing
+///   `sockdiag_next_any_message` rejects;
+/// - `SOCKDIAG_EXPLAIN_UNIX_ATTRIBUTE` or `SOCKDIAG_EXPLAIN_INET_ATTRIBUTE`: a part of a reply that
+///   begins with the attribute, which a lenient call rejects. No bytes are accepted;
+/// - any other number: returns 0.
 #[unsafe(no_mangle)]
-pub extern "C" fn sockdiag_unix_explain(payload: &[u8], error: &mut ErrorDetails) -> u32
+pub extern "C" fn sockdiag_explain(what: u32, bytes: &[u8], error: &mut ErrorDetails) -> u32
+    ensures reply { what < 256 → IsReplyExplained what bytes.now
+        record { old = error.old; new = error.new; returned = result } }
+    ensures message { what ≡ EXPLAIN_MESSAGE
+        → IsExplained (message_codec.parses bytes.now SOCK_DIAG_BY_FAMILY)
+        (message_codec.rejects bytes.now SOCK_DIAG_BY_FAMILY)
+        record { old = error.old; new = error.new; returned = result } }
+    ensures datagram { what ≡ EXPLAIN_DATAGRAM
+        → IsExplained (HasHeader bytes.now) (IsMessageError bytes.now)
+        record { old = error.old; new = error.new; returned = result } }
+    ensures unix_attribute { what ≡ EXPLAIN_UNIX_ATTRIBUTE
+        → IsItemExplained unix_attribute_set bytes.now
+        record { old = error.old; new = error.new; returned = result } }
+    ensures inet_attribute { what ≡ EXPLAIN_INET_ATTRIBUTE
+        → IsItemExplained inet_attribute_set bytes.now
+        record { old = error.old; new = error.new; returned = result } }
+    ensures other { EXPLAIN_INET_ATTRIBUTE < what → (result ≡ 0) × (error.new ≡ error.old) }
+{
+    match what {
+        EXPLAIN_MESSAGE => explain_message(bytes, error),
+        EXPLAIN_DATAGRAM => explain_datagram(bytes, error),
+        EXPLAIN_UNIX_ATTRIBUTE => explain_item::<UnixNlaView<'_>>(bytes, error),
+        EXPLAIN_INET_ATTRIBUTE => explain_item::<InetNlaView<'_>>(bytes, error),
+        _ if what < 256 => explain_reply(what as u8, bytes, error),
+        _ => OK,
+    }
+}
+
+// Explains the first error of a reply about a socket of this family.
+fn explain_reply(family: u8, payload: &[u8], error: &mut ErrorDetails) -> u32
+    ensures { IsReplyExplained family payload.now
+        record { old = error.old; new = error.new; returned = result } }
+{
+    match family {
+        AF_UNIX => explain_unix(payload, error),
+        AF_INET | AF_INET6 => explain_inet(payload, error),
+        AF_NETLINK => explain_details::<NetlinkDetails<'_>>(payload, error),
+        AF_PACKET => explain_details::<PacketDetails<'_>>(payload, error),
+        AF_VSOCK => explain_details::<VsockResponseHeader>(payload, error),
+        AF_XDP => explain_details::<XdpDetails>(payload, error),
+        family => explain::<()>(Err(DecodeError::UnknownFamily { family }), error),
+    }
+}
+
+// Explains the first error of a reply about a UNIX socket.
+fn explain_unix(payload: &[u8], error: &mut ErrorDetails) -> u32
     ensures { IsExplained ((response_codec unix_response_spec).parses payload.now tt)
         ((response_codec unix_response_spec).rejects payload.now tt)
         record { old = error.old; new = error.new; returned = result } }
@@ -161,12 +220,8 @@ pub extern "C" fn sockdiag_unix_explain(payload: &[u8], error: &mut ErrorDetails
     explain(UnixResponseView::parse(payload), error)
 }
 
-/// Stores the first error of a reply about an IPv4 or IPv6 socket, with its fields: the error with
-/// which `sockdiag_inet_get_details` and `sockdiag_check_inet_reply` reject the reply. The bytes
-/// are the payload of the netlink message. Returns the code of the error; or 0 if the reply is
-/// accepted, and then the error is unchanged.
-#[unsafe(no_mangle)]
-pub extern "C" fn sockdiag_inet_explain(payload: &[u8], error: &mut ErrorDetails) -> u32
+// Explains the first error of a reply about an IPv4 or IPv6 socket.
+fn explain_inet(payload: &[u8], error: &mut ErrorDetails) -> u32
     ensures { IsExplained ((response_codec inet_response_spec).parses payload.now tt)
         ((response_codec inet_response_spec).rejects payload.now tt)
         record { old = error.old; new = error.new; returned = result } }
@@ -174,105 +229,30 @@ pub extern "C" fn sockdiag_inet_explain(payload: &[u8], error: &mut ErrorDetails
     explain(InetResponseView::parse(payload), error)
 }
 
-/// Stores the first error of a reply about a netlink socket, with its fields: the error with which
-/// `sockdiag_netlink_get_details` rejects the reply. Returns the code of the error; or 0 if the
-/// reply is accepted, and then the error is unchanged.
-#[unsafe(no_mangle)]
-pub extern "C" fn sockdiag_netlink_explain(payload: &[u8], error: &mut ErrorDetails) -> u32
-    ensures { IsExplained (AreDetailsOf netlink_family payload.now)
-        (IsFirstError netlink_family payload.now)
+// Explains the first error of a reply that is read into the details `T`.
+fn explain_details<'a, T: ReplyDetails<'a>>(payload: &'a [u8], error: &mut ErrorDetails) -> u32
+    ensures { IsExplained (AreDetailsOf T.family payload.entry.now)
+        (IsFirstError T.family payload.entry.now)
         record { old = error.old; new = error.new; returned = result } }
 {
-    explain(strict_details::<NetlinkDetails>(payload), error)
+    explain(strict_details::<T>(payload), error)
 }
 
-/// Stores the first error of a reply about a packet socket, with its fields: the error with which
-/// `sockdiag_packet_get_details` rejects the reply. Returns the code of the error; or 0 if the
-/// reply is accepted, and then the error is unchanged.
-#[unsafe(no_mangle)]
-pub extern "C" fn sockdiag_packet_explain(payload: &[u8], error: &mut ErrorDetails) -> u32
-    ensures { IsExplained (AreDetailsOf packet_family payload.now)
-        (IsFirstError packet_family payload.now)
+// Explains the first error of the payload of a message.
+fn explain_message(payload: &[u8], error: &mut ErrorDetails) -> u32
+    ensures { IsExplained (message_codec.parses payload.now SOCK_DIAG_BY_FAMILY)
+        (message_codec.rejects payload.now SOCK_DIAG_BY_FAMILY)
         record { old = error.old; new = error.new; returned = result } }
 {
-    explain(strict_details::<PacketDetails>(payload), error)
+    explain(SockDiagView::parse(payload, SOCK_DIAG_BY_FAMILY), error)
 }
 
-/// Stores the first error of a reply about a vsock socket, with its fields: the error with which
-/// `sockdiag_vsock_get_details` rejects the reply. Returns the code of the error; or 0 if the reply
-/// is accepted, and then the error is unchanged.
-#[unsafe(no_mangle)]
-pub extern "C" fn sockdiag_vsock_explain(payload: &[u8], error: &mut ErrorDetails) -> u32
-    ensures { IsExplained (AreDetailsOf vsock_family payload.now)
-        (IsFirstError vsock_family payload.now)
-        record { old = error.old; new = error.new; returned = result } }
-{
-    explain(strict_details::<VsockResponseHeader>(payload), error)
-}
-
-/// Stores the first error of a reply about an XDP socket, with its fields: the error with which
-/// `sockdiag_xdp_get_details` rejects the reply. Returns the code of the error; or 0 if the reply
-/// is accepted, and then the error is unchanged.
-#[unsafe(no_mangle)]
-pub extern "C" fn sockdiag_xdp_explain(payload: &[u8], error: &mut ErrorDetails) -> u32
-    ensures { IsExplained (AreDetailsOf xdp_family payload.now)
-        (IsFirstError xdp_family payload.now)
-        record { old = error.old; new = error.new; returned = result } }
-{
-    explain(strict_details::<XdpDetails>(payload), error)
-}
-
-/// Stores the first error of the payload of a message of this type, with its fields: the error with
-/// which `sockdiag_next_message` rejects the payload. Returns the code of the error; or 0 if the
-/// payload is accepted, and then the error is unchanged. Do not pass one of the four `NLMSG_..`
-/// types: `sockdiag_next_message` does not check their payload.
-#[unsafe(no_mangle)]
-pub extern "C" fn sockdiag_message_explain(
-    payload: &[u8],
-    message_type: u16,
-    error: &mut ErrorDetails,
-) -> u32
-    ensures { IsExplained (message_codec.parses payload.now message_type)
-        (message_codec.rejects payload.now message_type)
-        record { old = error.old; new = error.new; returned = result } }
-{
-    explain(SockDiagView::parse(payload, message_type), error)
-}
-
-/// Stores the framing error with which `sockdiag_next_message` and `sockdiag_next_any_message`
-/// reject a datagram at the cursor, with its fields. The bytes are those of the datagram from the
-/// cursor on. Returns the code of the error; or 0 if the bytes begin with a message, and then the
-/// error is unchanged.
-#[unsafe(no_mangle)]
-pub extern "C" fn sockdiag_framing_explain(bytes: &[u8], error: &mut ErrorDetails) -> u32
+// Explains the framing error at the start of the bytes of a datagram.
+fn explain_datagram(bytes: &[u8], error: &mut ErrorDetails) -> u32
     ensures { IsExplained (HasHeader bytes.now) (IsMessageError bytes.now)
         record { old = error.old; new = error.new; returned = result } }
 {
     explain(NetlinkHeader::from_prefix(bytes), error)
-}
-
-/// Stores the error of an attribute of a UNIX socket, with its fields: its framing error, or the
-/// error of its value. The bytes are a part of a reply, and begin with the attribute. Returns the
-/// code of the error; or 0 if the attribute is accepted or there are no bytes, and then the error
-/// is unchanged.
-#[unsafe(no_mangle)]
-pub extern "C" fn sockdiag_unix_explain_attribute(bytes: &[u8], error: &mut ErrorDetails) -> u32
-    ensures { IsItemExplained unix_attribute_set bytes.now
-        record { old = error.old; new = error.new; returned = result } }
-{
-    explain_item::<UnixNlaView<'_>>(bytes, error)
-}
-
-/// Stores the error of an attribute of an IPv4 or IPv6 socket, with its fields: its framing error,
-/// or the error of its value. The bytes are a part of a reply, and begin with the attribute.
-/// Returns the code of the error; or 0 if the attribute is accepted or there are no bytes, and then
-/// the error is unchanged.
-#[unsafe(no_mangle)]
-pub extern "C" fn sockdiag_inet_explain_attribute(bytes: &[u8], error: &mut ErrorDetails) -> u32
-    ensures { IsItemExplained inet_attribute_set bytes.now
-        record { old = error.old; new = error.new; returned = result } }
-{
-    explain_item::<InetNlaView<'_>>(bytes, error)
 }
 
 // Stores the code and the fields of the error of the first attribute, and returns its code. Returns

@@ -70,17 +70,9 @@ pub struct InetDetails<'a> {
 
 const _: () = prove!(std::mem::size_of::<InetDetails<'static>>() == 248);
 
-/// Checks a whole reply about an IPv4 or IPv6 socket, as `sockdiag_check_inet_reply` does, and
-/// returns its contents, in one pass over the attributes. `INET_DIAG_INFO` is checked, and not
-/// returned. The bytes are the payload of the netlink message. Returns 0, and sets all fields: a
-/// number or a record that the reply does not contain is all 0. Or returns the code of the first
-/// error, in the order of the bytes, and then the details are unchanged. The previous contents of
-/// the details are not read. Each attribute is checked, and of several attributes of a kind the
-/// first one counts. Texts point into the payload, and are valid as long as it is.
-///
-/// Attributes without a field, such as `INET_DIAG_MD5SIG` and others that are arrays or nested, are
-/// not an error: `sockdiag_next_attribute` returns them. A reply with a short `INET_DIAG_INFO` is
-/// rejected: `sockdiag_inet_get_lenient_details` returns its other attributes.
+/// Parses a reply about an IPv4 or IPv6 socket. Returns 0, or the code of its first error; then the
+/// details are unchanged. `INET_DIAG_INFO` is checked, and not returned:
+/// `sockdiag_inet_get_tcp_info` returns it.
 #[unsafe(no_mangle)]
 pub extern "C" fn sockdiag_inet_get_details<'a>(
     payload: &'a [u8],

@@ -111,16 +111,8 @@ impl Errors {
     }
 }
 
-/// Returns the header of a reply about a UNIX socket, the first valid attribute of each kind that
-/// has a field in the details, and the first error of each kind, in one pass over the attributes.
-/// What follows a framing error is not parsed. The bytes are the payload of the netlink message.
-/// Returns 0, and sets all fields of the details and of the rejections; or the code of the error of
-/// the header, and then both are unchanged. The previous contents of both are not read. The fields
-/// are set as `sockdiag_unix_get_details` sets them. The family, the first byte, is not checked:
-/// use it to choose the call.
-///
-/// Use this call to list sockets: a value that this library does not accept, such as the
-/// `UNIX_DIAG_MEMINFO` of an old kernel, hides only itself, and not its socket.
+/// Parses a reply about a UNIX socket leniently. Returns 0, or the code of the error of its header;
+/// then details and rejections are unchanged.
 #[unsafe(no_mangle)]
 pub extern "C" fn sockdiag_unix_get_lenient_details<'a>(
     payload: &'a [u8],
@@ -136,17 +128,10 @@ pub extern "C" fn sockdiag_unix_get_lenient_details<'a>(
     store_lenient_details(payload, details, rejections)
 }
 
-/// Returns the header of a reply about an IPv4 or IPv6 socket, the first valid attribute of each
-/// kind that has a field in the details, and the first error of each kind, in one pass over the
-/// attributes. What follows a framing error is not parsed. The bytes are the payload of the netlink
-/// message. Returns 0, and sets all fields of the details and of the rejections; or the code of the
-/// error of the header, and then both are unchanged. The previous contents of both are not read.
-/// The fields are set as `sockdiag_inet_get_details` sets them.
-///
-/// Use this call to list sockets: a value that this library does not accept, such as the
-/// `INET_DIAG_INFO` of an old kernel or of MPTCP, hides only itself, and not its socket.
-/// `sockdiag_inet_get_tcp_info` returns the value of an old kernel as far as it goes, and
-/// `sockdiag_inet_get_mptcp_info` that of MPTCP, which is another struct.
+/// Parses a reply about an IPv4 or IPv6 socket leniently. Returns 0, or the code of the error of
+/// its header; then details and rejections are unchanged. An `INET_DIAG_INFO` of fewer than 232
+/// bytes, as of MPTCP, is in the rejections: `sockdiag_inet_get_tcp_info` and
+/// `sockdiag_inet_get_mptcp_info` return a value of any length.
 #[unsafe(no_mangle)]
 pub extern "C" fn sockdiag_inet_get_lenient_details<'a>(
     payload: &'a [u8],
@@ -162,13 +147,8 @@ pub extern "C" fn sockdiag_inet_get_lenient_details<'a>(
     store_lenient_details(payload, details, rejections)
 }
 
-/// Returns the header of a reply about a netlink socket, the first valid attribute of each kind
-/// that has a field in the details, and the first error of each kind, in one pass over the
-/// attributes. What follows a framing error is not parsed. The bytes are the payload of the netlink
-/// message. Returns 0, and sets all fields of the details and of the rejections; or the code of the
-/// error of the header, and then both are unchanged. The previous contents of both are not read.
-/// The family, attributes of other kinds, and the bytes of `groups` are not checked. Texts point
-/// into the payload, and are valid as long as it is.
+/// Parses a reply about a netlink socket leniently. Returns 0, or the code of the error of its
+/// header; then details and rejections are unchanged.
 #[unsafe(no_mangle)]
 pub extern "C" fn sockdiag_netlink_get_lenient_details<'a>(
     payload: &'a [u8],
@@ -184,14 +164,8 @@ pub extern "C" fn sockdiag_netlink_get_lenient_details<'a>(
     store_lenient_details(payload, details, rejections)
 }
 
-/// Returns the header of a reply about a packet socket, the first valid attribute of each kind, and
-/// the first error of each kind, in one pass over the attributes. What follows a framing error is
-/// not parsed. The bytes are the payload of the netlink message. Returns 0, and sets all fields of
-/// the details and of the rejections: a record of which the reply has no valid attribute is all 0,
-/// and its field `has_..` is 0. Or returns the code of the error of the header, and then both are
-/// unchanged. The previous contents of both are not read. The family, attributes of other kinds,
-/// and the bytes of `addresses` and `filter` are not checked. Texts point into the payload, and are
-/// valid as long as it is.
+/// Parses a reply about a packet socket leniently. Returns 0, or the code of the error of its
+/// header; then details and rejections are unchanged.
 #[unsafe(no_mangle)]
 pub extern "C" fn sockdiag_packet_get_lenient_details<'a>(
     payload: &'a [u8],
@@ -207,12 +181,9 @@ pub extern "C" fn sockdiag_packet_get_lenient_details<'a>(
     store_lenient_details(payload, details, rejections)
 }
 
-/// Returns the header of a reply about a vsock socket, and the framing error of the bytes after it,
-/// in one pass over them. The bytes are the payload of the netlink message. Returns 0, and sets all
-/// fields of the header and of the rejections; or the code of the error of the header, and then
-/// both are unchanged. The previous contents of both are not read. Linux sends no attributes.
-/// Values of attributes are not checked, so only `first` and `framing` of the rejections can be
-/// other than 0, and they are equal.
+/// Parses a reply about a vsock socket leniently. Returns 0, or the code of the error of its
+/// header; then header and rejections are unchanged. The only rejection can be the framing error of
+/// bytes after the header.
 #[unsafe(no_mangle)]
 pub extern "C" fn sockdiag_vsock_get_lenient_details(
     payload: &[u8],
@@ -228,13 +199,8 @@ pub extern "C" fn sockdiag_vsock_get_lenient_details(
     store_lenient_details(payload, details, rejections)
 }
 
-/// Returns the header of a reply about an XDP socket, the first valid attribute of each kind, and
-/// the first error of each kind, in one pass over the attributes. What follows a framing error is
-/// not parsed. The bytes are the payload of the netlink message. Returns 0, and sets all fields of
-/// the details and of the rejections: a record of which the reply has no valid attribute is all 0,
-/// and its field `has_..` is 0. Or returns the code of the error of the header, and then both are
-/// unchanged. The previous contents of both are not read. The family and attributes of other kinds
-/// are not checked.
+/// Parses a reply about an XDP socket leniently. Returns 0, or the code of the error of its header;
+/// then details and rejections are unchanged.
 #[unsafe(no_mangle)]
 pub extern "C" fn sockdiag_xdp_get_lenient_details(
     payload: &[u8],

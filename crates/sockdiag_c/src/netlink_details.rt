@@ -32,15 +32,8 @@ pub struct NetlinkDetails<'a> {
 
 const _: () = prove!(std::mem::size_of::<NetlinkDetails<'static>>() == 136);
 
-/// Checks a whole reply about a netlink socket, and returns its contents, in one pass over the
-/// attributes. The bytes are the payload of the netlink message. Returns 0, and sets all fields: a
-/// number or a record that the reply does not contain is all 0. Or returns the code of the first
-/// error, in the order of the bytes, and then the details are unchanged. The previous contents of
-/// the details are not read. Each attribute is checked, and of several attributes of a kind the
-/// first one counts. Texts point into the payload, and are valid as long as it is.
-///
-/// One rejected attribute hides the others: `sockdiag_netlink_get_lenient_details` returns them.
-/// Linux 6.18 lists a netlink socket twice if it is a member of a group.
+/// Parses a reply about a netlink socket. Returns 0, or the code of its first error; then the
+/// details are unchanged. Linux 6.18 lists a netlink socket twice if it is a member of a group.
 #[unsafe(no_mangle)]
 pub extern "C" fn sockdiag_netlink_get_details<'a>(
     payload: &'a [u8],

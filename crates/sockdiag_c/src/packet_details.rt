@@ -55,14 +55,8 @@ pub struct PacketDetails<'a> {
 
 const _: () = prove!(std::mem::size_of::<PacketDetails<'static>>() == 248);
 
-/// Checks a whole reply about a packet socket, and returns its contents, in one pass over the
-/// attributes. The bytes are the payload of the netlink message. Returns 0, and sets all fields: a
-/// number or a record that the reply does not contain is all 0. Or returns the code of the first
-/// error, in the order of the bytes, and then the details are unchanged. The previous contents of
-/// the details are not read. Each attribute is checked, and of several attributes of a kind the
-/// first one counts. Texts point into the payload, and are valid as long as it is.
-///
-/// One rejected attribute hides the others: `sockdiag_packet_get_lenient_details` returns them.
+/// Parses a reply about a packet socket. Returns 0, or the code of its first error; then the
+/// details are unchanged.
 #[unsafe(no_mangle)]
 pub extern "C" fn sockdiag_packet_get_details<'a>(
     payload: &'a [u8],

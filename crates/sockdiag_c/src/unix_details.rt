@@ -49,16 +49,8 @@ pub struct UnixDetails<'a> {
 
 const _: () = prove!(std::mem::size_of::<UnixDetails<'static>>() == 168);
 
-/// Checks a whole reply about a UNIX socket, as `sockdiag_check_unix_reply` does, and returns its
-/// contents, in one pass over the attributes. The bytes are the payload of the netlink message.
-/// Returns 0, and sets all fields: a number that the reply does not contain is all 0. Or returns
-/// the code of the first error, in the order of the bytes, and then the details are unchanged. The
-/// previous contents of the details are not read. Each attribute is checked, and of several
-/// attributes of a kind the first one counts. Texts point into the payload, and are valid as long
-/// as it is. The family, the first byte, is not checked: use it to choose the call.
-///
-/// Attributes without a field are not an error: `sockdiag_next_attribute` returns them. Old kernels
-/// send values that are rejected: `sockdiag_unix_get_lenient_details` returns the other attributes.
+/// Parses a reply about a UNIX socket. Returns 0, or the code of its first error; then the details
+/// are unchanged.
 #[unsafe(no_mangle)]
 pub extern "C" fn sockdiag_unix_get_details<'a>(
     payload: &'a [u8],

@@ -13,14 +13,8 @@ use sock_diag_families::vsock::VsockResponseHeader;
 
 const _: () = prove!(std::mem::size_of::<VsockResponseHeader>() == 32);
 
-/// Checks a whole reply about a vsock socket, and returns its header. The bytes are the payload of
-/// the netlink message. Returns 0, or the code of the first error; then the header is unchanged.
-///
-/// The record has 32 bytes, and Linux sends no others. Bytes after it are attributes: their framing
-/// is checked, and nothing else. So one to three more bytes are rejected with
-/// `SOCKDIAG_ATTRIBUTE_HEADER_CUT`, and four zero bytes with `SOCKDIAG_ATTRIBUTE_LENGTH_UNDER_4`,
-/// since they are an attribute whose length field is 0. `sockdiag_vsock_get_lenient_details`
-/// returns the header of such a reply.
+/// Parses a reply about a vsock socket. Returns 0, or the code of its first error; then the header
+/// is unchanged. Linux sends no attributes: of bytes after the header only the framing is checked.
 #[unsafe(no_mangle)]
 pub extern "C" fn sockdiag_vsock_get_details(
     payload: &[u8],

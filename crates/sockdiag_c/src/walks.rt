@@ -217,10 +217,8 @@ pub extern "C" fn sockdiag_next_any_message(
 ///
 /// An `NLMSG_ERROR` with 0 is an acknowledgement. A dump that failed also ends with `NLMSG_DONE`,
 /// so look at the number there too. A kernel that lacks the protocol answers a request for it with
-/// `-ENOENT` or `-EINVAL`; one without MPTCP may list TCP sockets instead, see the field `protocol`
-/// of `struct sockdiag_inet_request`. What follows the number is not returned: the request, and for
-/// a socket with `NETLINK_EXT_ACK` more about the error, which `sockdiag_find_error_attributes`
-/// finds.
+/// `-ENOENT` or `-EINVAL`. What follows the number is not returned: the request, and for a socket
+/// with `NETLINK_EXT_ACK` more about the error, which `sockdiag_find_error_attributes` finds.
 #[unsafe(no_mangle)]
 pub extern "C" fn sockdiag_get_error_number(payload: &[u8], number: &mut i32) -> u32
     ensures { IsGetterResult (leading_error_number payload.now)

@@ -55,14 +55,8 @@ pub struct XdpDetails {
 
 const _: () = prove!(std::mem::size_of::<XdpDetails>() == 240);
 
-/// Checks a whole reply about an XDP socket, and returns its contents, in one pass over the
-/// attributes. The bytes are the payload of the netlink message. Returns 0, and sets all fields: a
-/// number or a record that the reply does not contain is all 0. Or returns the code of the first
-/// error, in the order of the bytes, and then the details are unchanged. The previous contents of
-/// the details are not read. Each attribute is checked, and of several attributes of a kind the
-/// first one counts.
-///
-/// One rejected attribute hides the others: `sockdiag_xdp_get_lenient_details` returns them.
+/// Parses a reply about an XDP socket. Returns 0, or the code of its first error; then the details
+/// are unchanged.
 #[unsafe(no_mangle)]
 pub extern "C" fn sockdiag_xdp_get_details(payload: &[u8], details: &mut XdpDetails) -> u32
     ensures details { result ≡ 0 → AreDetailsOf xdp_family payload.now details.new }

@@ -1,6 +1,7 @@
 -- The numbers of the constants that definitions and contracts name.
 use Rattle.std.proofs.Common.{◌≡◌, refl}
 use Rattle.sockdiag_c.specs.declared.details.TheConstants as details
+use Rattle.sockdiag_c.specs.declared.error_details.TheConstants as explain
 use Rattle.sockdiag_c.specs.declared.headers.TheConstants as headers
 use Rattle.sockdiag_c.specs.declared.lenient.TheConstants.{REJECTION_KINDS}
 
@@ -15,3 +16,9 @@ reply_kinds = (refl, refl)
 -- SOCKDIAG_REJECTION_KINDS of include/sockdiag.h
 pub rejection_kinds : REJECTION_KINDS ≡ 32
 rejection_kinds = refl
+
+-- SOCKDIAG_EXPLAIN_MESSAGE to SOCKDIAG_EXPLAIN_INET_ATTRIBUTE of include/sockdiag.h: above the
+-- families
+pub explained : (explain.EXPLAIN_MESSAGE ≡ 256) × (explain.EXPLAIN_DATAGRAM ≡ 257)
+    × (explain.EXPLAIN_UNIX_ATTRIBUTE ≡ 258) × (explain.EXPLAIN_INET_ATTRIBUTE ≡ 259)
+explained = (refl, refl, refl, refl)

@@ -1,6 +1,6 @@
 use Rattle.sock_diag_replies.specs.ViewModel.{view_model}
 use Rattle.sockdiag_c.proofs.Explaining.{explained}
-use Rattle.sockdiag_c.proofs.error_details.sockdiag_unix_explain.Goals as goal
+use Rattle.sockdiag_c.proofs.error_details.explain_unix.Goals as goal
 
 pub returns : goal.returns
 returns c =

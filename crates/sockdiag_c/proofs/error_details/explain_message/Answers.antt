@@ -1,6 +1,6 @@
 use Rattle.netlink_packet_sock_diag.specs.MessageViewModel.{message_view_model}
 use Rattle.sockdiag_c.proofs.Explaining.{explained}
-use Rattle.sockdiag_c.proofs.error_details.sockdiag_message_explain.Goals as goal
+use Rattle.sockdiag_c.proofs.error_details.explain_message.Goals as goal
 
 pub returns : goal.returns
 returns c =
