@@ -70,13 +70,22 @@ OTHER_REQUEST = "180000001400010307000000000000001000000000000000"
 
 # A request for SCTP sockets, and the header of a reply about an SCTP association, as a kernel sent
 # it. Its attributes are INET_DIAG_INFO, _LOCALS, _CONG and _PEERS, in the kernel's order and with
-# the kernel's lengths. A reply about the socket has the first two of them.
+# the kernel's lengths. A reply about the socket has the first two of them. The addresses are
+# 10.0.0.1, fe80::1 with port 7, and one of another family, in 128 bytes each.
 SCTP_REQUEST = TCP_REQUEST[:34] + "84" + TCP_REQUEST[36:]
 ASSOCIATION = (
     "5800000014000200070000000000000002030000b77417707f0000010000000000000000000000007f00000100"
     "000000000000000000000001000000a300000000000000000000000000000000000000000000000a1a0000"
 )
-ASSOCIATION_ATTRIBUTES = [(2, "01" * 368), (12, "02" * 128), (4, "72656e6f00"), (13, "03" * 128)]
+ADDRESSES = (
+    "020000000a000001" + "ff" * 120,
+    "0a00000700000000fe80" + "00" * 13 + "01" + "00" * 104,
+    "0100" + "ff" * 126,
+)
+ASSOCIATION_ATTRIBUTES = [(2, "01" * 368), (12, ADDRESSES[0]), (4, "72656e6f00"),
+                          (13, "".join(ADDRESSES))]
+LOCALS = [{"family": 2, "port": 0, "addr": "10.0.0.1"}]
+PEERS = [*LOCALS, {"family": 10, "port": 7, "addr": "fe80::1"}, {"family": 1, "port": 65535}]
 
 # The names of the states 0 to 8 of an association.
 ASSOCIATION_STATES = [
@@ -194,6 +203,11 @@ FAMILY_VALUES = [
             (4, "07000100", " fanout(id:7,type:lb)", "fanout", {"id": 7, "type": 1}),
             (4, "ffff0400", " fanout(id:65535,type:random)", "fanout", {"id": 65535, "type": 4}),
             (4, "00000700", " fanout(id:0,type:0x7)", "fanout", {"id": 0, "type": 7}),
+            (7, "", "", "filter", []),
+            (7, "280000000c000000" "1500010200080000" "0600000000000400",
+             " bpf filter:0x28 0 0 12,0x15 1 2 2048,0x6 0 0 262144", "filter",
+             [{"code": 40, "jt": 0, "jf": 0, "k": 12}, {"code": 21, "jt": 1, "jf": 2, "k": 2048},
+              {"code": 6, "jt": 0, "jf": 0, "k": 1 << 18}]),
         ],
     ),
     (
@@ -579,6 +593,17 @@ def lists_values_of_other_families(sslist):
             assert list_of(found[member]) == list_of(shown), found
 
 
+def rejects_filters_of_other_lengths(sslist):
+    """A filter consists of instructions of eight bytes."""
+    header, columns, _ = FAMILY_VALUES[1]
+    for value in ("00", "00" * 7, "00" * 9):
+        capture = pcap(HEADERS[0], (SOCK_DIAG, with_attributes(header, (7, value))))
+        length = len(value) // 2
+        sslist.run(capture, ["-O"], [columns, f" unread:(7,{length},wrong-length)\n"])
+        assert sslist.objects(capture)[0]["other_attributes"] == [
+            {"kind": 7, "length": length, "hex": value, "error": "wrong-length"}]
+
+
 def list_of(value):
     """Returns the members of an object in their order, or another value."""
     return list(value.items()) if isinstance(value, dict) else value
@@ -686,25 +711,27 @@ def association_columns(netid, state):
 def lists_sctp_associations(sslist):
     """The kernel lists an SCTP socket, and then each of its associations with INET_DIAG_PEERS and
     SCTP's own states. Without the request it may also be one. INET_DIAG_INFO is not a tcp_info."""
-    others = [{"kind": kind, "length": len(value) // 2, "hex": value}
-              for kind, value in ASSOCIATION_ATTRIBUTES if kind != 4]
+    others = [{"kind": 2, "length": 368, "hex": "01" * 368}]
     for packets, netid in (([(SOCK_DIAG, SCTP_REQUEST)], "sctp"), ([], "inet")):
         for state, name in enumerate(ASSOCIATION_STATES):
             reply = association(state, *ASSOCIATION_ATTRIBUTES)
             capture = pcap(HEADERS[0], *packets, (SOCK_DIAG, reply))
-            details = " cong:reno unknown:(2,368)\n"
+            details = " cong:reno locals:10.0.0.1 peers:10.0.0.1,fe80::1,* unknown:(2,368)\n"
             sslist.run(capture, ["-iO"], [association_columns(netid, name), details])
             shown = sslist.objects(capture)[0]
             assert (shown["netid"], shown["state_name"], shown["state"]) == (netid, name, state)
             assert "info" not in shown and shown["other_attributes"] == others, shown
+            assert (shown["locals"], shown["peers"]) == (LOCALS, PEERS), shown
 
 
 def lists_sctp_sockets(sslist):
     """A reply without INET_DIAG_PEERS is about a socket, and has a TCP state. So has a reply that
     has this attribute and answers a request for TCP sockets."""
     for request, netid, pairs, details in (
-        (SCTP_REQUEST, "sctp", ASSOCIATION_ATTRIBUTES[:2], " unknown:(2,368)"),
-        (TCP_REQUEST, "tcp", ASSOCIATION_ATTRIBUTES[3:], ""),
+        (SCTP_REQUEST, "sctp", ASSOCIATION_ATTRIBUTES[:2], " locals:10.0.0.1 unknown:(2,368)"),
+        (TCP_REQUEST, "tcp", ASSOCIATION_ATTRIBUTES[3:], " peers:10.0.0.1,fe80::1,*"),
+        (SCTP_REQUEST, "sctp", [(12, "")], ""),
+        (SCTP_REQUEST, "sctp", [(12, ADDRESSES[0] + "00")], " unread:(12,129,wrong-length)"),
     ):
         for state, name in ((1, "ESTAB"), (3, "SYN-RECV"), (7, "UNCONN"), (10, "LISTEN")):
             reply = association(state, *pairs)
@@ -992,6 +1019,7 @@ def main():
     sslist, failed = Lister(sys.argv[1]), 0
     for check in (
         lists_captures_of_both_orders, lists_other_families, lists_values_of_other_families,
+        rejects_filters_of_other_lengths,
         lists_attributes_of_newer_kernels,
         lists_the_first_valid_attribute,
         lists_short_tcp_info, leaves_out_times_that_were_not_measured,

@@ -9,7 +9,7 @@ pub mod Slots
 pub mod FactItems
 pub mod Rows
 pub mod CellWidths
-pub mod Md5Keys
+pub mod RecordLists
 pub mod JsonNames
 pub mod Choosing
 pub mod Listed

@@ -27,7 +27,9 @@ use Rattle.sslist_lister.specs.Facts.{number_facts, numbers, shown_number, text_
 use Rattle.sslist_lister.specs.FamilyFacts.{fanout_facts, groups_facts, netlink_flags_facts}
 use Rattle.sslist_lister.specs.FamilyFacts.{packet_facts, packet_ring_facts, umem_facts}
 use Rattle.sslist_lister.specs.FamilyFacts.{xdp_facts, xdp_ring_facts, xdp_statistics_facts}
+use Rattle.sslist_lister.specs.FilterProgram.{filter_outcome}
 use Rattle.sslist_lister.specs.Md5Keys.{md5_facts}
+use Rattle.sslist_lister.specs.SctpAddresses.{addresses_facts}
 use Rattle.sslist_lister.specs.Tcp.{mptcp_info, tcp_info}
 use Rattle.sslist_lister.specs.UlpInfo.{ulp_outcome}
 use Rattle.sslist_lister.specs.declared.facts.Shown.TheVariants.{Always, Closed, Directions}
@@ -170,7 +172,7 @@ with_facts facts = Ok (Some facts)
 -- value is read as `value`. Only JSON has the name of a UNIX socket, its peer and its queues here
 -- (Never), since the table has columns for them. `icons` are the inodes of connections that wait to
 -- be accepted. A `struct tcp_info` may have any length. The upper layer protocol may have no valid
--- name.
+-- name, and the filter of a packet socket may not consist of instructions.
 abbrev pub any_outcome : Bool → Sockets → AnyValue → Outcome
 any_outcome utf8 sockets (any.name n) = with_facts (name_facts n)
 any_outcome utf8 sockets (any.vfs file) = with_facts (vfs_facts file.inode file.device)
@@ -202,8 +204,10 @@ any_outcome utf8 sockets (any.v6_only flag) =
 any_outcome utf8 sockets (any.vegas v) = with_facts (vegas_facts v)
 any_outcome utf8 sockets (any.dctcp v) = with_facts (dctcp_facts v)
 any_outcome utf8 sockets (any.bbr v) = with_facts (bbr_facts v)
-any_outcome utf8 sockets (any.local_addresses records) = Ok None
-any_outcome utf8 sockets (any.peer_addresses records) = Ok None
+any_outcome utf8 sockets (any.local_addresses records) =
+    with_facts (addresses_facts (codes " locals:") (codes "locals") records)
+any_outcome utf8 sockets (any.peer_addresses records) =
+    with_facts (addresses_facts (codes " peers:") (codes "peers") records)
 any_outcome utf8 sockets (any.md5_signatures records) = with_facts (md5_facts records)
 any_outcome utf8 sockets (any.ulp bytes) = ulp_outcome bytes
 any_outcome utf8 sockets (any.bpf_storages bytes) = Ok None
@@ -219,7 +223,7 @@ any_outcome utf8 sockets (any.receive_frames ring) =
 any_outcome utf8 sockets (any.send_frames ring) =
     with_facts (packet_ring_facts (codes " ring_tx(") (codes "tx_ring") ring)
 any_outcome utf8 sockets (any.fanout n) = with_facts (fanout_facts n)
-any_outcome utf8 sockets (any.filter instructions) = Ok None
+any_outcome utf8 sockets (any.filter instructions) = filter_outcome instructions
 any_outcome utf8 sockets (any.xdp_info x) = with_facts (xdp_facts x)
 any_outcome utf8 sockets (any.receive_ring entries) =
     with_facts (xdp_ring_facts (codes " rx(") (codes "rx_ring") entries)

@@ -22,8 +22,10 @@ use Rattle.sock_diag_records.specs.declared.constants.TheConstants.{INET_DIAG_BB
 use Rattle.sock_diag_records.specs.declared.constants.TheConstants.{INET_DIAG_CONG}
 use Rattle.sock_diag_records.specs.declared.constants.TheConstants.{INET_DIAG_DCTCPINFO}
 use Rattle.sock_diag_records.specs.declared.constants.TheConstants.{INET_DIAG_INFO}
+use Rattle.sock_diag_records.specs.declared.constants.TheConstants.{INET_DIAG_LOCALS}
 use Rattle.sock_diag_records.specs.declared.constants.TheConstants.{INET_DIAG_MD5SIG}
 use Rattle.sock_diag_records.specs.declared.constants.TheConstants.{INET_DIAG_MEMINFO}
+use Rattle.sock_diag_records.specs.declared.constants.TheConstants.{INET_DIAG_PEERS}
 use Rattle.sock_diag_records.specs.declared.constants.TheConstants.{INET_DIAG_SKMEMINFO}
 use Rattle.sock_diag_records.specs.declared.constants.TheConstants.{INET_DIAG_VEGASINFO}
 use Rattle.sslist_lister.specs.AttributeFacts.{attribute_outcome, is_memory_kind}
@@ -73,7 +75,7 @@ detail_group (Inet format) kind =
     if (kind == INET_DIAG_MEMINFO) || (kind == INET_DIAG_SKMEMINFO) then Memory
     else if (kind == INET_DIAG_INFO) || (kind == INET_DIAG_VEGASINFO) || (kind == INET_DIAG_CONG)
     || (kind == INET_DIAG_DCTCPINFO) || (kind == INET_DIAG_BBRINFO) || (kind == INET_DIAG_MD5SIG)
-    || (kind == INET_DIAG_ULP_INFO)
+    || (kind == INET_DIAG_ULP_INFO) || (kind == INET_DIAG_LOCALS) || (kind == INET_DIAG_PEERS)
     then Connection else Extended
 detail_group other kind = if is_memory_kind other kind then Memory else Extended
 

@@ -7,7 +7,10 @@ pub mod Protocol
 pub mod Sctp
 pub mod Selection
 pub mod Table
+pub mod RecordFacts
 pub mod Md5Keys
+pub mod SctpAddresses
+pub mod FilterProgram
 pub mod UlpInfo
 pub mod Rows
 pub mod Facts

@@ -29,12 +29,13 @@ use crate::family_facts::{
     show_fanout, show_groups, show_netlink_flags, show_packet, show_packet_ring, show_umem,
     show_xdp, show_xdp_ring, show_xdp_statistics,
 };
+use crate::filter_program::{show_filter, status_of_filter};
 use crate::tcp::{show_mptcp_info, show_tcp_info};
 use crate::ulp_info::{show_ulp, status_of_ulp};
 use netlink_core::NlaBuffer;
 use sock_diag_attributes::unix::nlas::NumbersView;
 use sock_diag_extras::any::{AnyNla, Sockets};
-use sock_diag_extras::{BbrInfo, DctcpInfo, VegasInfo};
+use sock_diag_extras::{BbrInfo, DctcpInfo, Md5Signature, StoredAddress, VegasInfo};
 use sock_diag_families::netlink::NETLINK_DIAG_MEMINFO;
 use sock_diag_families::packet::PACKET_DIAG_MEMINFO;
 use sock_diag_families::xdp::XDP_DIAG_MEMINFO;
@@ -105,7 +106,15 @@ fn show_any<S: FactSink>(
         AnyNla::Vegas(info) => show_vegas(sink, info),
         AnyNla::Dctcp(info) => show_dctcp(sink, info),
         AnyNla::Bbr(info) => show_bbr(sink, info),
-        AnyNla::Md5Signatures(keys) => sink.md5_keys(alloc, keys),
+        AnyNla::LocalAddresses(addresses) => {
+            sink.records::<StoredAddress>(alloc, b" locals:", b",", "locals", addresses)
+        }
+        AnyNla::PeerAddresses(addresses) => {
+            sink.records::<StoredAddress>(alloc, b" peers:", b",", "peers", addresses)
+        }
+        AnyNla::Md5Signatures(keys) => {
+            sink.records::<Md5Signature>(alloc, b" md5keys:", b",", "md5sig", keys)
+        }
         AnyNla::Ulp(info) => show_ulp(sink, info.0.bytes()),
         AnyNla::CgroupId(id) => sink.number(Shown::Always, b" cgroup:", Some("cgroup_id"), *id),
         AnyNla::Options(options) => show_option_bits(sink, options.bits),
@@ -115,6 +124,7 @@ fn show_any<S: FactSink>(
         AnyNla::ReceiveFrames(ring) => show_packet_ring(sink, b" ring_rx(", "rx_ring", ring),
         AnyNla::SendFrames(ring) => show_packet_ring(sink, b" ring_tx(", "tx_ring", ring),
         AnyNla::Fanout(number) => show_fanout(sink, *number),
+        AnyNla::Filter(instructions) => show_filter(sink, alloc, instructions),
         AnyNla::XdpInfo(info) => show_xdp(sink, info),
         AnyNla::ReceiveRing(entries) => show_xdp_ring(sink, b" rx(", "rx_ring", *entries),
         AnyNla::SendRing(entries) => show_xdp_ring(sink, b" tx(", "tx_ring", *entries),
@@ -124,12 +134,7 @@ fn show_any<S: FactSink>(
         }
         AnyNla::Umem(umem) => show_umem(sink, umem),
         AnyNla::Statistics(counters) => show_xdp_statistics(sink, counters),
-        AnyNla::LocalAddresses(_)
-        | AnyNla::PeerAddresses(_)
-        | AnyNla::BpfStorages(_)
-        | AnyNla::Memberships(_)
-        | AnyNla::Filter(_)
-        | AnyNla::Unknown(_) => Ok(()),
+        AnyNla::BpfStorages(_) | AnyNla::Memberships(_) | AnyNla::Unknown(_) => Ok(()),
     }
 }
 
@@ -141,12 +146,8 @@ pub(crate) fn status_of_any(value: &AnyNla<'_>) -> Status
 {
     match value {
         AnyNla::Ulp(info) => status_of_ulp(info.0.bytes()),
-        AnyNla::LocalAddresses(_)
-        | AnyNla::PeerAddresses(_)
-        | AnyNla::BpfStorages(_)
-        | AnyNla::Memberships(_)
-        | AnyNla::Filter(_)
-        | AnyNla::Unknown(_) => Ok(false),
+        AnyNla::Filter(instructions) => status_of_filter(instructions),
+        AnyNla::BpfStorages(_) | AnyNla::Memberships(_) | AnyNla::Unknown(_) => Ok(false),
         _ => Ok(true),
     }
 }

@@ -26,8 +26,8 @@ use netlink_core::{DecodeError, NlaBuffer};
 use sock_diag_extras::any::Sockets;
 use sock_diag_extras::constants::INET_DIAG_ULP_INFO;
 use sock_diag_records::constants::{
-    INET_DIAG_BBRINFO, INET_DIAG_CONG, INET_DIAG_DCTCPINFO, INET_DIAG_INFO, INET_DIAG_MD5SIG,
-    INET_DIAG_MEMINFO, INET_DIAG_VEGASINFO,
+    INET_DIAG_BBRINFO, INET_DIAG_CONG, INET_DIAG_DCTCPINFO, INET_DIAG_INFO, INET_DIAG_LOCALS,
+    INET_DIAG_MD5SIG, INET_DIAG_MEMINFO, INET_DIAG_PEERS, INET_DIAG_VEGASINFO,
 };
 use std::alloc::AllocError;
 
@@ -153,6 +153,8 @@ fn detail_group(sockets: Sockets, kind: u16) -> Detail
         (
             Sockets::Inet(_),
             INET_DIAG_INFO
+            | INET_DIAG_LOCALS
+            | INET_DIAG_PEERS
             | INET_DIAG_VEGASINFO
             | INET_DIAG_CONG
             | INET_DIAG_DCTCPINFO

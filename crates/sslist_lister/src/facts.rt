@@ -17,15 +17,15 @@ ghost use Rattle.sslist_lister.specs.Facts.{number_row_of, number_text, numbers,
 ghost use Rattle.sslist_lister.specs.Facts.{text_facts};
 ghost use Rattle.sslist_lister.specs.declared.facts.Shown.TheVariants.{FanoutMode};
 ghost use Rattle.sslist_lister.specs.laws.FactTokens.{group_tokens, no_tokens};
-ghost use Rattle.sslist_lister.specs.Md5Keys.{md5_facts};
+ghost use Rattle.sslist_lister.specs.RecordFacts.{records_facts, records_in};
 ghost use Rattle.sslist_lister.specs.laws.MemberTokens.{tokens_append};
 ghost use Rattle.sslist_lister.specs.texts.JsonWriting.{KeepsPrefix, members_tokens};
 
 use crate::json_names::{write_list, write_name};
-use crate::md5_keys::{push_md5_keys, write_md5_keys};
 use crate::number_names::{
     name_of_cipher, name_of_fanout_mode, name_of_mode, name_of_version, push_flag_letters,
 };
+use crate::records::{ShownRecord, push_records, write_records};
 use crate::texts::cells::{push_hex, push_number};
 use crate::texts::json_writing::{begin_member, write_flag, write_optional, write_text};
 use crate::texts::names::push_shown;
@@ -135,11 +135,20 @@ pub(crate) trait FactSink {
         ensures { OnOk result (AddsFacts (content self.old) (content self.new)
             (name_facts (name_view_model name.entry))) };
 
-    /// Shows the MD5 keys in the value of an attribute. JSON allocates temporary strings by
-    /// `alloc`.
-    fn md5_keys(&mut self, alloc: Global, value: &[u8]) -> Result<(), AllocError>
+    /// Shows the records in the value of an attribute. The table shows the first one after
+    /// `before`, and each later one after `later`. JSON has the array `member`, and allocates
+    /// temporary strings by `alloc`.
+    fn records<T: ShownRecord>(
+        &mut self,
+        alloc: Global,
+        before: &[u8],
+        later: &[u8],
+        member: &str,
+        value: &[u8],
+    ) -> Result<(), AllocError>
         ensures { OnOk result (AddsFacts (content self.old) (content self.new)
-            (md5_facts value.now)) };
+            (records_facts T.record_text T.record_members before.now later.now member.now
+            (records_in T.size T.parsed value.now))) };
 
     /// Begins a group: the text `opening` in the table, and the object `member` in JSON.
     fn begin(&mut self, opening: &[u8], member: &str) -> Result<(), AllocError>
@@ -233,8 +242,16 @@ impl FactSink for Vec<u8> {
         Ok(())
     }
 
-    fn md5_keys(&mut self, _alloc: Global, value: &[u8]) -> Result<(), AllocError> {
-        push_md5_keys(self, value)
+    #[tactic(auto, unfolding(crate::specs::RecordFacts::records_facts))]
+    fn records<T: ShownRecord>(
+        &mut self,
+        _alloc: Global,
+        before: &[u8],
+        later: &[u8],
+        _member: &str,
+        value: &[u8],
+    ) -> Result<(), AllocError> {
+        push_records::<T>(self, before, later, value)
     }
 
     fn begin(&mut self, opening: &[u8], _member: &str) -> Result<(), AllocError> {
@@ -314,8 +331,16 @@ impl FactSink for Writer {
         write_name(alloc, self, name)
     }
 
-    fn md5_keys(&mut self, alloc: Global, value: &[u8]) -> Result<(), AllocError> {
-        write_md5_keys(alloc, self, value)
+    #[tactic(auto, unfolding(crate::specs::RecordFacts::records_facts))]
+    fn records<T: ShownRecord>(
+        &mut self,
+        alloc: Global,
+        _before: &[u8],
+        _later: &[u8],
+        member: &str,
+        value: &[u8],
+    ) -> Result<(), AllocError> {
+        write_records::<T>(alloc, self, member, value)
     }
 
     fn begin(&mut self, _opening: &[u8], member: &str) -> Result<(), AllocError> {

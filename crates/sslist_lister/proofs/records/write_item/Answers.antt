@@ -1,10 +1,10 @@
 use Rattle.std.proofs.lemmas.Result.{on_ok_weaker}
 use Rattle.sslist_lister.proofs.JsonWriting.{joined_value}
-use Rattle.sslist_lister.proofs.md5_keys.write_key.Goals as goal
+use Rattle.sslist_lister.proofs.records.write_item.Goals as goal
 
 pub returns-clause-tokens : goal.returns-clause-tokens
-returns-clause-tokens c =
+returns-clause-tokens g c =
     on_ok_weaker c.end_object.result
     (λ last. joined_value _ _ _ _ _ c.in_ok-begin_object.ensures.ok
-    c.in_ok-write_key_members.ensures.members last)
+    c.in_ok-write_members.ensures.members last)
     c.end_object.ensures.ok
