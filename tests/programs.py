@@ -835,7 +835,7 @@ def test_newer_details(program):
         {"family": 10, "prefixlen": 64, "keylen": 3, "addr": "2001:db8::1", "key": "78797a"},
         {"family": 0, "prefixlen": 0, "keylen": 0, "key": ""},
     ]
-    rejected = [{"kind": 19, "length": 8, "error": "not-utf8"}]
+    rejected = [{"kind": 19, "length": 8, "hex": "05000100ff000000", "error": "not-utf8"}]
     inet = [2, 1, *bytes(70)]
     for head, value, shown, expected in [
         (inet, attribute(19, attribute(1, b"tls\0") + attribute(2, tls)),
@@ -851,7 +851,8 @@ def test_newer_details(program):
         (inet, attribute(18, key + key6 + key0),
             r" md5keys:192.0.2.0/24=a\x2c\x20b=c,2001:db8::1/64=xyz,*/0=", {"md5sig": keys}),
         (inet, attribute(18, key + b"1234"), " unread:(18,104,wrong-length)",
-            {"other_attributes": [{"kind": 18, "length": 104, "error": "wrong-length"}]}),
+            {"other_attributes": [{"kind": 18, "length": 104, "hex": (key + b"1234").hex(),
+                                   "error": "wrong-length"}]}),
         ([17, 3, *bytes(14)], attribute(5, little(4, 1000)), " uid:1000", {"uid": 1000}),
         ([44, *bytes(15)], attribute(2, little(4, 7)) + attribute(1, bytes(8)), " uid:7",
             {"uid": 7, "info": {"ifindex": 0, "queue_id": 0}}),

@@ -224,7 +224,9 @@ def differs(socket_, name, value):
     if value is None:
         return name not in socket_["words"] if socket_["words"] else None
     if name == "groups":
-        return socket_.get(name, "0x0") != value
+        # ss shows a bit for each of the first 32 groups.
+        groups = [int(it) for it in socket_.get(name, "").split(",") if it]
+        return hex(sum(1 << it - 1 for it in groups if it <= 32)) != value
     if name not in socket_ or name == "ino" and socket_["netid"].startswith("u_"):
         return None
     ours = socket_[name]
