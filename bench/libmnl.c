@@ -149,6 +149,8 @@ static const size_t inet_lengths[INET_DIAG_MAX + 1] = {
     [INET_DIAG_SKV6ONLY] = 1,
     [INET_DIAG_MARK] = 4,
     [INET_DIAG_CLASS_ID] = 4,
+    [INET_DIAG_CGROUP_ID] = 8,
+    [INET_DIAG_SOCKOPT] = 2,
 };
 
 /* The first attribute of each kind, and the least lengths of their values. */
@@ -285,6 +287,12 @@ static void fill_inet(struct sockdiag_inet_details *it, const struct inet_diag_m
         memcpy(&it->legacy_memory, mnl_attr_get_payload(first[INET_DIAG_MEMINFO]),
                sizeof it->legacy_memory);
     }
+    if (first[INET_DIAG_CGROUP_ID] != NULL) {
+        it->has_cgroup_id = 1;
+        it->cgroup_id = mnl_attr_get_u64(first[INET_DIAG_CGROUP_ID]);
+    }
+    if (first[INET_DIAG_SOCKOPT] != NULL)
+        set(&it->options, mnl_attr_get_u16(first[INET_DIAG_SOCKOPT]));
 }
 
 /* Fills the struct of a reply, of which the table has the attributes. */

@@ -673,6 +673,26 @@ struct sockdiag_legacy_memory {
                                     (idiag_tmem, at 12). */
 };
 
+/* The options of an IPv4 or IPv6 socket. */
+enum sockdiag_socket_option {
+    SOCKDIAG_OPTION_RECV_ERR = 1,               /* IP_RECVERR: recverr, bit 0. */
+    SOCKDIAG_OPTION_IS_ICSK = 2,                /* The socket is of a connection-oriented
+                                                   protocol: is_icsk, bit 1. */
+    SOCKDIAG_OPTION_FREE_BIND = 4,              /* IP_FREEBIND: freebind, bit 2. */
+    SOCKDIAG_OPTION_HDR_INCL = 8,               /* IP_HDRINCL: hdrincl, bit 3. */
+    SOCKDIAG_OPTION_MC_LOOP = 16,               /* IP_MULTICAST_LOOP: mc_loop, bit 4. */
+    SOCKDIAG_OPTION_TRANSPARENT = 32,           /* IP_TRANSPARENT: transparent, bit 5. */
+    SOCKDIAG_OPTION_MC_ALL = 64,                /* IP_MULTICAST_ALL: mc_all, bit 6. */
+    SOCKDIAG_OPTION_NO_DEFRAG = 128,            /* IP_NODEFRAG: nodefrag, bit 7. */
+    SOCKDIAG_OPTION_BIND_ADDRESS_NO_PORT = 256, /* IP_BIND_ADDRESS_NO_PORT: bind_address_no_port,
+                                                   bit 0 of the second byte. */
+    SOCKDIAG_OPTION_RECV_ERR_RFC4884 = 512,     /* IP_RECVERR_RFC4884: recverr_rfc4884, bit 1 of
+                                                   the second byte. */
+    SOCKDIAG_OPTION_DEFER_CONNECT = 1024        /* connect is deferred until data is written, by
+                                                   TCP_FASTOPEN_CONNECT: defer_connect, bit 2 of
+                                                   the second byte. */
+};
+
 /*
  * Everything that a reply contains about an IPv4 or IPv6 socket, except its connection
  * (INET_DIAG_INFO), which sockdiag_inet_get_tcp_info and sockdiag_inet_get_mptcp_info return.
@@ -699,6 +719,14 @@ struct sockdiag_inet_details {
     uint32_t has_legacy_memory;                  /* 1 if legacy_memory is set, else 0. */
     struct sockdiag_legacy_memory legacy_memory; /* Socket memory in the format of old kernels
                                                     (INET_DIAG_MEMINFO). */
+    uint32_t has_cgroup_id;                      /* 1 if cgroup_id is set, else 0. */
+    uint64_t cgroup_id;                          /* Id of the control group, cgroup v2
+                                                    (INET_DIAG_CGROUP_ID). It is not set if the
+                                                    value does not have 8 bytes. */
+    struct sockdiag_number options;              /* Options of the socket, bits
+                                                    SOCKDIAG_OPTION_.. (INET_DIAG_SOCKOPT). They
+                                                    are not set if the value has fewer than 2
+                                                    bytes. */
 };
 
 /*
@@ -1224,10 +1252,8 @@ uint32_t sockdiag_xdp_get_details(const uint8_t *payload, size_t length,
  * Why attributes of a reply are rejected: codes of errors, as sockdiag_error_text takes them. A
  * code is 0 if there is no such error. If a reply has several attributes of a kind, the kind can
  * have a value in the details and an error here: the value is that of the first valid attribute,
- * and the error that of the first rejected one. Values of kinds that are not in the list below are
- * not checked: of INET_DIAG_CGROUP_ID, for example, only sockdiag_get_cgroup_id checks the length,
- * and returns 0 if it is wrong. The index of an element of errors is a kind of attribute, whose
- * meaning depends on the family of the reply. The kinds that can be rejected are:
+ * and the error that of the first rejected one. The index of an element of errors is a kind of
+ * attribute, whose meaning depends on the family of the reply. The kinds that can be rejected are:
  * - UNIX sockets: 0 to 6, from UNIX_DIAG_NAME to UNIX_DIAG_SHUTDOWN;
  * - IPv4 and IPv6 sockets: INET_DIAG_MEMINFO (1), INET_DIAG_INFO (2), INET_DIAG_CONG (4),
  *   INET_DIAG_TOS (5), INET_DIAG_TCLASS (6), INET_DIAG_SKMEMINFO (7), INET_DIAG_SHUTDOWN (8),
@@ -1512,45 +1538,6 @@ uint32_t sockdiag_next_pending(const uint8_t *value, size_t length, struct sockd
                                uint32_t *inode);
 
 /*
- * Stores the id of the control group (cgroup v2) of an IPv4 or IPv6 socket: the value of
- * INET_DIAG_CGROUP_ID, 8 bytes. Returns 1; or 0 if the value has another length, and then the id is
- * unchanged.
- */
-uint32_t sockdiag_get_cgroup_id(const uint8_t *value, size_t length, uint64_t *id);
-
-/* The options of an IPv4 or IPv6 socket: the two bytes of INET_DIAG_SOCKOPT. */
-struct sockdiag_socket_options {
-    uint16_t bits; /* Both bytes as a little-endian number: bits 0 to 7 are the first byte. */
-};
-
-/* The bits of struct sockdiag_socket_options. */
-enum sockdiag_socket_option {
-    SOCKDIAG_OPTION_RECV_ERR = 1,               /* IP_RECVERR: recverr, bit 0. */
-    SOCKDIAG_OPTION_IS_ICSK = 2,                /* The socket is of a connection-oriented
-                                                   protocol: is_icsk, bit 1. */
-    SOCKDIAG_OPTION_FREE_BIND = 4,              /* IP_FREEBIND: freebind, bit 2. */
-    SOCKDIAG_OPTION_HDR_INCL = 8,               /* IP_HDRINCL: hdrincl, bit 3. */
-    SOCKDIAG_OPTION_MC_LOOP = 16,               /* IP_MULTICAST_LOOP: mc_loop, bit 4. */
-    SOCKDIAG_OPTION_TRANSPARENT = 32,           /* IP_TRANSPARENT: transparent, bit 5. */
-    SOCKDIAG_OPTION_MC_ALL = 64,                /* IP_MULTICAST_ALL: mc_all, bit 6. */
-    SOCKDIAG_OPTION_NO_DEFRAG = 128,            /* IP_NODEFRAG: nodefrag, bit 7. */
-    SOCKDIAG_OPTION_BIND_ADDRESS_NO_PORT = 256, /* IP_BIND_ADDRESS_NO_PORT: bind_address_no_port,
-                                                   bit 0 of the second byte. */
-    SOCKDIAG_OPTION_RECV_ERR_RFC4884 = 512,     /* IP_RECVERR_RFC4884: recverr_rfc4884, bit 1 of
-                                                   the second byte. */
-    SOCKDIAG_OPTION_DEFER_CONNECT = 1024        /* connect is deferred until data is written, by
-                                                   TCP_FASTOPEN_CONNECT: defer_connect, bit 2 of
-                                                   the second byte. */
-};
-
-/*
- * Stores the options of an IPv4 or IPv6 socket: the value of INET_DIAG_SOCKOPT, at least 2 bytes.
- * Returns 1; or 0 if the value is shorter, and then the options are unchanged.
- */
-uint32_t sockdiag_get_socket_options(const uint8_t *value, size_t length,
-                                     struct sockdiag_socket_options *options);
-
-/*
  * The measurements of TCP Vegas, and of other algorithms that report in the same format: struct
  * tcpvegas_info of linux/inet_diag.h, 16 bytes, four little-endian u32 fields.
  */
@@ -1742,7 +1729,9 @@ uint32_t sockdiag_explain(uint32_t what, const uint8_t *bytes, size_t length,
 
 /* ---- requests
  *
- * All bits of flags and of bit sets are written unchanged.
+ * A call writes a whole netlink message at the start of the buffer, and leaves the bytes after it
+ * unchanged. If it returns 0, nothing is written. For a buffer of SOCKDIAG_.._REQUEST_LENGTH bytes,
+ * 0 means that the family is invalid. All bits of flags and of bit sets are written unchanged.
  */
 
 /*
@@ -1823,32 +1812,21 @@ struct sockdiag_inet_request {
 #define SOCKDIAG_UNIX_REQUEST_LENGTH 40
 #define SOCKDIAG_INET_REQUEST_LENGTH 80
 
-/*
- * Writes a request for UNIX sockets, a netlink message of 40 bytes, at the start of the buffer;
- * bytes after it are unchanged. Returns 40, or 0 if the buffer is shorter; then nothing is written.
- */
+/* Writes a request for UNIX sockets: 40 bytes. Returns 40, or 0 if the buffer is shorter. */
 size_t sockdiag_write_unix_request(const struct sockdiag_unix_request *request, uint8_t *buffer,
                                    size_t length);
 
 /*
- * Writes a request for IPv4 or IPv6 sockets at the start of the buffer; bytes after it are
- * unchanged. It is a netlink message of 72 bytes, or of 80 if the protocol is above 255. Returns
- * the number of bytes that were written. Returns 0 if the buffer is shorter, or if the family is
- * neither AF_INET nor AF_INET6; then nothing is written. In a buffer of
- * SOCKDIAG_INET_REQUEST_LENGTH bytes, 0 means that the family is invalid.
+ * Writes a request for IPv4 or IPv6 sockets: 72 bytes, or 80 if the protocol is above 255. Returns
+ * this number; or 0 if the buffer is shorter, or if the family is neither AF_INET nor AF_INET6.
  */
 size_t sockdiag_write_inet_request(const struct sockdiag_inet_request *request, uint8_t *buffer,
                                    size_t length);
 
 /*
- * Writes a request for the kernel to close the selected IPv4 or IPv6 sockets, at the start of the
- * buffer. It is a netlink message of type SOCK_DESTROY (21), and else equal to the one of
- * sockdiag_write_inet_request: it has 72 bytes, or 80 if the protocol is above 255. Returns the
- * number of bytes that were written. Returns 0 if the buffer is shorter, or if the family is
- * neither AF_INET nor AF_INET6; then nothing is written.
- *
- * The flags are NLM_F_REQUEST, and NLM_F_ACK to have success acknowledged. Linux closes TCP, UDP
- * and raw sockets if the caller has CAP_NET_ADMIN.
+ * Writes a request for the kernel to close the selected IPv4 or IPv6 sockets, of type SOCK_DESTROY,
+ * and else as sockdiag_write_inet_request. The flags are NLM_F_REQUEST, and NLM_F_ACK to have
+ * success acknowledged. Linux closes TCP, UDP and raw sockets if the caller has CAP_NET_ADMIN.
  */
 size_t sockdiag_write_inet_destroy(const struct sockdiag_inet_request *request, uint8_t *buffer,
                                    size_t length);
@@ -1890,21 +1868,21 @@ struct sockdiag_vsock_request {
 #define SOCKDIAG_VSOCK_REQUEST_LENGTH 40
 
 /*
- * Writes a request for netlink, packet or XDP sockets, a netlink message of 36 bytes, at the start
- * of the buffer; bytes after it are unchanged. Returns 36. Returns 0 if the buffer is shorter, or
- * if the family is none of AF_NETLINK, AF_PACKET and AF_XDP; then nothing is written.
+ * Writes a request for netlink, packet or XDP sockets: 36 bytes. Returns 36; or 0 if the buffer is
+ * shorter, or if the family is none of AF_NETLINK, AF_PACKET and AF_XDP.
  */
 size_t sockdiag_write_show_request(const struct sockdiag_show_request *request, uint8_t *buffer,
                                    size_t length);
 
-/*
- * Writes a request for vsock sockets, a netlink message of 40 bytes, at the start of the buffer;
- * bytes after it are unchanged. Returns 40, or 0 if the buffer is shorter; then nothing is written.
- */
+/* Writes a request for vsock sockets: 40 bytes. Returns 40, or 0 if the buffer is shorter. */
 size_t sockdiag_write_vsock_request(const struct sockdiag_vsock_request *request, uint8_t *buffer,
                                     size_t length);
 
-/* Outcome of a call that writes bytes derived from the caller's bytes. */
+/*
+ * Outcome of a call that writes bytes derived from the caller's bytes. It is set in any case. If
+ * nothing was written, it says why: the caller's bytes are rejected (error is not 0), they are too
+ * long for a length field (both are 0), or the buffer is shorter than needed.
+ */
 struct sockdiag_outcome {
     uint32_t error; /* Code of the first error if the caller's bytes are rejected, else 0. */
     size_t needed;  /* Number of bytes to write; 0 if the caller's bytes are rejected, or cannot
@@ -1912,26 +1890,15 @@ struct sockdiag_outcome {
 };
 
 /*
- * Writes a request for IPv4 or IPv6 sockets, followed by attributes, at the start of the buffer;
- * bytes after them are unchanged. The request has 72 bytes, or 80 if the protocol is above 255. The
- * attributes are followed by zeros up to a multiple of 4. The length field of the message counts
- * all of these bytes. One such attribute is the bytecode of a filter, INET_DIAG_REQ_BYTECODE of
- * linux/inet_diag.h, which the kernel runs on each socket. The bytes have to be a sequence of
- * complete attributes. Their values are not checked. A kernel answers with -EINVAL if a jump of the
- * filter leads into the middle of an operation, or more than 4 bytes past the end, and with -EPERM
- * if the filter has an INET_DIAG_BC_MARK_COND and the caller lacks CAP_NET_ADMIN.
+ * Writes a request as sockdiag_write_inet_request does, followed by the attributes and by zeros up
+ * to a multiple of 4. Returns the number of bytes that were written, or 0: see outcome. The bytes
+ * have to be a sequence of complete attributes, whose values are not checked. If the family is
+ * neither AF_INET nor AF_INET6, outcome.error is SOCKDIAG_UNSUPPORTED_FAMILY.
  *
- * Returns the number of bytes that were written, which is also stored in outcome.needed. Returns 0
- * if nothing was written, for the first of these reasons that applies:
- * - The family is neither AF_INET nor AF_INET6. outcome.error is SOCKDIAG_UNSUPPORTED_FAMILY, and
- *   outcome.needed is 0.
- * - The framing of the attributes is invalid. outcome.error is the code of the first error, 7 to 9;
- *   in all other cases it is 0. outcome.needed is 0.
- * - The message has more than 4,294,967,295 bytes, so that its length does not fit its length
- *   field. outcome.needed is 0.
- * - The buffer is shorter than needed. outcome.needed is the number of bytes that it has to have.
- *
- * outcome is set in any case.
+ * One such attribute is the bytecode of a filter, INET_DIAG_REQ_BYTECODE, which the kernel runs on
+ * each socket. It answers with -EINVAL if a jump of the filter leads into the middle of an
+ * operation, or more than 4 bytes past the end, and with -EPERM if the filter has an
+ * INET_DIAG_BC_MARK_COND and the caller lacks CAP_NET_ADMIN.
  */
 size_t sockdiag_write_inet_request_with_attributes(const struct sockdiag_inet_request *request,
                                                    const uint8_t *attributes, size_t length,
@@ -1941,39 +1908,21 @@ size_t sockdiag_write_inet_request_with_attributes(const struct sockdiag_inet_re
 /* ---- the canonical form
  *
  * All replies that differ only in ignored bits have the same canonical form. Ignored bits are
- * undefined flags, pad fields, padding, and bytes that no parser reads, for example.
+ * undefined flags, pad fields, padding, and bytes that no parser reads, for example; of a timer the
+ * time if it is 3 (TIME_WAIT), and the number of retransmissions if it is not 1. The form is
+ * written at the start of the buffer; bytes after it are unchanged.
  */
 
 /*
- * Writes the canonical form of a reply about a UNIX socket at the start of the buffer; bytes after
- * it are unchanged. The reply is the payload of a netlink message.
- *
- * Returns the number of bytes that were written, which is also stored in outcome.needed. Returns 0
- * if nothing was written, for one of these reasons:
- * - The reply is rejected. outcome.error is the code of the first error; in all other cases it is
- *   0. outcome.needed is 0.
- * - The reply cannot be serialized, because a value is longer than it was in the reply, and too
- *   long for its length field. outcome.needed is 0.
- * - The buffer is shorter than needed. outcome.needed is the number of bytes that it has to have.
- *
- * outcome is set in any case.
+ * Writes the canonical form of a reply about a UNIX socket. Returns the number of bytes that were
+ * written, or 0: see outcome.
  */
 size_t sockdiag_rewrite_unix_reply(const uint8_t *payload, size_t length, uint8_t *buffer,
                                    size_t buffer_length, struct sockdiag_outcome *outcome);
 
 /*
- * Writes the canonical form of a reply about an IPv4 or IPv6 socket at the start of the buffer;
- * bytes after it are unchanged. The reply is the payload of a netlink message.
- *
- * Returns the number of bytes that were written, which is also stored in outcome.needed. Returns 0
- * if nothing was written, for one of these reasons:
- * - The reply is rejected. outcome.error is the code of the first error; in all other cases it is
- *   0. outcome.needed is 0.
- * - The reply cannot be serialized, because a value is longer than it was in the reply, and too
- *   long for its length field. outcome.needed is 0.
- * - The buffer is shorter than needed. outcome.needed is the number of bytes that it has to have.
- *
- * outcome is set in any case.
+ * Writes the canonical form of a reply about an IPv4 or IPv6 socket. Returns the number of bytes
+ * that were written, or 0: see outcome.
  */
 size_t sockdiag_rewrite_inet_reply(const uint8_t *payload, size_t length, uint8_t *buffer,
                                    size_t buffer_length, struct sockdiag_outcome *outcome);

@@ -28,6 +28,8 @@ FIELD_STRUCTS = {
 }
 # The calls that take such a struct: the parameter is its bytes, and in C it has a size.
 FILLED = {"sockdiag_inet_get_tcp_info": "TcpInfo", "sockdiag_inet_get_mptcp_info": "MptcpInfo"}
+# Structs of the crates below that no call takes.
+NOT_IN_C = {"SocketOptions"}
 # The file of each of these enums, in sock_diag_extras.
 FIELD_FILES = {"TcpField": "tcp_info.rt", "MptcpField": "mptcp_info.rt"}
 # The types of fields that have a width of this many bytes.
@@ -175,7 +177,7 @@ def passed(parameters):
 def structs_in(text):
     """Yields each struct that has the layout of C."""
     for comment, attributes, name, body in STRUCT.findall(text):
-        if "#[repr(C)]" in attributes:
+        if "#[repr(C)]" in attributes and name not in NOT_IN_C:
             yield Struct(name, [*fields_of(body)], doc_of(comment))
 
 

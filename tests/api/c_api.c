@@ -167,6 +167,15 @@ static void tells_inet_details(void) {
           "service, class and shutdown");
     check(is(details.protocol, 4) && is(details.v6only, 1), "protocol and IPv6 only");
     check(is(details.mark, 6) && is(details.class_id, 7), "mark and class");
+    check(details.has_cgroup_id == 0 && details.cgroup_id == 0 && details.options.is_set == 0,
+          "no control group and options");
+    end = put(bytes, end, 21, "\1\2\3\4", 4);
+    end = put(bytes, end, 21, "\1\2\3\4\5\6\7\10", 8);
+    end = put(bytes, end, 22, "\1", 1);
+    end = put(bytes, end, 22, "\1\2\3", 3);
+    check(sockdiag_inet_get_details(bytes, end, &details) == SOCKDIAG_OK &&
+          details.has_cgroup_id == 1 && details.cgroup_id == 0x807060504030201 &&
+          is(details.options, 0x201), "the first valid control group and options");
     check(sockdiag_inet_get_tcp_info(bytes, end, &info, sizeof info) == 0 && info.state == 0,
           "no TCP connection");
     check(details.has_legacy_memory == 0 && details.memory.receive_queue.is_set == 0, "no memory");

@@ -301,14 +301,6 @@ static void reads_single_values(void) {
     uint8_t bytes[24];
     number_bytes(bytes, sizeof bytes);
     {
-        GETTER(id, uint64_t, sockdiag_get_cgroup_id, 8, 8);
-        FIELD(id, bytes);
-    }
-    {
-        GETTER(it, struct sockdiag_socket_options, sockdiag_get_socket_options, 2, SIZE_MAX);
-        FIELD(it.bits, bytes);
-    }
-    {
         GETTER(it, struct sockdiag_vegas_info, sockdiag_get_vegas_info, 16, SIZE_MAX);
         FIELD(it.enabled, bytes);
         FIELD(it.rtt_count, bytes + 4);

@@ -188,8 +188,6 @@ static void write_requests(const uint8_t *bytes, size_t length) {
     OTHER(tcp_info, , inet_empty, inet_rejected)                                                \
     OTHER(mptcp_info, , inet_empty, inet_rejected)                                              \
     STRUCT(sockdiag_get_error_number, int32_t, value)                                           \
-    STRUCT(sockdiag_get_cgroup_id, uint64_t, value)                                             \
-    STRUCT(sockdiag_get_socket_options, struct sockdiag_socket_options, value)                  \
     STRUCT(sockdiag_get_vegas_info, struct sockdiag_vegas_info, value)                          \
     STRUCT(sockdiag_get_dctcp_info, struct sockdiag_dctcp_info, value)                          \
     STRUCT(sockdiag_get_bbr_info, struct sockdiag_bbr_info, value)                              \

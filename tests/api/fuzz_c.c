@@ -204,8 +204,6 @@ static void try_explaining(explain *call, const uint8_t *bytes, size_t length, u
 
 static void try_values(const uint8_t *bytes, size_t length) {
     const size_t start = random_below(4) ? 0 : random_below(200);
-    VALUE(uint64_t, sockdiag_get_cgroup_id, length == 8);
-    VALUE(struct sockdiag_socket_options, sockdiag_get_socket_options, length >= 2);
     VALUE(struct sockdiag_vegas_info, sockdiag_get_vegas_info, length >= 16);
     VALUE(struct sockdiag_dctcp_info, sockdiag_get_dctcp_info, length >= 16);
     VALUE(struct sockdiag_bbr_info, sockdiag_get_bbr_info, length >= 20);

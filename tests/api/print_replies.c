@@ -171,6 +171,8 @@ static void add_inet(struct words *words, const struct sockdiag_inet_details *it
     add_number(words, "v6only", it->v6only);
     add_number(words, "mark", it->mark);
     add_number(words, "class_id", it->class_id);
+    add_record(words, "cgroup_id", it->has_cgroup_id, &it->cgroup_id, 1);
+    add_number(words, "options", it->options);
 }
 
 static void add_netlink(struct words *words, const struct sockdiag_netlink_details *it) {

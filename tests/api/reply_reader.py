@@ -175,6 +175,9 @@ INET_ATTRIBUTES = {
     11: (exactly(1), {"v6only": lambda value: int(value != bytes(1))}),
     15: (exactly(4), {"mark": number(0, 4)}),
     17: (exactly(4), {"class_id": number(0, 4)}),
+    # Values of other lengths are not errors, and have no field.
+    21: (lambda _, value: None if len(value) == 8 else NOT_CHECKED, {"cgroup_id": number(0, 8)}),
+    22: (lambda _, value: None if len(value) >= 2 else NOT_CHECKED, {"options": number(0, 2)}),
 }
 
 

@@ -85,6 +85,16 @@ abbrev pub class_id_of : AnyValue → Option ℕ
 class_id_of (any.class_id n) = Some n
 class_id_of other = None
 
+-- the id of the control group of an internet socket
+abbrev pub cgroup_id_of : AnyValue → Option ℕ
+cgroup_id_of (any.cgroup_id id) = Some id
+cgroup_id_of other = None
+
+-- the options of an internet socket, as bits
+abbrev pub options_of : AnyValue → Option ℕ
+options_of (any.options of_socket) = Some of_socket.bits
+options_of other = None
+
 -- the memory of an internet socket in the format of old kernels
 abbrev pub legacy_memory_of : AnyValue → Option LegacyMemInfo
 legacy_memory_of (any.legacy_memory m) = Some m

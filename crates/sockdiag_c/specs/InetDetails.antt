@@ -11,9 +11,9 @@ use Rattle.sock_diag_extras.specs.declared.any.nla.Sockets.TheVariants.{Inet}
 use Rattle.sockdiag_c.specs.declared.headers.InetHeader.{InetHeader}
 use Rattle.sockdiag_c.specs.declared.inet_details.InetDetails.{InetDetails}
 use Rattle.sockdiag_c.specs.declared.inet_details.LegacyMemory.{LegacyMemory}
-use Rattle.sockdiag_c.specs.AnyParts.{class_id_of, congestion_of, legacy_memory_of, mark_of}
-use Rattle.sockdiag_c.specs.AnyParts.{memory_of, protocol_of, shutdown_of, tos_of, traffic_class_of}
-use Rattle.sockdiag_c.specs.AnyParts.{v6_only_of}
+use Rattle.sockdiag_c.specs.AnyParts.{cgroup_id_of, class_id_of, congestion_of, legacy_memory_of}
+use Rattle.sockdiag_c.specs.AnyParts.{mark_of, memory_of, options_of, protocol_of, shutdown_of}
+use Rattle.sockdiag_c.specs.AnyParts.{tos_of, traffic_class_of, v6_only_of}
 use Rattle.sockdiag_c.specs.CheckedKinds.{read_checked}
 use Rattle.sockdiag_c.specs.Details.{memory_row, number_row, record_row, text_row}
 use Rattle.sockdiag_c.specs.Family.{Family, StructRow}
@@ -50,6 +50,8 @@ inet_rows =
     ∷ memory_row memory_of (λ d. d.memory)
     ∷ record_row (λ v. option_map legacy_memory_struct (legacy_memory_of v)) zero_legacy_memory
     (λ d. (d.has_legacy_memory, d.legacy_memory))
+    ∷ record_row cgroup_id_of 0 (λ d. (d.has_cgroup_id, d.cgroup_id))
+    ∷ number_row options_of (λ d. d.options)
     ∷ []
 
 -- Replies about IPv4 and IPv6 sockets. An attribute that `inet_attribute_set` rejects is rejected,

@@ -6,7 +6,6 @@ ghost use Rattle.byteorder.specs.Endian.{little_number};
 ghost use Rattle.sock_diag_extras.specs.Congestion.{bbr_info, dctcp_info, vegas_info};
 ghost use Rattle.sock_diag_extras.specs.Md5Signature.{md5_signature};
 ghost use Rattle.sock_diag_extras.specs.RecordTable.{parse_by_table};
-ghost use Rattle.sock_diag_extras.specs.SocketOptions.{socket_options};
 ghost use Rattle.sock_diag_extras.specs.StoredAddress.{stored_address};
 ghost use Rattle.sockdiag_c.specs.Answers.{IsStoredIf};
 ghost use Rattle.sockdiag_c.specs.AttributeValues.{StepsOverItem};
@@ -16,11 +15,9 @@ use crate::family_values::store;
 use crate::walks::{Cursor, bytes_from};
 use byteorder::{ByteOrder, LittleEndian};
 use sock_diag_extras::{
-    AttributeRecord, BbrInfo, DctcpInfo, Md5Signature, SocketOptions, StoredAddress, VegasInfo,
-    parse_cgroup_id, read_attribute_record,
+    AttributeRecord, BbrInfo, DctcpInfo, Md5Signature, StoredAddress, VegasInfo,
+    read_attribute_record,
 };
-
-const _: () = prove!(std::mem::size_of::<SocketOptions>() == 2);
 
 const _: () = prove!(std::mem::size_of::<VegasInfo>() == 16);
 
@@ -31,28 +28,6 @@ const _: () = prove!(std::mem::size_of::<BbrInfo>() == 24);
 const _: () = prove!(std::mem::size_of::<Md5Signature>() == 100);
 
 const _: () = prove!(std::mem::size_of::<StoredAddress>() == 128);
-
-/// Stores the id of the control group (cgroup v2) of an IPv4 or IPv6 socket: the value of
-/// `INET_DIAG_CGROUP_ID`, 8 bytes. Returns 1; or 0 if the value has another length, and then the id
-/// is unchanged.
-#[unsafe(no_mangle)]
-pub extern "C" fn sockdiag_get_cgroup_id(value: &[u8], id: &mut u64) -> u32
-    ensures { IsStoredIf (length value.now ≡ 8) (little_number 8 value.now)
-        record { old = id.old; new = id.new; returned = result } }
-{
-    store(parse_cgroup_id(value), id)
-}
-
-/// Stores the options of an IPv4 or IPv6 socket: the value of `INET_DIAG_SOCKOPT`, at least 2
-/// bytes. Returns 1; or 0 if the value is shorter, and then the options are unchanged.
-#[unsafe(no_mangle)]
-pub extern "C" fn sockdiag_get_socket_options(value: &[u8], options: &mut SocketOptions) -> u32
-    ensures { IsStoredIf (socket_options.size ≤ length value.now)
-        (parse_by_table socket_options value.now)
-        record { old = options.old; new = options.new; returned = result } }
-{
-    store(read_attribute_record(value), options)
-}
 
 /// Stores the measurements of TCP Vegas and of similar algorithms: the value of
 /// `INET_DIAG_VEGASINFO`, at least 16 bytes. Returns 1; or 0 if the value is shorter, and then the

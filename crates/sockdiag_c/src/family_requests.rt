@@ -50,9 +50,8 @@ pub struct VsockRequest {
 
 const _: () = prove!(std::mem::size_of::<VsockRequest>() == 24);
 
-/// Writes a request for netlink, packet or XDP sockets, a netlink message of 36 bytes, at the start
-/// of the buffer; bytes after it are unchanged. Returns 36. Returns 0 if the buffer is shorter, or
-/// if the family is none of `AF_NETLINK`, `AF_PACKET` and `AF_XDP`; then nothing is written.
+/// Writes a request for netlink, packet or XDP sockets: 36 bytes. Returns 36; or 0 if the buffer is
+/// shorter, or if the family is none of `AF_NETLINK`, `AF_PACKET` and `AF_XDP`.
 #[unsafe(no_mangle)]
 pub extern "C" fn sockdiag_write_show_request(request: &ShowRequest, buffer: &mut [u8]) -> usize
     ensures written { (request.now.family ≡ AF_NETLINK) ⊎ ((request.now.family ≡ AF_PACKET)
@@ -70,9 +69,7 @@ pub extern "C" fn sockdiag_write_show_request(request: &ShowRequest, buffer: &mu
     }
 }
 
-/// Writes a request for vsock sockets, a netlink message of 40 bytes, at the start of the buffer;
-/// bytes after it are unchanged. Returns 40, or 0 if the buffer is shorter; then nothing is
-/// written.
+/// Writes a request for vsock sockets: 40 bytes. Returns 40, or 0 if the buffer is shorter.
 #[unsafe(no_mangle)]
 pub extern "C" fn sockdiag_write_vsock_request(request: &VsockRequest, buffer: &mut [u8]) -> usize
     ensures { WritesMessage 40 (vsock_message request.now)

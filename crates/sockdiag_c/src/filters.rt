@@ -22,28 +22,15 @@ use netlink_packet_sock_diag::constants::{AF_INET, AF_INET6, SOCK_DIAG_BY_FAMILY
 use netlink_packet_sock_diag::inet::INET_REQUEST_LEN;
 use sock_diag_families::RawNla;
 
-/// Writes a request for IPv4 or IPv6 sockets, followed by attributes, at the start of the buffer;
-/// bytes after them are unchanged. The request has 72 bytes, or 80 if the protocol is above 255.
-/// The attributes are followed by zeros up to a multiple of 4. The length field of the message
-/// counts all of these bytes. One such attribute is the bytecode of a filter,
-/// `INET_DIAG_REQ_BYTECODE` of `linux/inet_diag.h`, which the kernel runs on each socket. The bytes
-/// have to be a sequence of complete attributes. Their values are not checked. A kernel answers
-/// with `-EINVAL` if a jump of the filter leads into the middle of an operation, or more than 4
-/// bytes past the end, and with `-EPERM` if the filter has an `INET_DIAG_BC_MARK_COND` and the
-/// caller lacks `CAP_NET_ADMIN`.
+/// Writes a request as `sockdiag_write_inet_request` does, followed by the attributes and by zeros
+/// up to a multiple of 4. Returns the number of bytes that were written, or 0: see `outcome`. The
+/// bytes have to be a sequence of complete attributes, whose values are not checked. If the family
+/// is neither `AF_INET` nor `AF_INET6`, `outcome.error` is `SOCKDIAG_UNSUPPORTED_FAMILY`.
 ///
-/// Returns the number of bytes that were written, which is also stored in `outcome.needed`. Returns
-/// 0 if nothing was written, for the first of these reasons that applies:
-/// - The family is neither `AF_INET` nor `AF_INET6`. `outcome.error` is
-///   `SOCKDIAG_UNSUPPORTED_FAMILY`, and `outcome.needed` is 0.
-/// - The framing of the attributes is invalid. `outcome.error` is the code of the first error, 7 to
-///   9; in all other cases it is 0. `outcome.needed` is 0.
-/// - The message has more than 4,294,967,295 bytes, so that its length does not fit its length
-///   field. `outcome.needed` is 0.
-/// - The buffer is shorter than needed. `outcome.needed` is the number of bytes that it has to
-///   have.
-///
-/// `outcome` is set in any case.
+/// One such attribute is the bytecode of a filter, `INET_DIAG_REQ_BYTECODE`, which the kernel runs
+/// on each socket. It answers with `-EINVAL` if a jump of the filter leads into the middle of an
+/// operation, or more than 4 bytes past the end, and with `-EPERM` if the filter has an
+/// `INET_DIAG_BC_MARK_COND` and the caller lacks `CAP_NET_ADMIN`.
 #[unsafe(no_mangle)]
 pub extern "C" fn sockdiag_write_inet_request_with_attributes(
     request: &InetRequest,

@@ -66,9 +66,17 @@ pub struct InetDetails<'a> {
     pub has_legacy_memory: u32,
     /// Socket memory in the format of old kernels (`INET_DIAG_MEMINFO`).
     pub legacy_memory: LegacyMemory,
+    /// 1 if `cgroup_id` is set, else 0.
+    pub has_cgroup_id: u32,
+    /// Id of the control group, cgroup v2 (`INET_DIAG_CGROUP_ID`). It is not set if the value does
+    /// not have 8 bytes.
+    pub cgroup_id: u64,
+    /// Options of the socket, bits `SOCKDIAG_OPTION_..` (`INET_DIAG_SOCKOPT`). They are not set if
+    /// the value has fewer than 2 bytes.
+    pub options: Number,
 }
 
-const _: () = prove!(std::mem::size_of::<InetDetails<'static>>() == 248);
+const _: () = prove!(std::mem::size_of::<InetDetails<'static>>() == 264);
 
 /// Parses a reply about an IPv4 or IPv6 socket. Returns 0, or the code of its first error; then the
 /// details are unchanged. `INET_DIAG_INFO` is checked, and not returned:
@@ -136,6 +144,10 @@ impl<'a> ReplyDetails<'a> for InetDetails<'a> {
                 let memory = LegacyMemory::from(memory);
                 set_record(memory, &mut self.has_legacy_memory, &mut self.legacy_memory);
             }
+            AnyNla::CgroupId(id) => {
+                set_record(id, &mut self.has_cgroup_id, &mut self.cgroup_id);
+            }
+            AnyNla::Options(options) => self.options.set(u32::from(options.bits)),
             // These have no field: other calls return the connection and raw attributes.
             _ => {}
         }

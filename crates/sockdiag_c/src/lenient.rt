@@ -30,9 +30,7 @@ pub const REJECTION_KINDS: usize = 32;
 /// Why attributes of a reply are rejected: codes of errors, as `sockdiag_error_text` takes them. A
 /// code is 0 if there is no such error. If a reply has several attributes of a kind, the kind can
 /// have a value in the details and an error here: the value is that of the first valid attribute,
-/// and the error that of the first rejected one. Values of kinds that are not in the list below are
-/// not checked: of `INET_DIAG_CGROUP_ID`, for example, only `sockdiag_get_cgroup_id` checks the
-/// length, and returns 0 if it is wrong. The index of an element of `errors` is a kind of
+/// and the error that of the first rejected one. The index of an element of `errors` is a kind of
 /// attribute, whose meaning depends on the family of the reply. The kinds that can be rejected are:
 /// - UNIX sockets: 0 to 6, from `UNIX_DIAG_NAME` to `UNIX_DIAG_SHUTDOWN`;
 /// - IPv4 and IPv6 sockets: `INET_DIAG_MEMINFO` (1), `INET_DIAG_INFO` (2), `INET_DIAG_CONG` (4),

@@ -100,9 +100,7 @@ pub struct InetRequest {
 
 const _: () = prove!(std::mem::size_of::<InetRequest>() == 72);
 
-/// Writes a request for UNIX sockets, a netlink message of 40 bytes, at the start of the buffer;
-/// bytes after it are unchanged. Returns 40, or 0 if the buffer is shorter; then nothing is
-/// written.
+/// Writes a request for UNIX sockets: 40 bytes. Returns 40, or 0 if the buffer is shorter.
 #[unsafe(no_mangle)]
 pub extern "C" fn sockdiag_write_unix_request(request: &UnixRequest, buffer: &mut [u8]) -> usize
     ensures { WritesMessage 40 (unix_message request.now)
@@ -117,11 +115,9 @@ pub extern "C" fn sockdiag_write_unix_request(request: &UnixRequest, buffer: &mu
     write_message(SOCK_DIAG_BY_FAMILY, &request.header, &record, &[], buffer)
 }
 
-/// Writes a request for IPv4 or IPv6 sockets at the start of the buffer; bytes after it are
-/// unchanged. It is a netlink message of 72 bytes, or of 80 if the protocol is above 255. Returns
-/// the number of bytes that were written. Returns 0 if the buffer is shorter, or if the family is
-/// neither `AF_INET` nor `AF_INET6`; then nothing is written. In a buffer of
-/// `SOCKDIAG_INET_REQUEST_LENGTH` bytes, 0 means that the family is invalid.
+/// Writes a request for IPv4 or IPv6 sockets: 72 bytes, or 80 if the protocol is above 255. Returns
+/// this number; or 0 if the buffer is shorter, or if the family is neither `AF_INET` nor
+/// `AF_INET6`.
 #[unsafe(no_mangle)]
 pub extern "C" fn sockdiag_write_inet_request(request: &InetRequest, buffer: &mut [u8]) -> usize
     ensures { WritesInetMessage SOCK_DIAG_BY_FAMILY request.now
@@ -130,14 +126,10 @@ pub extern "C" fn sockdiag_write_inet_request(request: &InetRequest, buffer: &mu
     write_inet(SOCK_DIAG_BY_FAMILY, request, buffer)
 }
 
-/// Writes a request for the kernel to close the selected IPv4 or IPv6 sockets, at the start of the
-/// buffer. It is a netlink message of type `SOCK_DESTROY` (21), and else equal to the one of
-/// `sockdiag_write_inet_request`: it has 72 bytes, or 80 if the protocol is above 255. Returns the
-/// number of bytes that were written. Returns 0 if the buffer is shorter, or if the family is
-/// neither `AF_INET` nor `AF_INET6`; then nothing is written.
-///
-/// The flags are `NLM_F_REQUEST`, and `NLM_F_ACK` to have success acknowledged. Linux closes TCP,
-/// UDP and raw sockets if the caller has `CAP_NET_ADMIN`.
+/// Writes a request for the kernel to close the selected IPv4 or IPv6 sockets, of type
+/// `SOCK_DESTROY`, and else as `sockdiag_write_inet_request`. The flags are `NLM_F_REQUEST`, and
+/// `NLM_F_ACK` to have success acknowledged. Linux closes TCP, UDP and raw sockets if the caller
+/// has `CAP_NET_ADMIN`.
 #[unsafe(no_mangle)]
 pub extern "C" fn sockdiag_write_inet_destroy(request: &InetRequest, buffer: &mut [u8]) -> usize
     ensures { WritesInetMessage SOCK_DESTROY request.now

@@ -13,7 +13,9 @@ use netlink_packet_sock_diag::inet::InetResponseHeader;
 use netlink_packet_sock_diag::unix::UnixResponseHeader;
 use netlink_packet_sock_diag::{ReplyHeader, ReplyView};
 
-/// Outcome of a call that writes bytes derived from the caller's bytes.
+/// Outcome of a call that writes bytes derived from the caller's bytes. It is set in any case. If
+/// nothing was written, it says why: the caller's bytes are rejected (`error` is not 0), they are
+/// too long for a length field (both are 0), or the buffer is shorter than `needed`.
 #[repr(C)]
 #[derive(Clone, Copy, Default)]
 pub struct Outcome {
@@ -25,19 +27,8 @@ pub struct Outcome {
 
 const _: () = prove!(std::mem::size_of::<Outcome>() == 16);
 
-/// Writes the canonical form of a reply about a UNIX socket at the start of the buffer; bytes after
-/// it are unchanged. The reply is the payload of a netlink message.
-///
-/// Returns the number of bytes that were written, which is also stored in `outcome.needed`. Returns
-/// 0 if nothing was written, for one of these reasons:
-/// - The reply is rejected. `outcome.error` is the code of the first error; in all other cases it
-///   is 0. `outcome.needed` is 0.
-/// - The reply cannot be serialized, because a value is longer than it was in the reply, and too
-///   long for its length field. `outcome.needed` is 0.
-/// - The buffer is shorter than needed. `outcome.needed` is the number of bytes that it has to
-///   have.
-///
-/// `outcome` is set in any case.
+/// Writes the canonical form of a reply about a UNIX socket. Returns the number of bytes that were
+/// written, or 0: see `outcome`.
 #[unsafe(no_mangle)]
 pub extern "C" fn sockdiag_rewrite_unix_reply(
     payload: &[u8],
@@ -56,19 +47,8 @@ pub extern "C" fn sockdiag_rewrite_unix_reply(
     rewrite::<UnixResponseHeader>(payload, buffer, outcome)
 }
 
-/// Writes the canonical form of a reply about an IPv4 or IPv6 socket at the start of the buffer;
-/// bytes after it are unchanged. The reply is the payload of a netlink message.
-///
-/// Returns the number of bytes that were written, which is also stored in `outcome.needed`. Returns
-/// 0 if nothing was written, for one of these reasons:
-/// - The reply is rejected. `outcome.error` is the code of the first error; in all other cases it
-///   is 0. `outcome.needed` is 0.
-/// - The reply cannot be serialized, because a value is longer than it was in the reply, and too
-///   long for its length field. `outcome.needed` is 0.
-/// - The buffer is shorter than needed. `outcome.needed` is the number of bytes that it has to
-///   have.
-///
-/// `outcome` is set in any case.
+/// Writes the canonical form of a reply about an IPv4 or IPv6 socket. Returns the number of bytes
+/// that were written, or 0: see `outcome`.
 #[unsafe(no_mangle)]
 pub extern "C" fn sockdiag_rewrite_inet_reply(
     payload: &[u8],
