@@ -1,7 +1,6 @@
 #!/bin/sh
 # Times this port and the Rust crate netlink-packet-sock-diag 0.5.0 on the same replies, and prints
-# the table of docs/SPEED.md: the time of the port divided by the time of the crate. Stores it in
-# bench/results.
+# the table of docs/SPEED.md: the time of the port divided by the time of the crate.
 #
 #     bench/compare.sh
 #     BENCH_ORIGINAL=FOLDER bench/compare.sh     without crates.io: FOLDER/sockdiag is the crate,
@@ -28,4 +27,4 @@ fi
 quietly "$made/cargo.log" \
     cargo rustc "$@" -- -Clink-arg="$library" -Clink-arg="$kit_library"
 target/release/beside >table
-python3 "$top/bench/store.py" replies 'rustc --version' <table
+python3 "$top/bench/table.py" 'rustc --version' <table

@@ -6,12 +6,12 @@
     bench/tools.py original    sockdiag and a program over the Rust crate answer the same lines
     bench/tools.py growth      the C library parses more and more attributes and messages
 
-Prints a Markdown table, and stores it in bench/results. Ratios are of instructions in user mode,
-which callgrind counts: other processes do not change them. A time is the least of many runs. The
-first run opens some thousand sockets and records their dumps by bench/dumps.py, in the folder
-out/bench/dumps; pcap files of the same names there are used instead. What the kit builds is built
-first if necessary. Needs valgrind and cc; libmnl-dev and pkg-config; ss; cargo and crates.io, or
-the folder BENCH_ORIGINAL (bench/compare.sh).
+Prints a Markdown table. Ratios are of instructions in user mode, which callgrind counts: other
+processes do not change them. A time is the least of many runs. The first run opens some thousand
+sockets and records their dumps by bench/dumps.py, in the folder out/bench/dumps; pcap files of the
+same names there are used instead. What the kit builds is built first if necessary. Needs valgrind
+and cc; libmnl-dev and pkg-config; ss; cargo and crates.io, or the folder BENCH_ORIGINAL
+(bench/compare.sh).
 """
 import os
 import re
@@ -22,7 +22,7 @@ import sys
 from pathlib import Path
 
 import dumps
-from store import store, table
+from table import print_table, table
 
 TOP = Path(__file__).resolve().parent.parent
 BENCH = TOP / "bench"
@@ -145,14 +145,14 @@ def compare_libmnl():
             ratio = "1" if name == "libmnl" else f"{counts[name] / counts['libmnl']:.2f}"
             rows.append((sockets(capture), PARSERS[name].format(family), ratio,
                          f"{counts[name]:,.0f}", f"{float(time):.0f}"))
-    store("libmnl", rows, "cc --version", VALGRIND, "pkg-config --print-provides libmnl")
+    print_table(rows, "cc --version", VALGRIND, "pkg-config --print-provides libmnl")
 
 
 def measure_growth():
     done = subprocess.run([linked("growth")], stdout=subprocess.PIPE, check=True, text=True)
     heading, *rows = table(done.stdout)
     rows = [(what, *(f"{int(it):,}" for it in numbers)) for what, *numbers in rows]
-    store("growth", [heading, *rows], "cc --version")
+    print_table([heading, *rows], "cc --version")
 
 
 def compare_ss():
@@ -170,7 +170,7 @@ def compare_ss():
         rows.append((f"{sockets(capture)}, `ss {arguments}`", f"{counts[0] / counts[1]:.2f}",
                      *(f"{it:,.0f}" for it in counts),
                      *(f"{time / count / 1000:.2f}" for time in times)))
-    store("ss", rows, "cc --version", VALGRIND, "ss -V")
+    print_table(rows, "cc --version", VALGRIND, "ss -V")
 
 
 def build_original():
@@ -213,7 +213,7 @@ def compare_original():
         times = [cpu_time([it], given) / count / 1000 for it in (own, other)]
         rows.append((name, f"{counts[0] / counts[1]:.2f}", *(f"{it:,.0f}" for it in counts),
                      *(f"{time:.2f}" for time in times)))
-    store("original", rows, "rustc --version", VALGRIND)
+    print_table(rows, "rustc --version", VALGRIND)
 
 
 COMPARISONS = {"libmnl": compare_libmnl, "ss": compare_ss, "original": compare_original,

@@ -204,9 +204,9 @@ SCRIPTS = sorted(str(path.relative_to(TOP)) for it in ("tests/*.py", "tests/*.sh
                  for path in TOP.glob(it) if path.is_file() and os.access(path, os.X_OK))
 GATE = "PATH=$STAND_INS/gate:$PATH .ci/run"
 STUBS = tuple((it, None, PASSED) for it in (
-    "tools/pictures", "tools/bindings", "tools/usage", *(it for it in SCRIPTS if it[-3:] == ".sh")))
+    "tools/bindings", "tools/usage", *(it for it in SCRIPTS if it[-3:] == ".sh")))
 CALLS = ("python3 tests/pages.py crates/sockdiag", "python3 tests/tables.py crates/sslist",
-         "pictures --check", "bindings --check", "usage --check",
+         "bindings --check", "usage --check",
          *(f"python3 {it}" if it.endswith(".py") else Path(it).name
            for it in SCRIPTS if it not in {ERASED, *CALLED, *OF_C_API}))
 COMPARED = ("tests/api/reply_reader.py", None, READER)
@@ -305,8 +305,6 @@ ROWS = [
         (("tools/pack", " --mode=u=rwX,go=rX", ""),), needs="cc"),
     Row("tests/install.sh", ("install: failed: --help",),
         (("tools/install", "usage: tools/install PREFIX", "planted"),), needs="cc make pkg-config"),
-    Row("tools/pictures --check", ("docs/pictures/crates.svg is not up to date",),
-        (("docs/pictures/crates.svg", "", "planted\n"),)),
     Row("tools/bindings --check", ("-planted", "include/sockdiag.h is out of date"),
         (("include/sockdiag.h", "", "planted\n"),)),
     Row("tools/usage --check", ("tests/help/sslist is out of date",),
