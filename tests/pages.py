@@ -68,7 +68,6 @@ BUILTIN = {"cd", "done", "echo", "export", "for", "printf", *PROGRAMS}
 NOT_RUN = {
     r"\.ci/run": "it is the gate, which runs this script",
     r"rt ": "proofs take minutes, and `rt ci` runs all of them",
-    r"tar .*-proofs": "it needs results of proofs; tests/release.sh runs it",
     r"tools/erase ": "tests/erased.py runs it",
     r"tools/vendor ": "it copies results of proofs; tests/vendor.sh runs it",
     r"examples/list_(sockets|rtt)": "it needs the built library; tests/api/c_api.sh runs it",

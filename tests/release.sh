@@ -1,14 +1,12 @@
 #!/bin/sh
-# release.sh [--write]: runs tools/pack in copies of this tree, with programs, a library and proof
-# results made here. Needs no kit, and takes one or two minutes.
+# release.sh [--write]: runs tools/pack in copies of this tree, with programs and a library that are
+# made here. Needs no kit, and takes one or two minutes.
 #
 # - tests/release.txt lists the members of each archive and package in order, with modes, owners and
 #   times, and the files that tools/install installs. --write writes a new list.
 # - Two copies at different paths, with other times and modes, are packed to the same bytes, also
 #   with another umask and locale, and variables that gzip, tar and dpkg-deb read. A link at the
 #   path of an archive is replaced. CDPATH has no effect.
-# - The command of INSTALL.md unpacks the archive of proof results over the sources, and changes no
-#   file of them.
 # - The archive for users and the packages have no broken link. The archive's examples in C can be
 #   built, but not with a library of another version. Its package for Rust can be compiled, and so
 #   can a program that depends on it as INSTALL.md says.
@@ -16,9 +14,8 @@
 # - The packages can be installed into another root and removed from it (skipped without root).
 # - tools/pack fails, and leaves no file, if a file or the date of the version is missing, or the
 #   time or the maintainer's address is wrong.
-# - tools/release packs what a gate left that is made here, with --proofs also the results of an rt
-#   that is made here. It refuses an rt of another logic, an edit that is not rejected, and a gate
-#   that left too little, or whose sources changed.
+# - tools/release packs what a gate left that is made here. It refuses an rt of another logic, an
+#   edit that is not rejected, and a gate that left too little, or whose sources changed.
 #
 # What needs a C compiler, cargo or dpkg is skipped without it.
 set -eu
@@ -55,8 +52,7 @@ for program in sockdiag sslist sockdump; do
 done
 "$top/tests/stand_in.sh" built/libsockdiag_c.a
 
-# A copy of the tree with files that must not be packed, and with proof results, of which one file
-# has two names. An archive has it twice.
+# A copy of the tree with files that must not be packed.
 for copy in one 'elsewhere/a tree'; do
     mkdir -p "$copy"
     (cd "$top" && tar -c --exclude=target --exclude=Cargo.lock --exclude=__pycache__ crates/*/src \
@@ -67,13 +63,6 @@ for copy in one 'elsewhere/a tree'; do
     for file in tools/erased/target/debug/it tools/erased/Cargo.lock docs/NOTES.md; do
         echo 'not packed' >"$copy/$file"
     done
-    for crate in netlink_core program_streams; do
-        mkdir -p "$copy/crates/$crate/out/incremental/build" "$copy/crates/$crate/out/rlib"
-        echo "$crate" >"$copy/crates/$crate/out/incremental/build/one"
-        ln "$copy/crates/$crate/out/incremental/build/one" \
-            "$copy/crates/$crate/out/incremental/build/two"
-        touch "$copy/crates/$crate/out/rlib/stamp"
-    done
 done
 find elsewhere -type d -exec chmod 700 {} +
 find elsewhere -type f -exec touch -d @1 {} + ! -path '*/tools/*' -exec chmod 600 {} +
@@ -82,13 +71,13 @@ export DEBFULLNAME='A Packager' DEBEMAIL=packager@debian.example
 
 # pack COPY FOLDER: packs by the time 86400, if SOURCE_DATE_EPOCH is not set.
 pack() {
-    "$1/tools/pack" built "$2" netlink_core program_streams >/dev/null
+    "$1/tools/pack" built "$2" >/dev/null
 }
 
 # With this CDPATH, these cd would lead into other folders.
 mkdir -p other_top/tools other_top/one/tools other_top/crates/low other_top/crates/checked
 export SOURCE_DATE_EPOCH=86400
-(cd one && CDPATH=$work/other_top tools/pack ../built - netlink_core program_streams >/dev/null)
+(cd one && CDPATH=$work/other_top tools/pack ../built - >/dev/null)
 mv one/- first
 # A locale by which sort orders the names in another way.
 localedef -i en_US -f UTF-8 ./en_US.UTF-8 2>said || echo "release.sh: skipped: no locale en_US" >&2
@@ -103,25 +92,6 @@ diff -r first second || fail "two trees are not packed to the same bytes"
 (cd first && cat ./*.sha256 | sha256sum -c --quiet) || fail "a sum is wrong"
 # The package for Rust takes some seconds to write. From here on it has one file.
 printf '#!/bin/sh\nmkdir "$1" && touch "$1/Cargo.toml"\n' >one/tools/erase
-
-# The sources, with an archive and without proof results.
-proofs=sockdiag-$version-proofs.tar.gz
-cp -R one sources
-rm -r sources/crates
-cp -R sources before
-cp "first/$proofs" sources
-sed -n '/^    tar .*-proofs/ { s/VERSION/'"$version"'/; p }' "$top/INSTALL.md" >unpack
-[ -s unpack ] || fail "INSTALL.md does not unpack the archive of proof results"
-grep -qF "$(sed "s/$version/VERSION/" unpack)" "$top/docs/RATTLE.md" || fail "RATTLE.md: tar"
-(cd sources && sh -eu ../unpack)
-for crate in netlink_core program_streams; do
-    diff -r "one/crates/$crate/out/incremental" "sources/crates/$crate/out/incremental" ||
-        fail "proof results are not unpacked"
-    rm -r "sources/crates/$crate/out/incremental"
-done
-[ -z "$(find sources/crates ! -type d)" ] || fail "other files than proof results are unpacked"
-rm -r sources/crates "sources/$proofs"
-diff -r before sources || fail "the archive of proof results changes the sources"
 
 mkdir unpacked staged prefix
 tar -xzf "first/$users.tar.gz" -C unpacked
@@ -228,15 +198,8 @@ if has dpkg-deb && has lintian; then
     done
 fi
 
-# What the gate leaves, and an rt, by which one library has no proof results after rt lib.
-cat >bin/rt <<'END'
-#!/bin/sh
-case $1 in
-    version) echo "rattle-kit-1 logic $KIT_LOGIC" ;;
-    lib) [ "$(basename "$PWD")" = checked ] || mkdir -p out/incremental ;;
-    check) mkdir -p out/incremental ;;
-esac
-END
+# What the gate leaves, and an rt, which only has to print its version.
+printf '#!/bin/sh\necho "rattle-kit-1 logic $KIT_LOGIC"\n' >bin/rt
 printf 'low:\nchecked:\nother:\nsockdiag: low\nsslist: checked\nsockdiag_c: other\n' >one/crates.txt
 for crate in low checked other; do mkdir -p "one/crates/$crate/out/rlib/$crate.rlib"; done
 mkdir -p one/tests one/crates/sockdiag/out one/crates/sslist/out one/crates/sockdiag_c/out
@@ -292,13 +255,8 @@ mv missing one/crates.txt
 if release 12 1 refused; then fail "it releases with an edit that is not rejected"; fi
 [ ! -e refused ] || fail "it packs a release that it refuses"
 release 12 0 released
-[ ! -e "released/$proofs" ] || fail "proof results without --proofs"
-CFLAGS='-w -O2' LDFLAGS='-lc -w' release 12 0 --proofs with_proofs
-diff "released/$users.tar.gz" "with_proofs/$users.tar.gz" ||
-    fail "--proofs, -w or -lc changes the archive"
-printf '%s\n' crates/low/out/incremental/ crates/checked/out/incremental/ >expected
-tar -tzf "with_proofs/$proofs" | sed -n 's,^[^/]*/\(.*/\)$,\1,p' | diff expected - ||
-    fail "proof results of a release"
+CFLAGS='-w -O2' LDFLAGS='-lc -w' release 12 0 with_flags
+diff "released/$users.tar.gz" "with_flags/$users.tar.gz" || fail "-w or -lc changes the archive"
 for file in bin/sockdiag bin/sslist lib/libsockdiag.a; do
     tar -xzOf "released/$users.tar.gz" "$users/$file" | grep -ao 'built [a-z]*\|library'
 done >built.txt
