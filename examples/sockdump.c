@@ -1,6 +1,6 @@
 /*
- * sockdump [--every=SECONDS] [KIND ..]: requests the sockets of this machine from the kernel, and
- * writes the requests and the answers as a capture to standard output, for sslist:
+ * sockdump [--netns=FILE] [--every=SECONDS] [KIND ..]: requests the sockets of this machine from
+ * the kernel, and writes the requests and the answers as a capture to standard output, for sslist:
  *
  *     sockdump | sslist
  *
@@ -12,13 +12,23 @@
  * flushed after each round. The program ends by a signal, at an error, or when the readers of the
  * pipe at standard output have closed it.
  *
+ * sockdump --events[=tcp,udp] [--netns=FILE] requests nothing, and writes the message that the
+ * kernel sends as each TCP or UDP socket is destroyed. It ends as with --every. If the kernel
+ * dropped messages, since they came faster than they were written, this is reported.
+ *
+ * With --netns, the sockets are those of the network namespace of a file, such as
+ * /run/netns/NAME or /proc/PID/ns/net. This needs privileges.
+ *
  * Each kind is requested from NETLINK_SOCK_DIAG by a dump request, as sock_diag(7) shows, in all
  * states and with the attributes that sslist decodes. The capture is in pcap format with link type
  * 253 (LINKTYPE_NETLINK), as tcpdump writes it for an nlmon device. The exit status is 0 if the
- * answers were written to their end or, with --every, until the pipe was closed. It is 1 if not,
- * and 2 for wrong arguments. The program is valid C99 and C++.
+ * answers were written to their end or, with --every and --events, until the pipe was closed. It is
+ * 1 if not, and if messages were dropped, and 2 for wrong arguments. The program is valid C99 and
+ * C++.
  */
-#define _POSIX_C_SOURCE 200809L
+#ifndef _GNU_SOURCE
+#define _GNU_SOURCE /* For setns. */
+#endif
 
 #include <errno.h>
 #include <fcntl.h>
@@ -32,6 +42,7 @@
 #include <linux/xdp_diag.h>
 #include <netinet/in.h>
 #include <poll.h>
+#include <sched.h>
 #include <signal.h>
 #include <stdint.h>
 #include <stdio.h>
@@ -131,13 +142,15 @@ static size_t fill_inet(struct request *request, const struct kind *kind) {
 static size_t fill_netlink(struct request *request, const struct kind *kind) {
     request->body.netlink.sdiag_family = kind->family;
     request->body.netlink.sdiag_protocol = NDIAG_PROTO_ALL;
-    request->body.netlink.ndiag_show = NDIAG_SHOW_MEMINFO | NDIAG_SHOW_GROUPS;
+    request->body.netlink.ndiag_show = NDIAG_SHOW_MEMINFO | NDIAG_SHOW_GROUPS | NDIAG_SHOW_FLAGS;
     return sizeof request->body.netlink;
 }
 
 static size_t fill_packet(struct request *request, const struct kind *kind) {
     request->body.packet.sdiag_family = kind->family;
-    request->body.packet.pdiag_show = PACKET_SHOW_INFO | PACKET_SHOW_MEMINFO;
+    request->body.packet.pdiag_show = PACKET_SHOW_INFO | PACKET_SHOW_MCLIST | PACKET_SHOW_RING_CFG
+                                    | PACKET_SHOW_FANOUT | PACKET_SHOW_MEMINFO
+                                    | PACKET_SHOW_FILTER;
     return sizeof request->body.packet;
 }
 
@@ -149,12 +162,13 @@ static size_t fill_vsock(struct request *request, const struct kind *kind) {
 
 static size_t fill_xdp(struct request *request, const struct kind *kind) {
     request->body.xdp.sdiag_family = kind->family;
-    request->body.xdp.xdiag_show = XDP_SHOW_INFO | XDP_SHOW_MEMINFO;
+    request->body.xdp.xdiag_show = XDP_SHOW_INFO | XDP_SHOW_RING_CFG | XDP_SHOW_UMEM
+                                 | XDP_SHOW_MEMINFO | XDP_SHOW_STATS;
     return sizeof request->body.xdp;
 }
 
-/* A reply about a TCP or UDP socket does not contain the protocol. sslist takes it from the
- * request, which it finds among the last 16. */
+/* The answer to a request for TCP or UDP sockets does not contain the protocol. sslist takes it
+ * from the request, which it finds among the last 16. */
 static const struct kind kinds[] = {
     {"unix", AF_UNIX, 0, fill_unix},
     {"tcp", AF_INET, IPPROTO_TCP, fill_inet},
@@ -173,12 +187,33 @@ static const struct kind kinds[] = {
 
 enum { KINDS = sizeof kinds / sizeof kinds[0] };
 
+/* A group of messages about destroyed sockets, and the protocol of the sockets. */
+struct group {
+    const char *protocol;
+    int number;
+};
+
+static const struct group groups[] = {
+    {"tcp", SKNLGRP_INET_TCP_DESTROY},
+    {"tcp", SKNLGRP_INET6_TCP_DESTROY},
+    {"udp", SKNLGRP_INET_UDP_DESTROY},
+    {"udp", SKNLGRP_INET6_UDP_DESTROY},
+};
+
+enum { GROUPS = sizeof groups / sizeof groups[0] };
+
 /* What the arguments select. */
 struct selection {
     uint8_t is_named[KINDS];
     int has_names; /* Whether a kind is named. If not, all are requested. */
     int seconds;   /* Time between the starts of two rounds, or 0 for one round. */
+    uint8_t is_joined[GROUPS];
+    int has_events;         /* Whether a group is joined. Then nothing is requested. */
+    const char *name_space; /* The file of a network namespace to enter, or NULL. */
 };
+
+/* The exit status after the readers of the pipe have closed it. */
+static volatile sig_atomic_t closed_status;
 
 static int write_bytes(const void *bytes, size_t length) {
     return fwrite(bytes, 1, length, stdout) == length ? 0 : fail("standard output");
@@ -334,10 +369,63 @@ static int dump_rounds(int kernel, const struct selection *selection) {
     return 0;
 }
 
-/* Ends the program when the readers of the pipe have closed it, which is no error with --every. */
+/* Ends the program when the readers of the pipe have closed it, which is no error with --every and
+ * --events. */
 static void end_quietly(int number) {
     (void)number;
-    _exit(0);
+    _exit(closed_status);
+}
+
+/* Joins the selected groups. The buffer of the socket gets the largest size that the kernel
+ * permits. */
+static int join_groups(int kernel, const struct selection *selection) {
+    static const int size = 1 << 30;
+    int index;
+    if (setsockopt(kernel, SOL_SOCKET, SO_RCVBUF, &size, sizeof size) != 0)
+        return fail("setsockopt");
+    for (index = 0; index < GROUPS; index++)
+        if (selection->is_joined[index]
+            && setsockopt(kernel, SOL_NETLINK, NETLINK_ADD_MEMBERSHIP, &groups[index].number,
+                          sizeof groups[index].number) != 0)
+            return fail("setsockopt");
+    return 0;
+}
+
+/* Receives the message of an event, and writes it. The kernel reports by ENOBUFS that it dropped
+ * messages. */
+static int write_event(int kernel) {
+    static struct datagram received;
+    const ssize_t length = recv(kernel, received.data.bytes, sizeof received.data.bytes, MSG_TRUNC);
+    if (length < 0 && errno == EINTR)
+        return 0;
+    if (length < 0 && errno == ENOBUFS) {
+        closed_status = 1;
+        return fputs("sockdump: events were lost\n", stderr), 0;
+    }
+    if (length < 0)
+        return fail("recv");
+    received.length = (size_t)length;
+    clock_gettime(CLOCK_REALTIME, &received.time);
+    return write_packet(&received);
+}
+
+/* Writes events until the readers of the pipe have closed it. What is written is flushed as soon as
+ * no other event waits. */
+static int write_events(int kernel) {
+    struct pollfd waits[2] = {{kernel, POLLIN, 0}, {STDOUT_FILENO, 0, 0}};
+    for (;;) {
+        int count = poll(waits, 2, 0);
+        if (count == 0 && fflush(stdout) != 0)
+            return fail("standard output");
+        if (count == 0)
+            count = poll(waits, 2, -1);
+        if (count < 0 && errno != EINTR)
+            return fail("poll");
+        if (count > 0 && waits[1].revents != 0)
+            return closed_status == 0 ? 0 : -1;
+        if (count > 0 && write_event(kernel) != 0)
+            return -1;
+    }
 }
 
 /* Returns whether standard input, output and error are open. If one is not, the socket gets its
@@ -345,6 +433,15 @@ static void end_quietly(int number) {
 static int has_streams(void) {
     return fcntl(STDIN_FILENO, F_GETFD) >= 0 && fcntl(STDOUT_FILENO, F_GETFD) >= 0
         && fcntl(STDERR_FILENO, F_GETFD) >= 0;
+}
+
+/* Enters the network namespace of a file. */
+static int enter(const char *path) {
+    const int file = open(path, O_RDONLY | O_CLOEXEC);
+    int failed = file < 0 || setns(file, CLONE_NEWNET) != 0 ? fail("--netns") : 0;
+    if (file >= 0)
+        close(file);
+    return failed;
 }
 
 /* Opens a socket to which only the kernel can send. */
@@ -363,14 +460,19 @@ static int open_kernel(void) {
 }
 
 static const char usage[] =
-    "usage: sockdump [--every=SECONDS] [KIND ..]\n"
+    "usage: sockdump [--netns=FILE] [--every=SECONDS] [KIND ..]\n"
+    "       sockdump [--netns=FILE] --events[=tcp,udp]\n"
     "       sockdump --help | --version\n\n"
     "Requests the sockets of this machine from the kernel, and writes the answers as\n"
     "a capture to standard output: sockdump | sslist\n\n"
     "KIND is unix, tcp, udp, mptcp, raw, netlink, packet, vsock or xdp. Without KIND\n"
     "all are requested.\n\n"
     "With --every they are requested every SECONDS seconds, 1 to 86400, until the\n"
-    "output is closed or a signal ends the program.\n";
+    "output is closed or a signal ends the program.\n\n"
+    "With --events nothing is requested: each TCP and UDP socket is written as it is\n"
+    "destroyed, until the output is closed or a signal ends the program.\n\n"
+    "With --netns the sockets are those of the network namespace of FILE, such as\n"
+    "/run/netns/NAME or /proc/PID/ns/net.\n";
 
 /* Prints a text. Returns the exit status. */
 static int print(const char *text) {
@@ -413,11 +515,48 @@ static int reject(const char *argument) {
     return fputs("; try sockdump -h\n", stderr), -1;
 }
 
+/* Selects the groups of a protocol, whose name has this length. Returns how many there are. */
+static int select_groups(const char *name, size_t length, struct selection *selection) {
+    int index, count = 0;
+    for (index = 0; index < GROUPS; index++)
+        if (strlen(groups[index].protocol) == length
+            && strncmp(name, groups[index].protocol, length) == 0) {
+            selection->is_joined[index] = 1;
+            count++;
+        }
+    return count;
+}
+
+/* Reads what follows --events: nothing, which selects all protocols, or an equals sign and names of
+ * protocols, separated by commas. */
+static int read_events(const char *text, struct selection *selection) {
+    selection->has_events = 1;
+    if (*text == '\0')
+        text = "=tcp,udp";
+    do {
+        const size_t length = strcspn(++text, ",");
+        if (select_groups(text, length, selection) == 0)
+            return fputs("sockdump: --events takes tcp, udp or tcp,udp\n", stderr), -1;
+        text += length;
+    } while (*text != '\0');
+    return 0;
+}
+
+/* Returns what follows the name of an option in an argument, or NULL if the argument is another
+ * one. */
+static const char *after_name(const char *argument, const char *name) {
+    const size_t length = strlen(name);
+    return strncmp(argument, name, length) == 0 ? argument + length : NULL;
+}
+
 static int read_argument(const char *argument, struct selection *selection) {
-    static const char every[] = "--every";
-    const size_t length = sizeof every - 1;
-    if (strncmp(argument, every, length) == 0)
-        return read_seconds(argument + length, &selection->seconds);
+    const char *text;
+    if ((text = after_name(argument, "--every")) != NULL)
+        return read_seconds(text, &selection->seconds);
+    if ((text = after_name(argument, "--events")) != NULL && (*text == '=' || *text == '\0'))
+        return read_events(text, selection);
+    if ((text = after_name(argument, "--netns=")) != NULL)
+        return selection->name_space = text, 0;
     return select_kinds(argument, selection) > 0 ? 0 : reject(argument);
 }
 
@@ -427,12 +566,25 @@ static int read_arguments(int count, char **arguments, struct selection *selecti
     for (index = 1; index < count; index++)
         if (read_argument(arguments[index], selection) != 0)
             return -1;
-    return 0;
+    if (!selection->has_events || (!selection->has_names && selection->seconds == 0))
+        return 0;
+    return fputs("sockdump: --events takes no KIND and no --every\n", stderr), -1;
+}
+
+/* Writes the capture. Returns the exit status. */
+static int capture(int kernel, const struct selection *selection) {
+    if (selection->has_events || selection->seconds > 0)
+        signal(SIGPIPE, end_quietly);
+    if (selection->has_events && join_groups(kernel, selection) != 0)
+        return 1;
+    if (write_file_header() != 0)
+        return 1;
+    return (selection->has_events ? write_events(kernel) : dump_rounds(kernel, selection)) != 0;
 }
 
 int main(int argc, char **argv) {
     struct selection selection;
-    int kernel, failed;
+    int kernel, status;
     memset(&selection, 0, sizeof selection);
     if (argc > 1 && (strcmp(argv[1], "-h") == 0 || strcmp(argv[1], "--help") == 0))
         return print(usage);
@@ -444,12 +596,12 @@ int main(int argc, char **argv) {
         return fputs("sockdump: standard output is a terminal; try sockdump | sslist\n", stderr), 1;
     if (!has_streams())
         return fputs("sockdump: standard input, output or error is not open\n", stderr), 1;
+    if (selection.name_space != NULL && enter(selection.name_space) != 0)
+        return 1;
     kernel = open_kernel();
     if (kernel < 0)
         return 1;
-    if (selection.seconds > 0)
-        signal(SIGPIPE, end_quietly);
-    failed = write_file_header() != 0 || dump_rounds(kernel, &selection) != 0;
+    status = capture(kernel, &selection);
     close(kernel);
-    return failed;
+    return status;
 }

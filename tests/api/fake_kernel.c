@@ -37,6 +37,10 @@
  * If FAKE_KERNEL_SIGNALS is set, a signal interrupts each second call that sends or receives,
  * beginning with the first one.
  *
+ * A socket that joins the groups of destroyed sockets receives the replies of the file about TCP
+ * and UDP sockets of these groups, as events. If FAKE_KERNEL_DROPS is set, an event was dropped
+ * before the first one.
+ *
  * If FAKE_KERNEL_TIME is a number of seconds with nine decimal places, it is always the time of
  * CLOCK_REALTIME.
  *
@@ -53,6 +57,7 @@
 #include <linux/inet_diag.h>
 #include <linux/netlink.h>
 #include <netinet/in.h>
+#include <poll.h>
 #include <stdio.h>
 #include <stdlib.h>
 #include <string.h>
@@ -79,6 +84,8 @@ static FILE *replies;
 static int has_protocol, has_mptcp;
 /* Whether the answer from the file has ended. */
 static int has_ended;
+/* A bit for each group that the socket has joined. */
+static unsigned joined;
 
 /* Returns the number in an environment variable, or 0. */
 static size_t variable(const char *name) {
@@ -129,6 +136,27 @@ int getsockname(int fd, struct sockaddr *address, socklen_t *length) {
     (void)length;
     ((struct sockaddr_nl *)(void *)address)->nl_pid = OWN_PORT;
     return 0;
+}
+
+int setsockopt(int fd, int level, int name, const void *value, socklen_t length) {
+    int number;
+    if (level != SOL_NETLINK || name != NETLINK_ADD_MEMBERSHIP)
+        return 0;
+    if (fd != kernel || length != sizeof number)
+        abort();
+    memcpy(&number, value, sizeof number);
+    joined |= 1u << number;
+    if (replies != NULL)
+        rewind(replies);
+    return 0;
+}
+
+/* Reports that no event waits, if the program asks so, and else what is so. */
+int poll(struct pollfd *waits, nfds_t count, int milliseconds) {
+    const struct timespec time = {milliseconds / 1000, milliseconds % 1000 * 1000000L};
+    if (joined != 0 && milliseconds == 0)
+        return 0;
+    return (int)syscall(SYS_ppoll, waits, count, milliseconds < 0 ? NULL : &time, NULL, 0);
 }
 
 /* Returns whether a signal interrupts a call, which is each second one, and sets errno. */
@@ -426,6 +454,35 @@ static ssize_t lose_data(uint8_t *bytes, uint32_t number) {
     return (ssize_t)put(bytes, NLMSG_ERROR, 0, number, &failure, 4);
 }
 
+/* Returns the group of a line of the file, which begins with a protocol. */
+static int group_of(const char *line, uint8_t family) {
+    if (strncmp(line, "tcp ", 4) == 0)
+        return family == AF_INET ? 1 : 3;
+    return strncmp(line, "udp ", 4) == 0 ? family == AF_INET ? 2 : 4 : 0;
+}
+
+/* Writes the next event of the file that the socket receives. Returns what recv returns. */
+static ssize_t put_event(uint8_t *bytes) {
+    static char line[2 * MOST_REPLY + 16];
+    static uint8_t reply[MOST_REPLY];
+    static int dropped;
+    errno = ENOBUFS;
+    if (getenv("FAKE_KERNEL_DROPS") != NULL && dropped++ == 0)
+        return -1;
+    while (fgets(line, sizeof line, replies) != NULL) {
+        const char *digits = strchr(line, ' ');
+        const size_t length = digits == NULL ? 0 : put_digits(reply, digits + 1);
+        if (length > 2 && (joined >> group_of(line, reply[0]) & 1) != 0) {
+            const size_t written =
+                put(bytes, SOCKDIAG_SOCK_DIAG_BY_FAMILY, 0, 0, reply, length);
+            memset(bytes + 12, 0, 4);
+            return (ssize_t)written;
+        }
+    }
+    errno = ETIMEDOUT;
+    return -1;
+}
+
 ssize_t recv(int fd, void *buffer, size_t capacity, int flags) {
     static const int32_t success = 0, failure = -ENOENT;
     const uint8_t state = request[21] == 4 ? SOCKDIAG_TCP_LISTEN : SOCKDIAG_TCP_CLOSE;
@@ -442,6 +499,8 @@ ssize_t recv(int fd, void *buffer, size_t capacity, int flags) {
     errno = ETIMEDOUT;
     if (has_ended)
         return -1;
+    if (joined != 0)
+        return put_event(bytes);
     memcpy(&number, request + 8, 4);
     if (replies != NULL)
         return put_datagram(bytes, number, capacity, flags);

@@ -42,10 +42,10 @@ REQUESTS = [(name, family, bytes.fromhex(digits)) for name, family, digits in (
     ("mptcp", 10, "0a00ff00" + INET + "0800030006010000"),
     ("raw", 2, "02ffff00" + INET),
     ("raw", 10, "0affff00" + INET),
-    ("netlink", 16, "10ff0000 00000000 03000000 0000000000000000"),
-    ("packet", 17, "11000000 00000000 11000000 0000000000000000"),
+    ("netlink", 16, "10ff0000 00000000 0b000000 0000000000000000"),
+    ("packet", 17, "11000000 00000000 3f000000 0000000000000000"),
     ("vsock", 40, "28000000 ffffffff 00000000 00000000 0000000000000000"),
-    ("xdp", 44, "2c000000 00000000 09000000 0000000000000000"),
+    ("xdp", 44, "2c000000 00000000 1f000000 0000000000000000"),
 )]
 # A file with replies of more than 4096 bytes.
 LONG = kernels.HERE / "kernels/linux-6.18"
@@ -56,6 +56,8 @@ OWN_PORT = 77
 LIMIT = 60
 DUMP, BY_FAMILY, NOOP, ERROR, DONE, MULTI, ENOENT, EINVAL = 0x301, 20, 1, 2, 3, 2, 2, 22
 SECONDS = "sockdump: --every=SECONDS needs a whole number from 1 to 86400\n"
+EVENTS = "sockdump: --events takes tcp, udp or tcp,udp\n"
+NO_KIND = "sockdump: --events takes no KIND and no --every\n"
 # Arguments, variables of the kernel, the exit status, and standard error.
 FAILURES = [
     (["every"], {}, 2, "sockdump: unknown kind every; try sockdump -h\n"),
@@ -63,6 +65,14 @@ FAILURES = [
     *(([*kinds, f"--every{it}"], {}, 2, SECONDS) for kinds in ([], ["unix"]) for it in (
         "", "=", "=0", "=86401", "=1s", "=-1", "=+1", "= 1", "=1 ", "=18446744073709551617", "s1")),
     (["--every=1", "nope"], {}, 2, "sockdump: unknown kind nope; try sockdump -h\n"),
+    *(([f"--events={it}"], {}, 2, EVENTS)
+      for it in ("", ",", "tcp,", ",udp", "tc", "tcpx", "unix")),
+    *((arguments, {}, 2, NO_KIND) for arguments in (
+        ["--events", "tcp"], ["udp", "--events=udp"], ["--every=1", "--events"])),
+    (["--eventsx"], {}, 2, "sockdump: unknown kind --eventsx; try sockdump -h\n"),
+    (["--netns=/none", "tcp"], {}, 1, "sockdump: --netns: No such file or directory\n"),
+    (["--netns=/dev/null", "tcp"], {}, 1, "sockdump: --netns: Invalid argument\n"),
+    (["--events"], {"FAKE_KERNEL_REFUSES": "1"}, 1, "sockdump: connect: Operation not permitted\n"),
     *((arguments, *how) for arguments in (["unix"], ["--every=1", "unix"]) for how in (
         ({"FAKE_KERNEL_REFUSES": "1"}, 1, "sockdump: connect: Operation not permitted\n"),
         ({"FAKE_KERNEL_LACK": "1"}, 1, "sockdump: unix: truncated message\n"),
@@ -241,6 +251,33 @@ def test_clock(runs, files):
     compare("clock", {it for it, _ in packets(written)}, {1700000000123456})
 
 
+def events(file, kinds):
+    """Returns the events of the replies of a file about these kinds of sockets, which have the
+    sequence number and the port id 0."""
+    lines = [line.split() for line in file.read_text().splitlines()]
+    return [message(BY_FAMILY, 0, 0, 0, bytes.fromhex(line[1]))
+            for line in lines if line and line[0] in kinds]
+
+
+def test_events(runs, files):
+    """Writes the events of the groups that are joined, also after the kernel dropped one, which is
+    reported. This kernel ends them by an error."""
+    ended = "sockdump: recv: Connection timed out\n"
+    for file, (argument, kinds), (variables, lost) in itertools.product(
+            files, (("", ("tcp", "udp")), ("=tcp", ("tcp",)), ("=udp", ("udp",)),
+                    ("=udp,tcp", ("tcp", "udp"))),
+            (({}, ""), ({"FAKE_KERNEL_SIGNALS": "1"}, ""),
+             ({"FAKE_KERNEL_DROPS": "1"}, "sockdump: events were lost\n"))):
+        what = f"{file.name} --events{argument} {variables}"
+        found = runs.end([f"--events{argument}"], subprocess.PIPE, file, **variables)
+        compare(what, (found[0], found[2]), (1, lost + ended))
+        compare_datagrams(what, found[1], events(file, kinds))
+    with open("/dev/full", "wb") as full:
+        found = runs.end(["--events"], full, LONG)
+    compare("--events >/dev/full", found,
+            (1, None, "sockdump: standard output: No space left on device\n"))
+
+
 def test_odd_length(runs, files):
     """Compares datagrams that begin with a message of 33 bytes, and its padding."""
     odd = message(NOOP, 0, 1, OWN_PORT, bytes([1, 1, 10, *bytes(14)])) + bytes(3)
@@ -269,7 +306,7 @@ def test_closed_pipe(runs, files):
         running.stdout.close()
         compare("closed", (running.wait(), running.stderr.read()), (0, b""))
     compare_datagrams("closed", written, expected)
-    for arguments, status in ((["--every=86400"], 0), ([], -signal.SIGPIPE)):
+    for arguments, status in ((["--every=86400"], 0), (["--events"], 0), ([], -signal.SIGPIPE)):
         reader, writer = os.pipe()
         os.close(reader)
         found = runs.end(arguments, writer, files[0])
@@ -294,8 +331,9 @@ def main():
     files, failed = kernels.replies(), 0
     with tempfile.TemporaryDirectory() as folder:
         runs = Runs(sys.argv[1], kernels.build(folder))
-        for test in (test_usage, test_kinds, test_failures, test_not_open, test_odd_length,
-                     test_terminal, test_rounds, test_clock, test_closed_pipe, test_processes):
+        for test in (test_usage, test_kinds, test_failures, test_not_open, test_events,
+                     test_odd_length, test_terminal, test_rounds, test_clock, test_closed_pipe,
+                     test_processes):
             try:
                 test(runs, files)
             except AssertionError as error:
