@@ -1,0 +1,5 @@
+//! The tests of the lister.
+#![tactic(auto)]
+
+#[cfg(test)]
+mod lister;
