@@ -1,6 +1,6 @@
 #!/bin/sh
 # library.sh [--of-gate]: builds the C library, crates/sockdiag_c/out/libsockdiag_c.a, unless it is
-# newer than every source.
+# newer than every source. Its code runs on each x86-64 processor.
 #
 # Without an argument it runs `rt lib`, which proves each library that it cannot use. The gate calls
 # it with --of-gate: the script then proves sockdiag_c over the libraries that `rt ci` left
@@ -29,7 +29,7 @@ are_of_gate() {
 if is_current; then exit 0; fi
 if [ "${1-}" != --of-gate ] || ! are_of_gate; then
     cd "$crate"
-    rt lib
+    rt lib --cpu x86-64
     exit
 fi
 
@@ -40,4 +40,4 @@ over_gate=$PWD/tests/over_gate.sh
 cd "$crate"
 mkdir -p out
 "$over_gate" sockdiag_c build --crate-type staticlib --toolchain "$toolchain" \
-    --backend llvm --jobs "$jobs" -o out/libsockdiag_c.a
+    --backend llvm --cpu x86-64 --jobs "$jobs" -o out/libsockdiag_c.a
