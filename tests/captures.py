@@ -132,13 +132,13 @@ FAMILIES = [
         "030000000000004003000000000000000000000000000000000000000000",
         "p_raw UNCONN     0      0      241691     0     3:1                            *\n"
         "\t sk:3002 ver:0 cpy_thresh:0 running uid:0 skmem:(r0,rb212992,t0,tb212992,f0,w0,o"
-        "0,bl0,d0) unknown:(1,0)\n",
+        "0,bl0,d0)\n",
         "{\"netid\":\"p_raw\",\"state_name\":\"UNCONN\",\"family\":17,\"type\":3,\"num\":3,"
         "\"ino\":241691,\"cookie\":\"3002\",\"info\":{\"index\":1,\"version\":0,\"reserve\""
-        ":0,\"copy_thresh\":0,\"tstamp\":0,\"flags\":1},\"uid\":0,\"meminfo\":{\"rmem_alloc"
+        ":0,\"copy_thresh\":0,\"tstamp\":0,\"flags\":1},\"mclist\":[],\"uid\":0,\"meminfo\":"
+        "{\"rmem_alloc"
         "\":0,\"rcvbuf\":212992,\"wmem_alloc\":0,\"sndbuf\":212992,\"fwd_alloc\":0,\"wmem_q"
-        "ueued\":0,\"optmem\":0,\"backlog\":0,\"drops\":0},\"other_attributes\":[{\"kind\":"
-        "1,\"length\":0,\"hex\":\"\"}]}",
+        "ueued\":0,\"optmem\":0,\"backlog\":0,\"drops\":0},\"other_attributes\":[]}",
     ),
     (
         "3000000014000200070000000000000028010a00ffffffffd2040000ffffffffffffffff0500000009"
@@ -203,6 +203,11 @@ FAMILY_VALUES = [
             (4, "07000100", " fanout(id:7,type:lb)", "fanout", {"id": 7, "type": 1}),
             (4, "ffff0400", " fanout(id:65535,type:random)", "fanout", {"id": 65535, "type": 4}),
             (4, "00000700", " fanout(id:0,type:0x7)", "fanout", {"id": 0, "type": 7}),
+            (1, "", "", "mclist", []),
+            (1, "010000000200000003000600" "aabbccddeeff" + "77" * 26
+             + "ffffffff0000000000002100" + "88" * 32, "", "mclist",
+             [{"index": 1, "count": 2, "type": 3, "alen": 6, "addr": "aabbccddeeff"},
+              {"index": (1 << 32) - 1, "count": 0, "type": 0, "alen": 33, "addr": "88" * 32}]),
             (7, "", "", "filter", []),
             (7, "280000000c000000" "1500010200080000" "0600000000000400",
              " bpf filter:0x28 0 0 12,0x15 1 2 2048,0x6 0 0 262144", "filter",
@@ -593,15 +598,15 @@ def lists_values_of_other_families(sslist):
             assert list_of(found[member]) == list_of(shown), found
 
 
-def rejects_filters_of_other_lengths(sslist):
-    """A filter consists of instructions of eight bytes."""
+def rejects_records_of_other_lengths(sslist):
+    """A filter consists of instructions of 8 bytes, and memberships have 44 bytes."""
     header, columns, _ = FAMILY_VALUES[1]
-    for value in ("00", "00" * 7, "00" * 9):
-        capture = pcap(HEADERS[0], (SOCK_DIAG, with_attributes(header, (7, value))))
-        length = len(value) // 2
-        sslist.run(capture, ["-O"], [columns, f" unread:(7,{length},wrong-length)\n"])
+    for kind, length in ((7, 1), (7, 7), (7, 9), (1, 1), (1, 43), (1, 45)):
+        value = "00" * length
+        capture = pcap(HEADERS[0], (SOCK_DIAG, with_attributes(header, (kind, value))))
+        sslist.run(capture, ["-O"], [columns, f" unread:({kind},{length},wrong-length)\n"])
         assert sslist.objects(capture)[0]["other_attributes"] == [
-            {"kind": 7, "length": length, "hex": value, "error": "wrong-length"}]
+            {"kind": kind, "length": length, "hex": value, "error": "wrong-length"}]
 
 
 def list_of(value):
@@ -1019,7 +1024,7 @@ def main():
     sslist, failed = Lister(sys.argv[1]), 0
     for check in (
         lists_captures_of_both_orders, lists_other_families, lists_values_of_other_families,
-        rejects_filters_of_other_lengths,
+        rejects_records_of_other_lengths,
         lists_attributes_of_newer_kernels,
         lists_the_first_valid_attribute,
         lists_short_tcp_info, leaves_out_times_that_were_not_measured,

@@ -29,6 +29,7 @@ use Rattle.sslist_lister.specs.FamilyFacts.{packet_facts, packet_ring_facts, ume
 use Rattle.sslist_lister.specs.FamilyFacts.{xdp_facts, xdp_ring_facts, xdp_statistics_facts}
 use Rattle.sslist_lister.specs.FilterProgram.{filter_outcome}
 use Rattle.sslist_lister.specs.Md5Keys.{md5_facts}
+use Rattle.sslist_lister.specs.Memberships.{memberships_outcome}
 use Rattle.sslist_lister.specs.SctpAddresses.{addresses_facts}
 use Rattle.sslist_lister.specs.Tcp.{mptcp_info, tcp_info}
 use Rattle.sslist_lister.specs.UlpInfo.{ulp_outcome}
@@ -172,7 +173,8 @@ with_facts facts = Ok (Some facts)
 -- value is read as `value`. Only JSON has the name of a UNIX socket, its peer and its queues here
 -- (Never), since the table has columns for them. `icons` are the inodes of connections that wait to
 -- be accepted. A `struct tcp_info` may have any length. The upper layer protocol may have no valid
--- name, and the filter of a packet socket may not consist of instructions.
+-- name. The filter of a packet socket may not consist of instructions, and its memberships not of
+-- records.
 abbrev pub any_outcome : Bool → Sockets → AnyValue → Outcome
 any_outcome utf8 sockets (any.name n) = with_facts (name_facts n)
 any_outcome utf8 sockets (any.vfs file) = with_facts (vfs_facts file.inode file.device)
@@ -217,7 +219,7 @@ any_outcome utf8 sockets (any.options of_socket) = with_facts (option_bits of_so
 any_outcome utf8 sockets (any.groups mask) = with_facts (groups_facts mask)
 any_outcome utf8 sockets (any.netlink_flags bits) = with_facts (netlink_flags_facts bits)
 any_outcome utf8 sockets (any.packet_info p) = with_facts (packet_facts p)
-any_outcome utf8 sockets (any.memberships records) = Ok None
+any_outcome utf8 sockets (any.memberships records) = memberships_outcome records
 any_outcome utf8 sockets (any.receive_frames ring) =
     with_facts (packet_ring_facts (codes " ring_rx(") (codes "rx_ring") ring)
 any_outcome utf8 sockets (any.send_frames ring) =

@@ -11,6 +11,7 @@ pub mod RecordFacts
 pub mod Md5Keys
 pub mod SctpAddresses
 pub mod FilterProgram
+pub mod Memberships
 pub mod UlpInfo
 pub mod Rows
 pub mod Facts

@@ -36,7 +36,7 @@ use Rattle.sock_diag_families.specs.PacketResponseHeader.{packet_header}
 use Rattle.sock_diag_families.specs.VsockResponseHeader.{vsock_header}
 use Rattle.sock_diag_families.specs.XdpResponseHeader.{xdp_header}
 use Rattle.sslist_lister.specs.Collected.{Summary, summary_of}
-use Rattle.sock_diag_extras.specs.Pieces.{AttributeOrError, framing_error_of, pieces_in}
+use Rattle.sock_diag_extras.specs.Pieces.{framing_error_of, pieces_in}
 use Rattle.sslist_lister.specs.Protocol.{protocol_of_reply}
 use Rattle.sslist_lister.specs.Sctp.{is_association}
 use Rattle.sslist_lister.specs.Table.{info_of_reply}

@@ -8,7 +8,6 @@ use Rattle.sslist_lister.specs.declared.command_line.options.Family.{Family}
 use Rattle.sslist_lister.specs.declared.command_line.options.Family.TheVariants.{Netlink, Packet}
 use Rattle.sslist_lister.specs.declared.command_line.options.Family.TheVariants.{Vsock, Xdp}
 use Rattle.sslist_lister.specs.declared.command_line.options.Options.{Options}
-use Rattle.netlink_core.specs.Attribute.{Attribute}
 use Rattle.sock_diag_families.specs.declared.netlink.response.NetlinkResponseHeader.{
   NetlinkResponseHeader,
 }

@@ -30,6 +30,7 @@ use crate::family_facts::{
     show_xdp, show_xdp_ring, show_xdp_statistics,
 };
 use crate::filter_program::{show_filter, status_of_filter};
+use crate::memberships::{show_memberships, status_of_memberships};
 use crate::tcp::{show_mptcp_info, show_tcp_info};
 use crate::ulp_info::{show_ulp, status_of_ulp};
 use netlink_core::NlaBuffer;
@@ -134,7 +135,8 @@ fn show_any<S: FactSink>(
         }
         AnyNla::Umem(umem) => show_umem(sink, umem),
         AnyNla::Statistics(counters) => show_xdp_statistics(sink, counters),
-        AnyNla::BpfStorages(_) | AnyNla::Memberships(_) | AnyNla::Unknown(_) => Ok(()),
+        AnyNla::Memberships(records) => show_memberships(sink, alloc, records),
+        AnyNla::BpfStorages(_) | AnyNla::Unknown(_) => Ok(()),
     }
 }
 
@@ -147,7 +149,8 @@ pub(crate) fn status_of_any(value: &AnyNla<'_>) -> Status
     match value {
         AnyNla::Ulp(info) => status_of_ulp(info.0.bytes()),
         AnyNla::Filter(instructions) => status_of_filter(instructions),
-        AnyNla::BpfStorages(_) | AnyNla::Memberships(_) | AnyNla::Unknown(_) => Ok(false),
+        AnyNla::Memberships(records) => status_of_memberships(records),
+        AnyNla::BpfStorages(_) | AnyNla::Unknown(_) => Ok(false),
         _ => Ok(true),
     }
 }

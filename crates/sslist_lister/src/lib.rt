@@ -30,6 +30,7 @@ mod line;
 mod list;
 mod lists;
 mod md5_keys;
+mod memberships;
 mod messages;
 mod name_cells;
 mod number_names;

@@ -6,10 +6,9 @@
 //! In the contracts, `pieces_in bytes` is each attribute in the bytes, and then the framing error,
 //! if there is one. `collected found.now` is what the attributes in `found` say.
 
-ghost use Rattle.std.specs.Prelude.{◌≡◌, ◌++◌, if◌then◌else◌, Some, drop, IfOk, OnOk, option_map};
+ghost use Rattle.std.specs.Prelude.{◌≡◌, ◌++◌, if◌then◌else◌, Some, IfOk, OnOk, option_map};
 ghost use Rattle.std.specs.Prelude.{option_and_then};
 ghost use Rattle.sslist_lister.specs.texts.CellsModel.{cells_model};
-ghost use Rattle.netlink_core.specs.Layout.{parse_record};
 ghost use Rattle.sock_diag_records.specs.InetResponse.{inet_response_header};
 ghost use Rattle.sock_diag_records.specs.UnixResponseHeader.{unix_response_header};
 ghost use Rattle.sock_diag_attributes.specs.NameModel.{name_view_model};

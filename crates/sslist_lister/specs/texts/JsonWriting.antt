@@ -1,5 +1,5 @@
 -- What functions that write JSON append to a writer.
-use Rattle.std.specs.Prelude.{◌≡◌, List, ◌∷◌, ◌++◌, flat_map, OnOk, Result}
+use Rattle.std.specs.Prelude.{◌≡◌, List, ◌∷◌, flat_map, OnOk, Result}
 use Rattle.json.specs.Json.{Json}
 use Rattle.json.specs.Token.{Token, key}
 use Rattle.json.specs.Tree.{json_tokens}
