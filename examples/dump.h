@@ -156,8 +156,9 @@ static int dump_once(struct dump *dump, uint8_t *request, size_t length) {
  * Requests a dump, whose sequence number it sets, and calls a function for each reply, with its
  * payload. Returns 0, or an error number, before which the replies may be incomplete: EAGAIN if
  * each attempt was interrupted or lost data, EBADF if standard input, output or error is not open,
- * EMSGSIZE if a datagram exceeds the buffer, EPROTO if the end is invalid, that of a failed call,
- * or that which the kernel sent: ENOENT or EINVAL if it lacks the protocol or the family.
+ * EINVAL if the request has no bytes, EMSGSIZE if a datagram exceeds the buffer, EPROTO if the end
+ * is invalid, that of a failed call, or that which the kernel sent: ENOENT or EINVAL if it lacks
+ * the protocol or the family.
  */
 static inline int dump_replies(uint8_t *request, size_t length,
                                void (*call)(void *context, const uint8_t *payload, size_t length),
@@ -165,6 +166,9 @@ static inline int dump_replies(uint8_t *request, size_t length,
     struct dump dump;
     int attempt, state = EAGAIN;
     size_t offset = 0, size;
+    /* The call that writes the request has failed: the family is invalid, for example. */
+    if (length == 0)
+        return EINVAL;
     memset(&dump, 0, sizeof dump);
     for (attempt = 0; state == EAGAIN && attempt < DUMP_ATTEMPTS; attempt++)
         state = dump_once(&dump, request, length);
