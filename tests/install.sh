@@ -239,7 +239,7 @@ SHARED=no CC=$work/compiler CFLAGS='-g -O1' LDFLAGS='-s -g' "$install" "$work/fl
 # What is older than a source is not installed: the library is built again, which needs rt.
 mkdir -p "$tree/crates/sslist/out" "$tree/crates/sslist/specs"
 cp "$work/commands/bin/sslist" "$tree/crates/sslist/out"
-printf '#!/bin/sh\n[ "$*" = lib ] && touch -d "3 hours" out/libsockdiag_c.a\n' >"$work/commands/rt"
+printf '#!/bin/sh\n[ "$1" = lib ] && touch -d "3 hours" out/libsockdiag_c.a\n' >"$work/commands/rt"
 chmod +x "$work/commands/rt"
 "$install" "$work/current" >"$work/out"
 [ -x "$work/current/bin/sslist" ] || fail "a program that is built: $(cat "$work/out")"
