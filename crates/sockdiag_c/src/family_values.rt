@@ -97,20 +97,20 @@ pub(crate) fn set_record<T: Copy>(found: T, is_set: &mut u32, record: &mut T)
     }
 }
 
-/// Decodes an attribute of a reply about these sockets. If it is not checked and its value is
-/// invalid, returns `AnyNla::Unknown`, and no error.
-#[inline(always)]
-pub(crate) fn read_nla<'a>(
-    sockets: Sockets,
+/// Returns the error of an attribute with an invalid value. If it is not checked, returns
+/// `AnyNla::Unknown`, and no error.
+pub(crate) fn reject<'a>(
     is_checked: bool,
     nla: &NlaBuffer<'a>,
+    error: DecodeError,
 ) -> Result<AnyNla<'a>, DecodeError>
-    ensures { map_ok any_model result ≡ rejected_if is_checked (buffered_attribute nla.now)
-        (read_any sockets (buffered_attribute nla.now)) }
+    ensures { map_ok any_model result
+        ≡ rejected_if is_checked (buffered_attribute nla.now) (Err error) }
 {
-    match AnyNla::read(sockets, nla) {
-        Err(_) if !is_checked => Ok(AnyNla::Unknown(*nla)),
-        read => read,
+    if is_checked {
+        Err(error)
+    } else {
+        Ok(AnyNla::Unknown(*nla))
     }
 }
 

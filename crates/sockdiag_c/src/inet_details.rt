@@ -10,7 +10,7 @@ ghost use Rattle.sockdiag_c.specs.Family.{AreDetailsOf, IsCodeOf, IsFirstError};
 ghost use Rattle.sockdiag_c.specs.InetDetails.{inet_family, legacy_memory_struct};
 
 use crate::details::{Number, ReplyDetails, TEXT, Text, store_details};
-use crate::family_values::{Memory, read_nla, set_record};
+use crate::family_values::{Memory, reject, set_record};
 use crate::headers::{InetHeader, inet_header};
 use netlink_core::{DecodeError, NlaBuffer};
 use netlink_packet_sock_diag::constants::*;
@@ -125,8 +125,10 @@ impl<'a> ReplyDetails<'a> for InetDetails<'a> {
 
     #[inline(always)]
     fn read(nla: &NlaBuffer<'a>) -> Result<AnyNla<'a>, DecodeError> {
-        let is_checked = is_checked(nla.kind());
-        read_nla(Sockets::Inet(InfoFormat::Unknown), is_checked, nla)
+        match AnyNla::read(Sockets::Inet(InfoFormat::Unknown), nla) {
+            Ok(value) => Ok(value),
+            Err(error) => reject(is_checked(nla.kind()), nla, error),
+        }
     }
 
     fn set(&mut self, nla: AnyNla<'a>) {

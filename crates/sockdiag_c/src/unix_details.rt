@@ -6,7 +6,7 @@ ghost use Rattle.sockdiag_c.specs.Family.{AreDetailsOf, IsCodeOf, IsFirstError};
 ghost use Rattle.sockdiag_c.specs.UnixDetails.{unix_family};
 
 use crate::details::{ABSTRACT, Number, ReplyDetails, TEXT, Text, store_details};
-use crate::family_values::{Memory, read_nla, split_header};
+use crate::family_values::{Memory, reject, split_header};
 use crate::headers::UnixHeader;
 use netlink_core::{DecodeError, NlaBuffer};
 use netlink_packet_sock_diag::constants::UNIX_DIAG_SHUTDOWN;
@@ -80,8 +80,11 @@ impl<'a> ReplyDetails<'a> for UnixDetails<'a> {
 
     #[inline(always)]
     fn read(nla: &NlaBuffer<'a>) -> Result<AnyNla<'a>, DecodeError> {
-        // The kinds that a check knows are 0 to 6.
-        read_nla(Sockets::Unix, nla.kind() <= UNIX_DIAG_SHUTDOWN, nla)
+        match AnyNla::read(Sockets::Unix, nla) {
+            Ok(value) => Ok(value),
+            // The kinds that a check knows are 0 to 6.
+            Err(error) => reject(nla.kind() <= UNIX_DIAG_SHUTDOWN, nla, error),
+        }
     }
 
     fn set(&mut self, nla: AnyNla<'a>) {
