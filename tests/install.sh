@@ -203,9 +203,11 @@ grep -q "SOCKDIAG_$next' not found" "$work/out" || fail "an older library: $(cat
 
 # No shared library is made if a symbol is undefined, or a loader would have to write in its code.
 cp -R "$tree" "$work/faulty"
-for fault in 'call nowhere' 'movabs mine, %rax'; do
+sed -i 's/^    sockdiag_version;$/&\n    sockdiag_new;/' "$work/faulty/tools/libsockdiag.map"
+for fault in 'call nowhere' 'movabs sockdiag_new, %rax'; do
     tests/stand_in.sh "$work/faulty/lib/libsockdiag.a"
-    printf '.globl mine\nmine: %s\nret\n' "$fault" | $CC -x assembler -c -o "$work/other.o" -
+    printf '.globl sockdiag_new\nsockdiag_new: %s\nret\n' "$fault" |
+        $CC -x assembler -c -o "$work/other.o" -
     ar r "$work/faulty/lib/libsockdiag.a" "$work/other.o"
     fails 1 "a library with $fault" "$work/faulty/tools/install" "$work/none"
 done
@@ -221,6 +223,16 @@ DESTDIR="$work/staged" LIBDIR=lib64 SHARED=no CC=false "$install" /usr >"$work/o
 [ "$(wc -l <"$work/out")" = 1 ] || fail "a hint for a package"
 DESTDIR="$work/staged" LIBDIR=lib64 "$install" --uninstall /usr >/dev/null
 [ -z "$(find "$work/staged" ! -type d)" ] || fail "--uninstall with DESTDIR"
+
+# What cargo built, next to the built files of a release: sockdump is compiled.
+mkdir "$work/cargo"
+cp "$tree/lib/libsockdiag.a" "$work/cargo/libsockdiag_c.a"
+cp /bin/true "$work/cargo/sslist"
+fails 1 "BUILT without a library" env BUILT="$work/none" "$install" "$work/none"
+BUILT="$work/cargo" "$install" "$work/by_cargo" >"$work/out" || fail "BUILT"
+cmp "$work/by_cargo/bin/sslist" /bin/true || fail "a program of another folder than BUILT"
+"$work/by_cargo/bin/sockdump" --help | grep -q '^usage: sockdump' || fail "sockdump with BUILT"
+[ ! -e "$work/by_cargo/bin/sockdiag" ] || fail "a program that BUILT lacks"
 
 # In the sources, which have no folder bin, sockdump is compiled. Without a compiler it is left out.
 mv "$tree/bin" "$tree/lib" "$work/commands"

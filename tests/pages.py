@@ -81,7 +81,9 @@ NOT_RUN = {
     r"watch |.*sockdump --events": "it does not end",
     r".*sockdump --netns": "it needs root and a namespace",
     r"ldconfig": "it needs root",
-    r"apt install": "it needs root; tests/release.sh installs the packages in another root",
+    r"apt ": "it needs root; tests/release.sh installs the packages in another root",
+    r"dpkg-buildpackage ": "it takes minutes; tests/release.sh runs it",
+    r"BUILT=": "it needs what cargo builds; tests/api/erased.sh runs it",
     r"(modprobe|ip link|tcpdump) ": "it needs root and the kernel module nlmon",
 }
 # The first names of input lines of `sockdiag`.

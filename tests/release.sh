@@ -2,22 +2,23 @@
 # release.sh [--write]: runs tools/pack in copies of this tree, with programs and a library that are
 # made here. Needs no kit, and takes one or two minutes.
 #
-# - tests/release.txt lists the members of each archive and package in order, with modes, owners and
-#   times, and the files that tools/install installs. --write writes a new list.
+# - tests/release.txt lists the members of the archive in order, with modes, owners and times, and
+#   the files that tools/install and the Debian packages install. --write writes a new list.
 # - Two copies at different paths, with other times and modes, are packed to the same bytes, also
-#   with another umask and locale, and variables that gzip, tar and dpkg-deb read. A link at the
-#   path of an archive is replaced. CDPATH has no effect.
-# - The archive for users and the packages have no broken link. The archive's examples in C can be
-#   built, but not with a library of another version. Its package for Rust can be compiled, and so
-#   can a program that depends on it as INSTALL.md says.
-# - lintian reports no error and no warning for the packages, with and without a maintainer.
-# - The packages can be installed into another root and removed from it (skipped without root).
+#   with another umask and locale, and variables that gzip and tar read. A link at the path of the
+#   archive is replaced. CDPATH has no effect.
+# - The archive has no broken link. Its examples in C can be built, but not with a library of
+#   another version. Its package for Rust can be compiled, and so can a program that depends on it
+#   as INSTALL.md says.
+# - dpkg-buildpackage builds the Debian packages of the archive, by a stand-in of cargo. lintian
+#   reports no error and no warning. They can be installed into another root and removed from it
+#   (skipped without root).
 # - tools/pack fails, and leaves no file, if a file or the date of the version is missing, or the
-#   time or the maintainer's address is wrong.
+#   time is wrong.
 # - tools/release packs what a gate left that is made here. It refuses an rt of another logic, an
 #   edit that is not rejected, and a gate that left too little, or whose sources changed.
 #
-# What needs a C compiler, cargo or dpkg is skipped without it.
+# What needs a C compiler, cargo or debhelper is skipped without it.
 set -eu
 top=$(CDPATH='' cd -- "$(dirname -- "$0")/.." && pwd)
 version=$(cat "$top/VERSION")
@@ -48,7 +49,7 @@ printf 'const char text[] = "%s";\nint main(void) { return 0; }\n' "$2" | ${CC:-
 END
 chmod +x bin/make_program
 for program in sockdiag sslist sockdump; do
-    bin/make_program built/$program 'GLIBC_2.4 GLIBC_2.34'
+    bin/make_program built/$program $program
 done
 "$top/tests/stand_in.sh" built/libsockdiag_c.a
 
@@ -56,7 +57,7 @@ done
 for copy in one 'elsewhere/a tree'; do
     mkdir -p "$copy"
     (cd "$top" && tar -c --exclude=target --exclude=Cargo.lock --exclude=__pycache__ crates/*/src \
-        docs examples include man tools CHANGELOG.md INSTALL.md LICENSE-MIT LICENSE-PORTED \
+        debian docs examples include man tools CHANGELOG.md INSTALL.md LICENSE-MIT LICENSE-PORTED \
         LICENSE-UNICODE LICENSES.md README.md SECURITY.md VERSION) |
         tar -x -C "$copy"
     mkdir -p "$copy/tools/erased/target/debug"
@@ -66,8 +67,6 @@ for copy in one 'elsewhere/a tree'; do
 done
 find elsewhere -type d -exec chmod 700 {} +
 find elsewhere -type f -exec touch -d @1 {} + ! -path '*/tools/*' -exec chmod 600 {} +
-
-export DEBFULLNAME='A Packager' DEBEMAIL=packager@debian.example
 
 # pack COPY FOLDER: packs by the time 86400, if SOURCE_DATE_EPOCH is not set.
 pack() {
@@ -85,43 +84,62 @@ mkdir second
 echo unchanged >unchanged
 ln -s "$work/unchanged" "second/$users.tar.gz"
 (umask 077 && export LOCPATH="$work" LC_ALL=en_US.UTF-8 TZ=Asia/Tokyo GZIP=-1 \
-    TAR_OPTIONS=--exclude=docs DPKG_DEB_COMPRESSOR_LEVEL=1 DPKG_DEB_COMPRESSOR_TYPE=none_such &&
-    pack 'elsewhere/a tree' second)
+    TAR_OPTIONS=--exclude=docs && pack 'elsewhere/a tree' second)
 diff -r first second || fail "two trees are not packed to the same bytes"
 [ "$(cat unchanged)" = unchanged ] || fail "the file of a link is changed"
 (cd first && cat ./*.sha256 | sha256sum -c --quiet) || fail "a sum is wrong"
 # The package for Rust takes some seconds to write. From here on it has one file.
 printf '#!/bin/sh\nmkdir "$1" && touch "$1/Cargo.toml"\n' >one/tools/erase
 
-mkdir unpacked staged prefix
+mkdir unpacked staged prefix packages
 tar -xzf "first/$users.tar.gz" -C unpacked
 unpacked=$work/unpacked/$users
 SHARED=no LIBDIR=lib64 DESTDIR=$work/staged "$unpacked/tools/install" /usr >/dev/null
 "$unpacked/tools/install" "$work/prefix" >/dev/null
 
-# members TITLE: prints the mode, the owner, the time and the name of each member of an archive.
-members() {
-    echo "== $1"
-    TZ=UTC tar -tv --numeric-owner --full-time | awk '{ print $1, $2, $4, $5, $6 }'
-}
+# A cargo that builds nothing: it writes the files that are made here.
+mkdir no_cargo
+cat >no_cargo/cargo <<END
+#!/bin/sh
+case "\$* " in
+    'build --release --manifest-path rust/Cargo.toml ') files='sockdiag sslist' ;;
+    'build --release --manifest-path rust/Cargo.toml --package sockdiag_c ')
+        files=libsockdiag_c.a ;;
+    *) exit 2 ;;
+esac
+touch rust/Cargo.lock
+mkdir -p "\$CARGO_TARGET_DIR/release"
+cd "$work/built" && cp \$files "\$CARGO_TARGET_DIR/release"
+END
+chmod +x no_cargo/cargo
+cp "$top/tests/release.txt" expected
+if has dh; then
+    cp -R "$unpacked" packages
+    (cd "packages/$users" && unset SOURCE_DATE_EPOCH && PATH=$work/no_cargo:$PATH \
+        DEB_BUILD_OPTIONS='nocheck noautodbgsym' dpkg-buildpackage -b -d -us -uc) >said 2>&1 ||
+        fail "dpkg-buildpackage: $(cat said)"
+else
+    sed -i '/\.deb$/,$d' expected
+fi
 
 {
-    for archive in first/*.tar.gz; do gzip -dc "$archive" | members "$archive"; done
-    if has dpkg-deb; then
-        for package in first/*.deb; do
-            dpkg-deb --fsys-tarfile "$package" | members "$package"
-            dpkg-deb --ctrl-tarfile "$package" | members "control of $package"
-            dpkg-deb -f "$package" Package Version Architecture Maintainer Section Priority Depends
-        done
-    fi
+    echo "== $users.tar.gz"
+    gzip -dc "first/$users.tar.gz" | TZ=UTC tar -tv --numeric-owner --full-time |
+        awk '{ print $1, $2, $4, $5, $6 }'
     for folder in staged prefix; do
         echo "== tools/install, $folder"
         (cd $folder && find . ! -type d -printf '%M %p %l\n' | sort -k 2)
     done
     cat staged/usr/lib64/pkgconfig/sockdiag.pc
+    # The files of the package for Rust, which the archive has too, are compared below.
+    for package in $(find packages -name '*.deb' | LC_ALL=C sort); do
+        echo "== ${package##*/}"
+        dpkg-deb -c "$package" | awk '!/^d|sockdiag\/rust\/./ { print $1, $6, $8 }' |
+            LC_ALL=C sort -k 2
+    done
 } | sed "s/$version/VERSION/g; s/\.${version%%.*}\.0\( \|$\)/.MAJOR.0\1/; s/ *$//" >list
-if [ "${1-}" = --write ]; then cp list "$top/tests/release.txt"; fi
-diff "$top/tests/release.txt" list || fail "run it with --write if the difference is intended"
+if [ "${1-}" = --write ]; then cp list "$top/tests/release.txt"; cp list expected; fi
+diff expected list || fail "run it with --write if the difference is intended"
 
 python3 "$top/tests/tidy.py" --links "$unpacked" || fail "the archive for users has broken links"
 for page in "$unpacked"/docs/*.md; do
@@ -153,30 +171,32 @@ if has cargo; then
 fi
 cd "$work"
 
-if has dpkg-deb; then
-    for package in first/*.deb; do
-        dpkg-deb -R "$package" tree
-        (cd tree && md5sum -c --quiet DEBIAN/md5sums) || fail "$package: a sum is wrong"
-        [ "$(find tree/usr -type f | wc -l)" -eq "$(wc -l <tree/DEBIAN/md5sums)" ] ||
-            fail "$package: a file has no sum"
-        size=$(find tree/usr -type f -exec du --apparent-size -k {} + |
-            awk '{ sum += $1 } END { print sum }')
-        [ "$(dpkg-deb -f "$package" Installed-Size)" = "$size" ] ||
-            fail "$package: the size in KiB is $size"
-        python3 "$top/tests/tidy.py" --links tree || fail "$package has broken links"
-        rm -r tree
-    done
+debs=$(find packages -name '*.deb')
+if [ -n "$debs" ] && has lintian; then
+    # The shared library that is made here calls no other one.
+    # shellcheck disable=SC2086
+    lintian --allow-root --suppress-tags shared-library-lacks-prerequisites \
+        --fail-on error,warning $debs >said || fail "lintian: $(cat said)"
 fi
-if [ "$(id -u)" -eq 0 ] && has dpkg; then
+if [ -n "$debs" ] && [ "$(id -u)" -eq 0 ]; then
     mkdir -p root/var/lib/dpkg/info root/var/lib/dpkg/updates
     touch root/var/lib/dpkg/available root/var/lib/dpkg/status
-    # A container's configuration may leave out documentation, and log outside of the root.
-    for action in "--install $(echo first/*.deb)" --verify '--purge sockdiag libsockdiag-dev'; do
-        # shellcheck disable=SC2086
-        dpkg --root=root --log=log --force-depends '--path-include=*' $action >said 2>&1 ||
-            fail "dpkg $action: $(cat said)"
-        [ "$action" != --verify ] || [ ! -s said ] || fail "dpkg --verify: $(cat said)"
-    done
+    # dpkg ACTION..: with the options of a root without other packages. A container's configuration
+    # may leave out documentation, and log outside of the root.
+    in_root() {
+        dpkg --root=root --log=log --force-depends '--path-include=*' "$@" >said 2>&1 ||
+            fail "dpkg $*: $(cat said)"
+    }
+    # shellcheck disable=SC2086
+    in_root --install $debs
+    in_root --verify
+    [ ! -s said ] || fail "dpkg --verify: $(cat said)"
+    diff -r -x Cargo.lock "$unpacked/rust" root/usr/share/sockdiag/rust ||
+        fail "the package for Rust differs"
+    [ "$(root/usr/bin/sockdump --version)" = "sockdump $version" ] || fail "sockdump of a package"
+    ${CC:-cc} -Iroot/usr/include -o linked root/usr/share/doc/libsockdiag-dev/examples/list_rtt.c \
+        root/usr/lib/*/libsockdiag.so
+    in_root --purge sockdiag libsockdiag1.0 libsockdiag-dev
     [ -z "$(find root -type f ! -path '*/var/*')" ] || fail "dpkg --purge leaves files"
 fi
 
@@ -189,14 +209,6 @@ for case in "dated $day" 'future 2106-02-08'; do
     TZ=UTC tar -tvzf "$folder/$users.tar.gz" --full-time | grep -v " ${case#* } " >wrong || continue
     fail "$folder: $(head -n 1 wrong)"
 done
-(unset DEBFULLNAME DEBEMAIL && SOURCE_DATE_EPOCH='' pack one nameless) 2>said
-if has dpkg-deb && has lintian; then
-    grep -q '^tools/pack: set DEBEMAIL' said || fail "without DEBEMAIL: $(cat said)"
-    for folder in dated nameless; do
-        lintian --allow-root --fail-on error,warning $folder/*.deb >said ||
-            fail "lintian, $folder: $(cat said)"
-    done
-fi
 
 # What the gate leaves, and an rt, which only has to print its version.
 printf '#!/bin/sh\necho "rattle-kit-1 logic $KIT_LOGIC"\n' >bin/rt
@@ -271,8 +283,6 @@ packs_nothing() {
     [ ! -d nothing ] || [ -z "$(ls -A nothing)" ] || fail "it leaves files: $1"
 }
 SOURCE_DATE_EPOCH=x packs_nothing 'with a wrong time' 2
-! has dpkg-deb || DEBEMAIL='a
-b' packs_nothing 'with a wrong address' 2
 printf '#!/bin/sh\nexit 1\n' >one/tools/erase
 packs_nothing 'without the package for Rust' 1
 printf '#!/bin/sh\nmkdir "$1"\n' >one/tools/erase

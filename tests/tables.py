@@ -235,12 +235,11 @@ def line_errors():
 
 
 def file_errors():
-    """Compares the files of a release, and those that are installed, with tests/release.txt."""
+    """Compares the installed files, and the Debian packages, with tests/release.txt."""
     listed = (TOP / "tests/release.txt").read_text(encoding="utf-8")
-    archives = re.findall(r"(?m)^== first/(\S+)$", listed)
     page = "INSTALL.md"
-    table = rows((TOP / page).read_text(encoding="utf-8"), "file ")[2:]
-    yield from differences(page, [spans(row[0])[0] for row in table], archives)
+    packages = re.findall(r"(?m)^== (\S+)_VERSION_\w+\.deb$", listed)
+    yield from differences(page, first_column(page, "Debian packages"), packages)
     installed = listed.partition("== tools/install, prefix\n")[2]
     paths = first_column(page, "Install the C library and the programs")
     for path in paths:

@@ -2,8 +2,7 @@
 """Checks the text of the repository. Prints what is wrong; the exit status is 1 if anything is.
 
     tests/tidy.py                  all checks
-    tests/tidy.py --links FOLDER   only the links of the pages in FOLDER, an unpacked release or
-                                   package. Of a package no path in code marks is checked
+    tests/tidy.py --links FOLDER   only the links of the pages in FOLDER, an unpacked release
 """
 
 import re
@@ -27,15 +26,18 @@ PATH = re.compile(r"`((?:bench|crates|docs|examples|include|tests|tools)/[\w./]+
 PLACEHOLDER = re.compile(r"NAME|CRATE|try_it")
 # A change to the folder of a file by which CDPATH could lead into another folder.
 BY_CDPATH = re.compile(r"""(?<!CDPATH='' )\bcd (?:-- )?"\$\(dirname""")
-# The date of a version in CHANGELOG.md, and that of a manual page, as it is written there.
+# The date of a version in CHANGELOG.md, and those of a manual page and of debian/changelog, as they
+# are written there.
 RELEASED = r"(?m)^## \[{}\] - (\d{{4}}-\d\d-\d\d)$"
 MANUAL_DATE = ".Dd %B %-d, %Y"
+DEBIAN_DATE = "%a, %d %b %Y 00:00:00 +0000"
 # The line with the version in each file; the first match counts. CHANGELOG.md may begin with a
 # heading [Unreleased], for the changes since that version.
 VERSIONS = {
     "CHANGELOG.md": r"(?m)^## (?!\[Unreleased\])\[?([^\]\s]+)",
     "crates/sslist_lister/src/lib.rt": r'(?m)^pub const VERSION: &str = "([^"]*)";$',
     "crates/sock_diag_lines/src/lib.rt": r'(?m)^pub const VERSION: &str = "([^"]*)";$',
+    "debian/changelog": r"^sockdiag \(([^)]*)\)",
     "examples/sockdump.c": r'(?m)^#define VERSION "([^"]*)"$',
     "include/sockdiag.h": r'(?m)^#define SOCKDIAG_VERSION "([^"]*)"$',
     "tools/erased/Cargo.toml": r'(?m)^version = "([^"]*)"$',
@@ -115,7 +117,7 @@ def broken_links(top, files):
         for link in LINK.findall(text):
             if is_broken(page, link):
                 yield f"{name}: {link} does not exist"
-        for path in PATH.findall(text) if (top / "INSTALL.md").exists() else []:
+        for path in PATH.findall(text):
             folders = [top, page.parent] + [TOP] * (name in ABOUT_SOURCES)
             exists = any((folder / path).exists() for folder in folders)
             if not exists and not PLACEHOLDER.search(path):
@@ -132,17 +134,31 @@ def wrong_versions(files):
 
 
 def wrong_dates(files):
-    """Yields the manual pages that have another date than the version has in CHANGELOG.md."""
+    """Yields the manual pages, and debian/changelog, if they have another date than the version has
+    in CHANGELOG.md."""
     version = (TOP / "VERSION").read_text(encoding="utf-8").strip()
     found = re.search(RELEASED.format(re.escape(version)), files["CHANGELOG.md"])
     if not found:
         yield f"CHANGELOG.md: no date of {version}"
         return
-    expected = date.fromisoformat(found[1]).strftime(MANUAL_DATE)
+    day = date.fromisoformat(found[1])
+    last = re.search(r"(?m)^ -- .*>  (.*)$", files["debian/changelog"])
+    if not last or last[1] != day.strftime(DEBIAN_DATE):
+        yield f"debian/changelog: the date {last and last[1]}, expected {day}"
+    expected = day.strftime(MANUAL_DATE)
     for page in sorted((TOP / "man").iterdir()):
         line = page.read_text("utf-8").partition("\n")[0]
         if line != expected:
             yield f"man/{page.name}: {line}, expected {expected}"
+
+
+def wrong_licences(files):
+    """Yields the licences whose text, from the permission on, is not in debian/copyright."""
+    copied = " ".join(re.sub(r"(?m)^ \.$", "", files["debian/copyright"]).split())
+    for path in sorted(TOP.glob("LICENSE-*")):
+        text = path.read_text("utf-8")
+        if " ".join(text[text.index("Permission") :].split()) not in copied:
+            yield f"debian/copyright: not the text of {path.name}"
 
 
 def edited_files(crate, edit, files):
@@ -182,7 +198,7 @@ def text_files():
         cwd=TOP, stdout=subprocess.PIPE, text=True, check=True,
     ).stdout.splitlines()
     suffixes = CODE | {".md", ".edit", ".rs", ".toml", ".in"}
-    scripts = (".ci/", "tools/", "examples/")
+    scripts = (".ci/", "debian/", "tools/", "examples/")
     others = {"sockdiag", "sslist", "crates.txt"}
     names = [
         name for name in sorted(listed)
@@ -201,7 +217,7 @@ def main():
         files = text_files()
         wrong = [*repeated_code(files), *wide_lines(files), *misled_scripts(files),
                  *broken_links(TOP, files), *wrong_versions(files), *wrong_dates(files),
-                 *unusable_edits(files)]
+                 *wrong_licences(files), *unusable_edits(files)]
     print(*wrong, f"tests/tidy.py: {len(wrong)} errors", sep="\n")
     return 1 if wrong else 0
 

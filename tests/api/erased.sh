@@ -1,10 +1,10 @@
 #!/bin/sh
 # Tests the plain Rust that tools/erase makes of the sources: builds it by cargo, without a heap and
-# with one, runs its tests and those of its two programs, has it answer the stored lines of the
-# program sockdiag, and has c_api.sh test its C library. Then compares its programs and its C
-# library with the proved ones, if these are built: the answers to many lines, the lists of many
-# captures, and each function of the library with 20,000 inputs. Needs cargo and a C compiler, and
-# no kit. The gate runs this script.
+# with one, has tools/install install what cargo built, runs its tests and those of both programs,
+# has it answer the stored lines of the program sockdiag, and has c_api.sh test its C library. Then
+# compares its programs and its C library with the proved ones, if these are built: the answers to
+# many lines, the lists of many captures, and each function of the library with 20,000 inputs. Needs
+# cargo and a C compiler, and no kit. The gate runs this script.
 set -eu
 top=$(CDPATH='' cd -- "$(dirname -- "$0")/../.." && pwd)
 work=$(mktemp -d)
@@ -21,6 +21,7 @@ unset CARGO_TARGET_DIR
 quiet cargo build --release --offline
 quiet cargo build --release --offline --package sockdiag_c
 built=$work/erased/target/release
+quiet env BUILT="$built" "$top/tools/install" "$work/prefix"
 quiet cargo test --offline --no-default-features
 quiet cargo test --offline --features c
 sed -n 's/^test result: ok. \([0-9]* passed\).*/erased: \1/p' "$work/log" | sed -n 1p
