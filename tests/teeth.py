@@ -341,7 +341,8 @@ ROWS = [
     Row(f"{MEMORY} $STAND_INS/program $STAND_INS/program $STAND_INS/program",
         ("planted: valgrind without --leak-check=full",),
         ((MEMORY, "valgrind -q --leak-check=full", "valgrind -q"),), ""),
-    Row("tests/api/library.sh --of-gate", ("planted: rt lib", "library.sh: failed"), (), "rt lib *"),
+    Row("tests/api/library.sh --of-gate", ("planted: rt lib", "library.sh: failed"), (),
+        "rt lib *"),
     *(Row(C_API, (f"planted: {it.removesuffix(' *')}",), (LIBRARY, COMPARED, *LATER), it)
       for it in ("c_api", "c_values", "c_messages", "cost *", "fuzz_c 20000 *", "diff *",
                  "install *", "make *", "kernels.py *", "sockdump.py *", "print_replies")),
