@@ -137,6 +137,10 @@ def try_edits_of_crate(names, files):
         for part in PARTS:
             if (TOP / "crates" / crate / part).is_dir():
                 shutil.copytree(TOP / "crates" / crate / part, Path(copy) / part)
+        # What a check of the crate proved need not be proved again. The gate has none of it.
+        proved = TOP / "crates" / crate / "out/incremental"
+        if proved.is_dir():
+            shutil.copytree(proved, Path(copy) / "proved")
         return [try_edit(name, files, Path(copy)) for name in names]
 
 
