@@ -34,7 +34,7 @@ LIBRARY_PAGE = (TOP / "man/sockdiag.3").read_text(encoding="utf-8")
 # The length of the header of a reply about a socket of each family.
 HEADERS = {1: 16, 2: 72, 10: 72, 16: 28, 17: 16, 40: 32, 44: 16}
 # The lengths of values of attributes: each kind is decoded with one of them.
-LENGTHS = (1, 2, 4, 5, 8, 12, 16, 20, 24, 28, 32, 36, 40, 400)
+LENGTHS = (1, 2, 4, 5, 8, 12, 16, 20, 24, 28, 32, 36, 40, 44, 128, 400)
 KINDS = range(40)
 # The kit's crates that those of the lines `# kit:` in crates.txt need.
 BELOW = """core io libc os std std_alloc std_collections std_heap std_io ucd_derived
@@ -149,8 +149,10 @@ def printed_members(sslist):
         family = socket["family"]
         members.setdefault(family, {}).update(socket)
         for name, value in socket.items():
-            if isinstance(value, dict) and name != "meminfo":
-                inner.setdefault(family, {}).update(value)
+            records = value if isinstance(value, list) else [value]
+            for record in records if name not in ("meminfo", "other_attributes") else []:
+                if isinstance(record, dict):
+                    inner.setdefault(family, {}).update(record)
         if family == 2:
             info = max(info, list(socket.get("info", {})), key=len)
     return members, inner, info
