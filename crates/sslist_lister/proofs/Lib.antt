@@ -7,6 +7,7 @@ pub mod Failing
 pub mod Adding
 pub mod Slots
 pub mod FactItems
+pub mod HeaderLines
 pub mod Rows
 pub mod CellWidths
 pub mod RecordLists

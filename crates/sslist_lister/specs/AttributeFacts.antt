@@ -1,11 +1,11 @@
 -- Facts of the attributes of a reply. Names in JSON are the kernel's names in lowercase, without
--- the prefix that all names of a struct or an enum have. `a` is an attribute. What it says is an
--- `Outcome`: its facts, or nothing (None) if its type is unknown, or the error of its value. `utf8`
--- is the option `--utf8`.
+-- the prefix that all names of a struct or an enum have. `utf8` is
+-- the option `--utf8`.
 use Rattle.std.specs.Prelude.{ℕ, ◌==◌, List, [], ◌∷◌, codes}
-use Rattle.std.specs.Prelude.{Bool, false, None, Some, Ok, Option}
+use Rattle.std.specs.Prelude.{Bool, false, true, None, Some, Ok, Option, Result}
 use Rattle.std.specs.Option.{option_map_or}
-use Rattle.netlink_core.specs.Attribute.{Attribute}
+use Rattle.netlink_core.specs.Errors.{map_ok}
+use Rattle.netlink_core.specs.declared.error.DecodeError.{DecodeError}
 use Rattle.sock_diag_values.specs.declared.inet.legacy_mem_info.LegacyMemInfo.{LegacyMemInfo}
 use Rattle.sock_diag_values.specs.declared.inet.mem_info.MemInfo.{MemInfo}
 use Rattle.sock_diag_records.specs.declared.constants.TheConstants.{INET_DIAG_SKMEMINFO}
@@ -14,25 +14,25 @@ use Rattle.sock_diag_families.specs.declared.netlink.TheConstants.{NETLINK_DIAG_
 use Rattle.sock_diag_families.specs.declared.packet.TheConstants.{PACKET_DIAG_MEMINFO}
 use Rattle.sock_diag_families.specs.declared.xdp.TheConstants.{XDP_DIAG_MEMINFO}
 use Rattle.sock_diag_extras.specs.AnyNla as any
-use Rattle.sock_diag_extras.specs.AnyNla.{AnyValue, and_then, read_any}
+use Rattle.sock_diag_extras.specs.AnyNla.{AnyValue}
 use Rattle.sock_diag_extras.specs.declared.any.nla.Sockets.{Sockets}
 use Rattle.sock_diag_extras.specs.declared.any.nla.Sockets.TheVariants.{Inet, Netlink, Packet}
 use Rattle.sock_diag_extras.specs.declared.any.nla.Sockets.TheVariants.{Unix, Vsock, Xdp}
 use Rattle.sock_diag_extras.specs.declared.congestion.BbrInfo.{BbrInfo}
 use Rattle.sock_diag_extras.specs.declared.congestion.DctcpInfo.{DctcpInfo}
 use Rattle.sock_diag_extras.specs.declared.congestion.VegasInfo.{VegasInfo}
-use Rattle.sslist_lister.specs.Facts.{Facts, Outcome, flag_facts, flag_number, group}
+use Rattle.sslist_lister.specs.Facts.{Facts, flag_facts, flag_number, group, no_facts}
 use Rattle.sslist_lister.specs.Facts.{hidden_number, json_group, list_facts, name_facts}
 use Rattle.sslist_lister.specs.Facts.{number_facts, numbers, shown_number, text_facts}
 use Rattle.sslist_lister.specs.FamilyFacts.{fanout_facts, groups_facts, netlink_flags_facts}
 use Rattle.sslist_lister.specs.FamilyFacts.{packet_facts, packet_ring_facts, umem_facts}
 use Rattle.sslist_lister.specs.FamilyFacts.{xdp_facts, xdp_ring_facts, xdp_statistics_facts}
-use Rattle.sslist_lister.specs.FilterProgram.{filter_outcome}
+use Rattle.sslist_lister.specs.FilterProgram.{filter_facts}
 use Rattle.sslist_lister.specs.Md5Keys.{md5_facts}
-use Rattle.sslist_lister.specs.Memberships.{memberships_outcome}
+use Rattle.sslist_lister.specs.Memberships.{memberships_facts}
 use Rattle.sslist_lister.specs.SctpAddresses.{addresses_facts}
 use Rattle.sslist_lister.specs.Tcp.{mptcp_info, tcp_info}
-use Rattle.sslist_lister.specs.UlpInfo.{ulp_outcome}
+use Rattle.sslist_lister.specs.UlpInfo.{ulp_facts, ulp_name}
 use Rattle.sslist_lister.specs.declared.facts.Shown.TheVariants.{Always, Closed, Directions}
 use Rattle.sslist_lister.specs.declared.facts.Shown.TheVariants.{Hex, Never}
 
@@ -165,81 +165,75 @@ bbr_facts v =
 
 -- ---- attributes of all kinds
 
--- `with_facts facts`: an attribute has these facts
-abbrev pub with_facts : Facts → Outcome
-with_facts facts = Ok (Some facts)
+-- `any_facts utf8 sockets value`: the facts of an attribute of a reply about these sockets, which
+-- says `value`; no facts if its kind is unknown. Only JSON has the name of a UNIX socket, its peer
+-- and its queues here (Never), since the table has columns for them. `icons` are the inodes of
+-- connections that wait to be accepted.
+abbrev pub any_facts : Bool → Sockets → AnyValue → Facts
+any_facts utf8 sockets (any.name n) = name_facts n
+any_facts utf8 sockets (any.vfs file) = vfs_facts file.inode file.device
+any_facts utf8 sockets (any.peer inode) = number_facts Never [] (Some (codes "peer")) inode
+any_facts utf8 sockets (any.pending_connections inodes) =
+    list_facts (codes " pending:") (codes " pending:") (codes "icons") inodes
+any_facts utf8 sockets (any.queue_lengths receive send) = queue_facts receive send
+any_facts utf8 sockets (any.memory m) = memory_facts (memory_member sockets) m
+any_facts utf8 sockets (any.shutdown directions) = shutdown_facts directions
+any_facts utf8 sockets (any.owner user) = owner_facts sockets user
+any_facts utf8 sockets (any.legacy_memory m) = legacy_memory_facts m
+any_facts utf8 sockets (any.tcp_info bytes) = tcp_info bytes
+any_facts utf8 sockets (any.mptcp_info bytes) = mptcp_info bytes
+any_facts utf8 sockets (any.congestion name) = text_facts utf8 (codes " cong:") (codes "cong") name
+any_facts utf8 sockets (any.tos n) = number_facts Hex (codes " tos:0x") (Some (codes "tos")) n
+any_facts utf8 sockets (any.traffic_class n) =
+    number_facts Hex (codes " tclass:0x") (Some (codes "tclass")) n
+any_facts utf8 sockets (any.protocol n) =
+    number_facts Always (codes " protocol:") (Some (codes "protocol")) n
+any_facts utf8 sockets (any.mark n) = number_facts Hex (codes " fwmark:0x") (Some (codes "mark")) n
+any_facts utf8 sockets (any.class_id n) =
+    number_facts Hex (codes " class_id:0x") (Some (codes "class_id")) n
+any_facts utf8 sockets (any.v6_only flag) =
+    flag_facts Always (codes " v6only:") (codes "skv6only") flag
+any_facts utf8 sockets (any.vegas v) = vegas_facts v
+any_facts utf8 sockets (any.dctcp v) = dctcp_facts v
+any_facts utf8 sockets (any.bbr v) = bbr_facts v
+any_facts utf8 sockets (any.local_addresses records) =
+    addresses_facts (codes " locals:") (codes "locals") records
+any_facts utf8 sockets (any.peer_addresses records) =
+    addresses_facts (codes " peers:") (codes "peers") records
+any_facts utf8 sockets (any.md5_signatures records) = md5_facts records
+any_facts utf8 sockets (any.ulp bytes) = ulp_facts bytes
+any_facts utf8 sockets (any.bpf_storages bytes) = no_facts
+any_facts utf8 sockets (any.cgroup_id n) =
+    number_facts Always (codes " cgroup:") (Some (codes "cgroup_id")) n
+any_facts utf8 sockets (any.options of_socket) = option_bits of_socket.bits
+any_facts utf8 sockets (any.groups mask) = groups_facts mask
+any_facts utf8 sockets (any.netlink_flags bits) = netlink_flags_facts bits
+any_facts utf8 sockets (any.packet_info p) = packet_facts p
+any_facts utf8 sockets (any.memberships records) = memberships_facts records
+any_facts utf8 sockets (any.receive_frames ring) =
+    packet_ring_facts (codes " ring_rx(") (codes "rx_ring") ring
+any_facts utf8 sockets (any.send_frames ring) =
+    packet_ring_facts (codes " ring_tx(") (codes "tx_ring") ring
+any_facts utf8 sockets (any.fanout n) = fanout_facts n
+any_facts utf8 sockets (any.filter instructions) = filter_facts instructions
+any_facts utf8 sockets (any.xdp_info x) = xdp_facts x
+any_facts utf8 sockets (any.receive_ring entries) =
+    xdp_ring_facts (codes " rx(") (codes "rx_ring") entries
+any_facts utf8 sockets (any.send_ring entries) =
+    xdp_ring_facts (codes " tx(") (codes "tx_ring") entries
+any_facts utf8 sockets (any.fill_ring entries) =
+    xdp_ring_facts (codes " fr(") (codes "umem_fill_ring") entries
+any_facts utf8 sockets (any.completion_ring entries) =
+    xdp_ring_facts (codes " cr(") (codes "umem_completion_ring") entries
+any_facts utf8 sockets (any.umem m) = umem_facts m
+any_facts utf8 sockets (any.statistics counters) = xdp_statistics_facts counters
+any_facts utf8 sockets (any.unknown a) = no_facts
 
--- `any_outcome utf8 sockets value`: what an attribute of a reply about these sockets says, whose
--- value is read as `value`. Only JSON has the name of a UNIX socket, its peer and its queues here
--- (Never), since the table has columns for them. `icons` are the inodes of connections that wait to
--- be accepted. A `struct tcp_info` may have any length. The upper layer protocol may have no valid
--- name. The filter of a packet socket may not consist of instructions, and its memberships not of
--- records.
-abbrev pub any_outcome : Bool → Sockets → AnyValue → Outcome
-any_outcome utf8 sockets (any.name n) = with_facts (name_facts n)
-any_outcome utf8 sockets (any.vfs file) = with_facts (vfs_facts file.inode file.device)
-any_outcome utf8 sockets (any.peer inode) =
-    with_facts (number_facts Never [] (Some (codes "peer")) inode)
-any_outcome utf8 sockets (any.pending_connections inodes) =
-    with_facts (list_facts (codes " pending:") (codes " pending:") (codes "icons") inodes)
-any_outcome utf8 sockets (any.queue_lengths receive send) = with_facts (queue_facts receive send)
-any_outcome utf8 sockets (any.memory m) = with_facts (memory_facts (memory_member sockets) m)
-any_outcome utf8 sockets (any.shutdown directions) = with_facts (shutdown_facts directions)
-any_outcome utf8 sockets (any.owner user) = with_facts (owner_facts sockets user)
-any_outcome utf8 sockets (any.legacy_memory m) = with_facts (legacy_memory_facts m)
-any_outcome utf8 sockets (any.tcp_info bytes) = with_facts (tcp_info bytes)
-any_outcome utf8 sockets (any.mptcp_info bytes) = with_facts (mptcp_info bytes)
-any_outcome utf8 sockets (any.congestion name) =
-    with_facts (text_facts utf8 (codes " cong:") (codes "cong") name)
-any_outcome utf8 sockets (any.tos n) =
-    with_facts (number_facts Hex (codes " tos:0x") (Some (codes "tos")) n)
-any_outcome utf8 sockets (any.traffic_class n) =
-    with_facts (number_facts Hex (codes " tclass:0x") (Some (codes "tclass")) n)
-any_outcome utf8 sockets (any.protocol n) =
-    with_facts (number_facts Always (codes " protocol:") (Some (codes "protocol")) n)
-any_outcome utf8 sockets (any.mark n) =
-    with_facts (number_facts Hex (codes " fwmark:0x") (Some (codes "mark")) n)
-any_outcome utf8 sockets (any.class_id n) =
-    with_facts (number_facts Hex (codes " class_id:0x") (Some (codes "class_id")) n)
-any_outcome utf8 sockets (any.v6_only flag) =
-    with_facts (flag_facts Always (codes " v6only:") (codes "skv6only") flag)
-any_outcome utf8 sockets (any.vegas v) = with_facts (vegas_facts v)
-any_outcome utf8 sockets (any.dctcp v) = with_facts (dctcp_facts v)
-any_outcome utf8 sockets (any.bbr v) = with_facts (bbr_facts v)
-any_outcome utf8 sockets (any.local_addresses records) =
-    with_facts (addresses_facts (codes " locals:") (codes "locals") records)
-any_outcome utf8 sockets (any.peer_addresses records) =
-    with_facts (addresses_facts (codes " peers:") (codes "peers") records)
-any_outcome utf8 sockets (any.md5_signatures records) = with_facts (md5_facts records)
-any_outcome utf8 sockets (any.ulp bytes) = ulp_outcome bytes
-any_outcome utf8 sockets (any.bpf_storages bytes) = Ok None
-any_outcome utf8 sockets (any.cgroup_id n) =
-    with_facts (number_facts Always (codes " cgroup:") (Some (codes "cgroup_id")) n)
-any_outcome utf8 sockets (any.options of_socket) = with_facts (option_bits of_socket.bits)
-any_outcome utf8 sockets (any.groups mask) = with_facts (groups_facts mask)
-any_outcome utf8 sockets (any.netlink_flags bits) = with_facts (netlink_flags_facts bits)
-any_outcome utf8 sockets (any.packet_info p) = with_facts (packet_facts p)
-any_outcome utf8 sockets (any.memberships records) = memberships_outcome records
-any_outcome utf8 sockets (any.receive_frames ring) =
-    with_facts (packet_ring_facts (codes " ring_rx(") (codes "rx_ring") ring)
-any_outcome utf8 sockets (any.send_frames ring) =
-    with_facts (packet_ring_facts (codes " ring_tx(") (codes "tx_ring") ring)
-any_outcome utf8 sockets (any.fanout n) = with_facts (fanout_facts n)
-any_outcome utf8 sockets (any.filter instructions) = filter_outcome instructions
-any_outcome utf8 sockets (any.xdp_info x) = with_facts (xdp_facts x)
-any_outcome utf8 sockets (any.receive_ring entries) =
-    with_facts (xdp_ring_facts (codes " rx(") (codes "rx_ring") entries)
-any_outcome utf8 sockets (any.send_ring entries) =
-    with_facts (xdp_ring_facts (codes " tx(") (codes "tx_ring") entries)
-any_outcome utf8 sockets (any.fill_ring entries) =
-    with_facts (xdp_ring_facts (codes " fr(") (codes "umem_fill_ring") entries)
-any_outcome utf8 sockets (any.completion_ring entries) =
-    with_facts (xdp_ring_facts (codes " cr(") (codes "umem_completion_ring") entries)
-any_outcome utf8 sockets (any.umem m) = with_facts (umem_facts m)
-any_outcome utf8 sockets (any.statistics counters) = with_facts (xdp_statistics_facts counters)
-any_outcome utf8 sockets (any.unknown a) = Ok None
-
--- `attribute_outcome utf8 sockets a`: what an attribute of a reply about these sockets says: that
--- of its value as it is read, or the error of reading it
-abbrev pub attribute_outcome : Bool → Sockets → Attribute → Outcome
-attribute_outcome utf8 sockets a = and_then (read_any sockets a) (any_outcome utf8 sockets)
+-- the status of an attribute that says this (`Status` of `src/facts.rt`): true if it has facts,
+-- false if its kind is unknown, or the error of its value. An upper layer protocol needs a valid
+-- name.
+abbrev pub value_status : AnyValue → Result Bool DecodeError
+value_status (any.ulp bytes) = map_ok (λ name. true) (ulp_name bytes)
+value_status (any.bpf_storages bytes) = Ok false
+value_status (any.unknown a) = Ok false
+value_status other = Ok true

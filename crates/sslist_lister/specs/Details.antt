@@ -1,12 +1,10 @@
 -- Details of a socket: a text for each value that the columns do not show. Texts are lists of ASCII
 -- codes: 44 is a comma and 41 a closing parenthesis.
 use Rattle.std.specs.Prelude.{ℕ, ◌==◌, ◌||◌, if◌then◌else◌, List, [], ◌∷◌, ◌++◌, codes, decimal}
-use Rattle.std.specs.Prelude.{Bool, true, false, length, drop, flat_map, slice_index, Result, Ok}
+use Rattle.std.specs.Prelude.{Bool, true, false, length, flat_map, Result, Ok}
 use Rattle.std.specs.Prelude.{Err, None, Option, Some}
-use Rattle.byteorder.specs.Endian.{little_number}
 use Rattle.sslist_lister.specs.texts.Parts.{cookie_if_shown, pair_detail, timer_if_shown}
 use Rattle.sslist_lister.specs.command_line.Options.{shows_detail}
-use Rattle.sslist_lister.specs.declared.texts.parts.TimerFields.{TimerFields}
 use Rattle.sslist_lister.specs.declared.command_line.options.Detail.{Detail}
 use Rattle.sslist_lister.specs.declared.command_line.options.Detail.TheVariants.{Extended, Memory}
 use Rattle.sslist_lister.specs.declared.command_line.options.Detail.TheVariants.{Connection}
@@ -28,9 +26,10 @@ use Rattle.sock_diag_records.specs.declared.constants.TheConstants.{INET_DIAG_ME
 use Rattle.sock_diag_records.specs.declared.constants.TheConstants.{INET_DIAG_PEERS}
 use Rattle.sock_diag_records.specs.declared.constants.TheConstants.{INET_DIAG_SKMEMINFO}
 use Rattle.sock_diag_records.specs.declared.constants.TheConstants.{INET_DIAG_VEGASINFO}
-use Rattle.sslist_lister.specs.AttributeFacts.{attribute_outcome, is_memory_kind}
+use Rattle.sslist_lister.specs.AttributeFacts.{any_facts, is_memory_kind}
 use Rattle.sslist_lister.specs.Collected.{Summary}
-use Rattle.sslist_lister.specs.Facts.{facts_in}
+use Rattle.sock_diag_extras.specs.AnyNla.{AnyValue}
+use Rattle.sock_diag_extras.specs.declared.any.header.RawTimer.{RawTimer}
 use Rattle.sock_diag_extras.specs.declared.any.nla.Sockets.{Sockets}
 use Rattle.sock_diag_extras.specs.declared.any.nla.Sockets.TheVariants.{Inet}
 
@@ -61,8 +60,8 @@ unknown_attribute_text a = pair_detail (codes "unknown") (attribute_kind a) (len
 
 -- ---- attributes
 
--- `status_text a status`: the text of an unknown or invalid attribute, by its status (`status_of`
--- of `Facts`); nothing for a valid one, of which the facts are shown
+-- `status_text a status`: the text of an unknown or invalid attribute, by its status
+-- (`value_status`); nothing for a valid one, of which the facts are shown
 abbrev pub status_text : Attribute → Result Bool DecodeError → List ℕ
 status_text a (Ok true) = []
 status_text a (Ok false) = unknown_attribute_text a
@@ -79,14 +78,14 @@ detail_group (Inet format) kind =
     then Connection else Extended
 detail_group other kind = if is_memory_kind other kind then Memory else Extended
 
--- `valid_detail o sockets first`: the text of the facts of the attribute `first`, the first valid
--- one of its kind. Nothing if there is none (None), or if the options do not select its group of
--- details.
-abbrev pub valid_detail : Options → Sockets → Option Attribute → List ℕ
+-- `valid_detail o sockets first`: the text of the facts of the first valid attribute of a kind:
+-- `first` is the kind (`.0`) and what it says (`.1`). Nothing if there is none (None), or if the
+-- options do not select its group of details.
+abbrev pub valid_detail : Options → Sockets → Option (ℕ × AnyValue) → List ℕ
 valid_detail o sockets None = []
-valid_detail o sockets (Some a) =
-    if shows_detail o (detail_group sockets (attribute_kind a))
-    then (facts_in (attribute_outcome o.utf8 sockets a)).text else []
+valid_detail o sockets (Some valid) =
+    if shows_detail o (detail_group sockets valid.0)
+    then (any_facts o.utf8 sockets valid.1).text else []
 
 -- `other_detail o sockets other`: the text of an unknown or invalid attribute (`other.0`) with its
 -- status (`other.1`). Nothing if the options do not select its group of details.
@@ -95,19 +94,10 @@ other_detail o sockets other =
     if shows_detail o (detail_group sockets (attribute_kind other.0))
     then status_text other.0 other.1 else []
 
--- `timer_in b`: the timer fields of a reply about an IPv4 or IPv6 socket, whose payload is `b`:
--- `idiag_timer` at 2, `idiag_retrans` at 3 and `idiag_expires` at 52, in milliseconds
-abbrev pub timer_in : List ℕ → TimerFields
-timer_in b = record {
-  class = slice_index b 2;
-  retransmits = slice_index b 3;
-  expires = little_number 4 (drop 52 b);
-}
-
 -- `details o timer cookie s`: the details of a socket, as far as the options select them. They are
 -- the timer, the cookie (eight bytes), the facts of the first valid attribute of each kind in the
 -- order of the kinds, and the unknown and the invalid attributes in the order of the bytes.
-abbrev pub details : Options → TimerFields → List ℕ → Summary → List ℕ
+abbrev pub details : Options → RawTimer → List ℕ → Summary → List ℕ
 details o timer cookie s =
     timer_if_shown o timer ++ cookie_if_shown o cookie
     ++ (flat_map (valid_detail o s.sockets) s.first ++ flat_map (other_detail o s.sockets) s.others)

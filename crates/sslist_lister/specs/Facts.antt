@@ -7,8 +7,6 @@ use Rattle.std.specs.Prelude.{unwrap_or}
 use Rattle.std.specs.Borrow.{Bor}
 use Rattle.std.specs.Fmt.{digits}
 use Rattle.std.specs.Option.{option_map_or}
-use Rattle.netlink_core.specs.Errors.{map_ok}
-use Rattle.netlink_core.specs.declared.error.DecodeError.{DecodeError}
 use Rattle.sock_diag_attributes.specs.declared.unix.name.SocketName.{SocketName}
 use Rattle.sslist_lister.specs.texts.Escapes.{shown_name}
 use Rattle.sslist_lister.specs.texts.JsonData.{JsonMember, flag_member, numbers_member}
@@ -145,17 +143,18 @@ text_facts utf8 text member name = record {
   members = text_member member name;
 }
 
--- `separated before later ns`: the numbers `ns` in decimal: the first one after the text `before`,
--- and each later one after the text `later`
-abbrev pub separated : List ℕ → List ℕ → List ℕ → List ℕ
-separated before later [] = []
-separated before later (n ∷ ns) = before ++ (decimal n ++ separated later later ns)
+-- `separated_records text before later records`: the texts of records: the first one after the text
+-- `before`, and each later one after the text `later`
+abbrev pub separated_records : {A : Type 0} → (A → List ℕ) → List ℕ → List ℕ → List A → List ℕ
+separated_records text before later [] = []
+separated_records text before later (r ∷ rs) =
+    before ++ (text r ++ separated_records text later later rs)
 
 -- `list_facts before later member ns`: the numbers `ns`. The table shows the first one after
 -- `before`, and each later one after `later`. JSON has the array `member`.
 unfoldable pub list_facts : List ℕ → List ℕ → List ℕ → List ℕ → Facts
 list_facts before later member ns = record {
-  text = separated before later ns;
+  text = separated_records decimal before later ns;
   members = numbers_member member ns;
 }
 
@@ -185,26 +184,3 @@ AddsItems old new added =
 abbrev pub AddsFacts : {Item : Type 0} {items : Facts → List Item} → SinkContent items
     → SinkContent items → Facts → Type 0
 AddsFacts {items = items} old new facts = AddsItems old new (items facts)
-
--- ---- attributes
-
--- What an attribute says: facts, or nothing (None) if its type is unknown, or the error of its
--- value if it is invalid.
-abbrev pub Outcome : Type 0
-Outcome = Result (Option Facts) DecodeError
-
--- the facts of an outcome; none if the attribute is unknown or invalid
-abbrev pub facts_in : Outcome → Facts
-facts_in (Ok (Some facts)) = facts
-facts_in (Ok None) = no_facts
-facts_in (Err e) = no_facts
-
--- the status of an attribute that says this (`Status` of `src/facts.rt`): true if it has facts,
--- false if its type is unknown, or the error of its value
-abbrev pub status_of : Outcome → Result Bool DecodeError
-status_of outcome = map_ok is_some outcome
-
--- `parsed_outcome facts parsed`: what an attribute says whose value was parsed with the result
--- `parsed`: `facts` of the parsed value, or the decode error
-abbrev pub parsed_outcome : {Value : Type 0} → (Value → Facts) → Result Value DecodeError → Outcome
-parsed_outcome facts parsed = map_ok (λ value. Some (facts value)) parsed

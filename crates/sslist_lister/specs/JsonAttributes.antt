@@ -10,8 +10,8 @@ use Rattle.sslist_lister.specs.Collected.{Summary}
 use Rattle.sslist_lister.specs.Details.{error_reason}
 use Rattle.sslist_lister.specs.texts.JsonData.{JsonMember, array_member, number_members, object_of}
 use Rattle.sslist_lister.specs.texts.JsonData.{json_text, optional_member, text_member}
-use Rattle.sslist_lister.specs.AttributeFacts.{attribute_outcome}
-use Rattle.sslist_lister.specs.Facts.{facts_in}
+use Rattle.sslist_lister.specs.AttributeFacts.{any_facts}
+use Rattle.sock_diag_extras.specs.AnyNla.{AnyValue}
 use Rattle.sock_diag_extras.specs.declared.any.nla.Sockets.{Sockets}
 
 -- ---- attributes without members of their own
@@ -36,11 +36,12 @@ other_item other = object_of (item_members other.0 other.1)
 
 -- ---- all attributes of a reply
 
--- `valid_members sockets first`: the members of the facts of the attribute `first`; none if there
--- is no attribute (None). JSON does not depend on the option `--utf8`, for which `false` is passed.
-abbrev pub valid_members : Sockets → Option Attribute → List JsonMember
+-- `valid_members sockets first`: the members of the facts of the first valid attribute of a kind,
+-- which says `first.1`; none if there is no attribute (None). JSON does not depend on the option
+-- `--utf8`, for which `false` is passed.
+abbrev pub valid_members : Sockets → Option (ℕ × AnyValue) → List JsonMember
 valid_members sockets None = []
-valid_members sockets (Some a) = (facts_in (attribute_outcome false sockets a)).members
+valid_members sockets (Some valid) = (any_facts false sockets valid.1).members
 
 -- The members of the attributes of a reply: those of the first valid attribute of each kind, in the
 -- order of the kinds, and `other_attributes` with the unknown and the invalid attributes, in the

@@ -5,13 +5,13 @@ use Rattle.std.specs.Prelude.{List, [], ◌∷◌, ◌++◌, codes}
 use Rattle.sock_diag_records.specs.declared.inet.response.InetResponseHeader.{InetResponseHeader}
 use Rattle.sock_diag_records.specs.declared.unix.response.UnixResponseHeader.{UnixResponseHeader}
 use Rattle.sock_diag_records.specs.declared.constants.TheConstants.{AF_UNIX}
+use Rattle.sock_diag_extras.specs.declared.any.header.RawTimer.{RawTimer}
 use Rattle.sslist_lister.specs.texts.Cells.{state_name}
 use Rattle.sslist_lister.specs.texts.JsonData.{JsonMember, address_member, cookie_member}
 use Rattle.sslist_lister.specs.texts.JsonData.{number_members, text_member}
 use Rattle.sslist_lister.specs.Sctp.{inet_state_name}
 use Rattle.sslist_lister.specs.Table.{inet_kind, unix_kind}
 use Rattle.sslist_lister.specs.declared.line.InetSocket.{InetSocket}
-use Rattle.sslist_lister.specs.declared.texts.parts.TimerFields.{TimerFields}
 
 -- The members of the header of a UNIX socket, `struct unix_diag_msg` of linux/unix_diag.h:
 -- `udiag_family`, `udiag_type`, `udiag_state`, `udiag_ino` and `udiag_cookie`.
@@ -26,16 +26,16 @@ unix_header_members h =
 -- `inet_front_members timer h`: the members of the header of an IPv4 or IPv6 socket that precede
 -- the addresses: `idiag_family`, `idiag_state`, `idiag_timer` and `idiag_retrans`, and
 -- `idiag_sport` and `idiag_dport` of its `id`
-abbrev pub inet_front_members : TimerFields → InetResponseHeader → List JsonMember
+abbrev pub inet_front_members : RawTimer → InetResponseHeader → List JsonMember
 inet_front_members timer h =
     number_members ((codes "family", h.family) ∷ (codes "state", h.state) ∷
-    (codes "timer", timer.class) ∷ (codes "retrans", timer.retransmits) ∷
+    (codes "timer", timer.kind) ∷ (codes "retrans", timer.retransmits) ∷
     (codes "sport", h.socket_id.source_port) ∷ (codes "dport", h.socket_id.destination_port) ∷ [])
 
 -- `inet_back_members timer h`: the members of the header of an IPv4 or IPv6 socket that follow the
 -- cookie: `idiag_expires` in milliseconds, `idiag_rqueue` and `idiag_wqueue` in bytes, `idiag_uid`
 -- and `idiag_inode`
-abbrev pub inet_back_members : TimerFields → InetResponseHeader → List JsonMember
+abbrev pub inet_back_members : RawTimer → InetResponseHeader → List JsonMember
 inet_back_members timer h =
     number_members ((codes "expires", timer.expires) ∷ (codes "rqueue", h.recv_queue) ∷
     (codes "wqueue", h.send_queue) ∷ (codes "uid", h.uid) ∷ (codes "inode", h.inode) ∷ [])

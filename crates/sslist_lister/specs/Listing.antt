@@ -1,7 +1,6 @@
 -- The lines and diagnostics of messages, datagrams and packets of a capture. `b` is the payload of
 -- a message. `list` is the number of the list of sockets that a reply belongs to (`PastRequests`),
--- `requested` is the protocol of its request, and `protocol` that of the socket, each None if it is
--- not known.
+-- and `requested` is the protocol of its request, None if it is not known.
 use Rattle.std.specs.Prelude.{◌≡◌, ◌↔◌, Bool, true, false, IsTrue, ℕ, ℤ, pos, negsuc, ◌+◌}
 use Rattle.std.specs.Prelude.{◌==◌, ◌&&◌, ◌||◌, if◌then◌else◌, nat_le, nat_lt, List, [], ◌++◌}
 use Rattle.std.specs.Prelude.{◌≤◌, ◌⊎◌}
@@ -13,13 +12,9 @@ use Rattle.std.specs.Option.{option_map_or}
 use Rattle.netlink_captures.specs.Capture.{CapturedPacket}
 use Rattle.netlink_captures.specs.Cooked.{IsOfSockDiag}
 use Rattle.netlink_captures.specs.declared.captures.PacketHeader.{PacketHeader}
-use Rattle.sslist_lister.specs.declared.command_line.options.Family.{Family}
-use Rattle.sslist_lister.specs.declared.command_line.options.Family.TheVariants.{Netlink, Packet}
-use Rattle.sslist_lister.specs.declared.command_line.options.Family.TheVariants.{Vsock, Xdp}
 use Rattle.sslist_lister.specs.declared.command_line.options.Options.{Options}
 use Rattle.netlink_core.specs.Datagram.{SplitsIntoMessages}
 use Rattle.netlink_core.specs.declared.header.NetlinkHeader.{NetlinkHeader}
-use Rattle.netlink_core.specs.Layout.{Layout, parse_record}
 use Rattle.netlink_core.specs.declared.error.DecodeError.{DecodeError}
 use Rattle.netlink_core.specs.declared.error.DecodeError.TheVariants.{UnknownFamily}
 use Rattle.netlink_core.specs.NetlinkMessage.{leading_error_number}
@@ -27,20 +22,15 @@ use Rattle.netlink_core.specs.declared.message.TheConstants.{NLM_F_DUMP_INTR, NL
 use Rattle.netlink_core.specs.declared.message.TheConstants.{NLMSG_OVERRUN}
 use Rattle.sock_diag_extras.specs.declared.constants.TheConstants.{DCCPDIAG_GETSOCK}
 use Rattle.sock_diag_extras.specs.declared.constants.TheConstants.{TCPDIAG_GETSOCK}
-use Rattle.sock_diag_records.specs.InetResponse.{inet_response_header}
-use Rattle.sock_diag_records.specs.UnixResponseHeader.{unix_response_header}
-use Rattle.sock_diag_records.specs.ResponseKind.{MessageKind, inet_response, response_kind}
-use Rattle.sock_diag_records.specs.ResponseKind.{unix_response}
-use Rattle.sock_diag_families.specs.NetlinkResponseHeader.{netlink_header}
-use Rattle.sock_diag_families.specs.PacketResponseHeader.{packet_header}
-use Rattle.sock_diag_families.specs.VsockResponseHeader.{vsock_header}
-use Rattle.sock_diag_families.specs.XdpResponseHeader.{xdp_header}
-use Rattle.sslist_lister.specs.Collected.{Summary, summary_of}
+use Rattle.sslist_lister.specs.Collected.{summary_of}
+use Rattle.sock_diag_extras.specs.AnyHeader.{any_header, header_size, timer_at}
 use Rattle.sock_diag_extras.specs.Pieces.{framing_error_of, pieces_in}
-use Rattle.sslist_lister.specs.Protocol.{protocol_of_reply}
+use Rattle.sslist_lister.specs.Protocol.{protocol_in}
 use Rattle.sslist_lister.specs.Sctp.{is_association}
-use Rattle.sslist_lister.specs.Table.{info_of_reply}
-use Rattle.sock_diag_extras.specs.declared.any.nla.Sockets.{Sockets}
+use Rattle.sslist_lister.specs.Table.{inet_sockets}
+use Rattle.sock_diag_extras.specs.declared.any.header.AnyHeader.{AnyHeader}
+use Rattle.sock_diag_extras.specs.declared.any.header.AnyHeader.TheVariants as reply
+use Rattle.sock_diag_extras.specs.declared.any.header.RawTimer.{RawTimer}
 use Rattle.sock_diag_extras.specs.declared.any.nla.Sockets.TheVariants as about
 use Rattle.sslist_lister.specs.Headings.{list_heading}
 use Rattle.sslist_lister.specs.Lists.{is_repetition}
@@ -49,8 +39,7 @@ use Rattle.sslist_lister.specs.Messages.{MessageParts, message_in, request_in}
 use Rattle.sslist_lister.specs.Requests.{PastRequests, protocol_of, with_request}
 use Rattle.sslist_lister.specs.declared.line.TheConstants.{HEADING}
 use Rattle.sslist_lister.specs.declared.list.TheConstants.{EINVAL, ENOENT}
-use Rattle.sslist_lister.specs.Details.{timer_in}
-use Rattle.sslist_lister.specs.Others.{family_numbered, netlink_socket}
+use Rattle.sslist_lister.specs.Others.{netlink_socket}
 use Rattle.sslist_lister.specs.Others.{packet_socket, vsock_socket, xdp_socket}
 use Rattle.sslist_lister.specs.JsonListing.{inet_output, other_output, unix_output}
 use Rattle.sslist_lister.specs.JsonOthers.{netlink_header_members, packet_header_members}
@@ -58,7 +47,6 @@ use Rattle.sslist_lister.specs.JsonOthers.{vsock_header_members, xdp_header_memb
 use Rattle.sock_diag_records.specs.declared.constants.TheConstants.{IPPROTO_DCCP}
 use Rattle.sock_diag_records.specs.declared.inet.response.InetResponseHeader.{InetResponseHeader}
 use Rattle.sslist_lister.specs.declared.command_line.options.TheConstants.{IPPROTO_TCP}
-use Rattle.sslist_lister.specs.declared.line.InetSocket.{InetSocket}
 use Rattle.sslist_lister.specs.declared.list.Diagnostic.{Diagnostic}
 use Rattle.sslist_lister.specs.declared.list.Diagnostic.TheVariants.{Refused, Answered, Lost}
 use Rattle.sslist_lister.specs.declared.list.Diagnostic.TheVariants.{Invalid, NoEntry}
@@ -66,120 +54,62 @@ use Rattle.sslist_lister.specs.declared.list.Diagnostic.TheVariants.{NoNumber}
 
 -- ---- replies
 
--- `lines_by_header lines summary header`: the lines of a reply: `lines` of its header and of the
--- summary of its attributes. There are none if the header is invalid (Err).
-abbrev pub lines_by_header : {Header : Type 0} → (Header → Summary → List ℕ) → Summary
-    → Result Header DecodeError → List ℕ
-lines_by_header lines summary (Ok header) = lines header summary
-lines_by_header lines summary (Err e) = []
+-- `after_header b header`: the attributes of the reply with the payload `b`, which begins with this
+-- header
+abbrev pub after_header : List ℕ → AnyHeader → List ℕ
+after_header b header = drop (header_size header) b
 
--- `reply_lines layout sockets lines b`: the lines of a reply with this layout of its header, about
--- these sockets: `lines` of the header and of the summary of the attributes, which follow it. There
--- are none if the header is invalid.
-abbrev pub reply_lines : {Tag Header : Type 0} → Layout (Unit {0}) Tag Header → Sockets
-    → (Header → Summary → List ℕ) → List ℕ → List ℕ
-reply_lines layout sockets lines b =
-    lines_by_header lines (summary_of sockets (pieces_in (drop layout.least b)))
-    (parse_record layout tt b)
-
--- `error_by_header framing header`: the decode error of a reply: of its header, or else the framing
--- error, if there is one
-abbrev pub error_by_header : {Header : Type 0} → Option DecodeError → Result Header DecodeError
-    → Option DecodeError
-error_by_header framing (Ok header) = framing
-error_by_header framing (Err e) = Some e
-
--- `reply_error layout b`: the decode error of a reply with this layout of its header: of the
--- header, or else of the bytes after the last attribute; None if there is none
-abbrev pub reply_error : {Tag Header : Type 0} → Layout (Unit {0}) Tag Header → List ℕ
-    → Option DecodeError
-reply_error layout b =
-    error_by_header (framing_error_of (pieces_in (drop layout.least b))) (parse_record layout tt b)
-
--- `family_lines o list family b`: the lines of a reply about a socket of this family; none for an
--- unknown family (None)
-abbrev pub family_lines : Options → ℕ → Option Family → List ℕ → List ℕ
-family_lines o list (Some Netlink) b =
-    reply_lines netlink_header about.Netlink
-    (λ h s. other_output o list (netlink_socket h s) (netlink_header_members h) s) b
-family_lines o list (Some Packet) b =
-    reply_lines packet_header about.Packet
-    (λ h s. other_output o list (packet_socket h s) (packet_header_members h) s) b
-family_lines o list (Some Vsock) b =
-    reply_lines vsock_header about.Vsock
-    (λ h s. other_output o list (vsock_socket h s) (vsock_header_members h) s) b
-family_lines o list (Some Xdp) b =
-    reply_lines xdp_header about.Xdp
-    (λ h s. other_output o list (xdp_socket h s) (xdp_header_members h) s) b
-family_lines o list None b = []
-
--- `family_error family b`: the decode error of a reply about a socket of this family, or None; also
--- None for an unknown family, whose replies are not checked
-abbrev pub family_error : Option Family → List ℕ → Option DecodeError
-family_error (Some Netlink) b = reply_error netlink_header b
-family_error (Some Packet) b = reply_error packet_header b
-family_error (Some Vsock) b = reply_error vsock_header b
-family_error (Some Xdp) b = reply_error xdp_header b
-family_error None b = None
-
--- `is_association_in protocol b`: the reply with the payload `b` is about an SCTP association
-abbrev pub is_association_in : Option ℕ → List ℕ → Bool
-is_association_in protocol b = is_association protocol (drop inet_response_header.least b)
-
--- `inet_socket protocol b header`: the IPv4 or IPv6 socket of the reply with the payload `b`, which
--- begins with this header
-abbrev pub inet_socket : Option ℕ → List ℕ → InetResponseHeader → InetSocket
-inet_socket protocol b header = record {
-  protocol = protocol;
-  is_association = is_association_in protocol b;
-  timer = timer_in b;
-  header = header;
-}
-
--- `inet_reply_lines o list protocol b`: the lines of the reply with the payload `b`, about an IPv4
--- or IPv6 socket of this protocol
-abbrev pub inet_reply_lines : Options → ℕ → Option ℕ → List ℕ → List ℕ
-inet_reply_lines o list protocol b =
-    reply_lines inet_response_header
-    (about.Inet (info_of_reply protocol (is_association_in protocol b)))
-    (λ header s. inet_output o list (inet_socket protocol b header) s) b
-
--- a reply of this type of message is about an IPv4 or IPv6 socket
-abbrev pub is_inet_type : ℕ → Bool
-is_inet_type t = (t == TCPDIAG_GETSOCK) || (t == DCCPDIAG_GETSOCK)
-
--- `reply_kind b t`: the kind of reply that the payload `b` of a message of the type `t` is, or the
--- reason why it is not one (`response_kind`). The types TCPDIAG_GETSOCK and DCCPDIAG_GETSOCK are
--- those of requests and replies before SOCK_DIAG_BY_FAMILY.
-abbrev pub reply_kind : List ℕ → ℕ → Result MessageKind DecodeError
-reply_kind b t =
-    if is_inet_type t && nat_le 2 (length b) then Ok inet_response else response_kind b t
-
--- `payload_lines o list requested kind b`: the lines of the payload `b`, in the list of the number
--- `list`. `kind` is the kind of the reply, or the reason why it is not one. `b` begins with the
--- header, a `struct unix_diag_msg` or a `struct inet_diag_msg`. A payload that is not a reply has
--- no lines, except for one about a netlink, packet, vsock or XDP socket (`family_lines`).
-abbrev pub payload_lines : Options → ℕ → Option ℕ → Result MessageKind DecodeError → List ℕ
+-- `inet_reply_lines o list requested header timer bytes`: the lines of a reply about an IPv4 or
+-- IPv6 socket with this header, this timer and the attributes in the bytes. They are read as those
+-- of a socket of the protocol `requested` first, which finds the protocol of the socket and whether
+-- it is an association, and then by these.
+abbrev pub inet_reply_lines : Options → ℕ → Option ℕ → InetResponseHeader → RawTimer → List ℕ
     → List ℕ
-payload_lines o list requested (Ok unix_response) b =
-    reply_lines unix_response_header about.Unix (unix_output o list) b
-payload_lines o list requested (Ok inet_response) b =
-    inet_reply_lines o list (protocol_of_reply requested b) b
-payload_lines o list requested (Err (UnknownFamily n)) b =
-    family_lines o list (family_numbered n) b
-payload_lines o list requested _ b = []
+inet_reply_lines o list requested header timer bytes =
+    let asked = summary_of (inet_sockets requested false) bytes in
+    let protocol = protocol_in requested asked in
+    let associated = is_association protocol asked in
+    inet_output o list (record {
+      protocol = protocol;
+      is_association = associated;
+      timer = timer;
+      header = header;
+    }) (summary_of (inet_sockets protocol associated) bytes)
 
--- `payload_error kind b`: the decode error of the payload `b`: that of the reply, or the reason why
--- it is not a reply. An invalid value of an attribute is not considered. `UnknownFamily n` is the
--- port's error for the families that it does not have: if `n` is netlink, packet, vsock or XDP, the
--- error is that of this reply (`family_error`), and for any other `n` there is none. `kind` is
--- never a request (`reply_kind`), the case of the last equation.
-abbrev pub payload_error : Result MessageKind DecodeError → List ℕ → Option DecodeError
-payload_error (Ok unix_response) b = reply_error unix_response_header b
-payload_error (Ok inet_response) b = reply_error inet_response_header b
-payload_error (Err (UnknownFamily n)) b = family_error (family_numbered n) b
-payload_error (Err e) b = Some e
-payload_error _ b = None
+-- `header_lines o list requested b header`: the lines of the reply with the payload `b`, which
+-- begins with this header
+abbrev pub header_lines : Options → ℕ → Option ℕ → List ℕ → AnyHeader → List ℕ
+header_lines o list requested b (reply.Unix h) =
+    unix_output o list h (summary_of about.Unix (after_header b (reply.Unix h)))
+header_lines o list requested b (reply.Inet h) =
+    inet_reply_lines o list requested h (timer_at b) (after_header b (reply.Inet h))
+header_lines o list requested b (reply.Netlink h) =
+    let s = summary_of about.Netlink (after_header b (reply.Netlink h)) in
+    other_output o list (netlink_socket h s) (netlink_header_members h) s
+header_lines o list requested b (reply.Packet h) =
+    let s = summary_of about.Packet (after_header b (reply.Packet h)) in
+    other_output o list (packet_socket h s) (packet_header_members h) s
+header_lines o list requested b (reply.Vsock h) =
+    let s = summary_of about.Vsock (after_header b (reply.Vsock h)) in
+    other_output o list (vsock_socket h s) (vsock_header_members h) s
+header_lines o list requested b (reply.Xdp h) =
+    let s = summary_of about.Xdp (after_header b (reply.Xdp h)) in
+    other_output o list (xdp_socket h s) (xdp_header_members h) s
+
+-- `reply_lines o list requested b header`: the lines of the payload `b`, in the list of the number
+-- `list`. It begins with this header (`any_header`), or there are none (Err).
+abbrev pub reply_lines : Options → ℕ → Option ℕ → List ℕ → Result AnyHeader DecodeError → List ℕ
+reply_lines o list requested b (Ok header) = header_lines o list requested b header
+reply_lines o list requested b (Err e) = []
+
+-- `reply_error b header`: the decode error of the payload `b`, which begins with this header: of
+-- the header (Err), or else of the bytes after the last attribute; None if there is none. An
+-- invalid value of an attribute is not considered, and a reply about a socket of an unknown family
+-- is not checked.
+abbrev pub reply_error : List ℕ → Result AnyHeader DecodeError → Option DecodeError
+reply_error b (Ok header) = framing_error_of (pieces_in (after_header b header))
+reply_error b (Err (UnknownFamily n)) = None
+reply_error b (Err e) = Some e
 
 -- ---- messages
 
@@ -202,8 +132,8 @@ requested_protocol past h =
 abbrev pub message_lines : Options → PastRequests → MessageParts → List ℕ
 message_lines o past m =
     if is_control m.header.message_type then []
-    else payload_lines o past.list (requested_protocol past m.header)
-    (reply_kind m.payload m.header.message_type) m.payload
+    else reply_lines o past.list (requested_protocol past m.header) m.payload
+    (any_header m.payload m.header.message_type)
 
 -- the diagnostic of an error number of errno(3): a note for ENOENT and EINVAL, or else an error
 abbrev pub errno_diagnostic : ℕ → Diagnostic
@@ -230,7 +160,7 @@ control_diagnostic t payload =
 abbrev pub message_diagnostic : ℕ → List ℕ → Option Diagnostic
 message_diagnostic t payload =
     if is_control t then control_diagnostic t payload
-    else option_map Refused (payload_error (reply_kind payload t) payload)
+    else option_map Refused (reply_error payload (any_header payload t))
 
 -- there is no diagnostic, or it is one of the two notes: NoEntry or Invalid
 abbrev pub is_informational_or_none : Option Diagnostic → Bool

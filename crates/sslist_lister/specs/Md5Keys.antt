@@ -5,17 +5,11 @@ use Rattle.std.specs.Prelude.{ℕ, ◌==◌, if◌then◌else◌, List, [], ◌�
 use Rattle.std.specs.Prelude.{flat_map}
 use Rattle.hex.specs.Hex.{encode_lower}
 use Rattle.sock_diag_extras.specs.Md5Signature.{md5_signature, peer_ip, used_key}
-use Rattle.sock_diag_extras.specs.RecordTable.{parse_by_table}
 use Rattle.sock_diag_extras.specs.declared.md5_signature.Md5Signature.{Md5Signature}
 use Rattle.sslist_lister.specs.texts.Escapes.{byte_digits, escaped_byte}
 use Rattle.sslist_lister.specs.texts.JsonData.{JsonMember, number_members, text_member}
 use Rattle.sslist_lister.specs.Facts.{Facts}
 use Rattle.sslist_lister.specs.RecordFacts.{ip_member, ip_or_star, records_facts, records_in}
-use Rattle.sslist_lister.specs.declared.md5_keys.TheConstants.{KEY_LENGTH}
-
--- the record at the start of the bytes
-unfoldable pub key_at : List ℕ → Md5Signature
-key_at bytes = parse_by_table md5_signature bytes
 
 -- a byte of a key, escaped as in names; a comma, which separates keys, is escaped too
 abbrev pub key_byte : ℕ → List ℕ
@@ -39,4 +33,4 @@ md5_key_members k =
 abbrev pub md5_facts : List ℕ → Facts
 md5_facts value =
     records_facts md5_key_text md5_key_members (codes " md5keys:") (codes ",") (codes "md5sig")
-    (records_in KEY_LENGTH key_at value)
+    (records_in md5_signature value)

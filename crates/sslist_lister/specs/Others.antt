@@ -1,7 +1,7 @@
 -- Lines of netlink, packet, vsock and XDP sockets. `s` is what a reply has in its attributes.
-use Rattle.std.specs.Prelude.{ℕ, ◌+◌, ◌*◌, ◌==◌, nat_lt, if◌then◌else◌, List, [], ◌∷◌, ◌++◌, length}
-use Rattle.std.specs.Prelude.{drop, codes, Option, None, Some, option_and_then}
-use Rattle.byteorder.specs.Endian.{little_bytes, little_number}
+use Rattle.std.specs.Prelude.{ℕ, ◌==◌, if◌then◌else◌, List, [], ◌∷◌, ◌++◌}
+use Rattle.std.specs.Prelude.{codes, Option, None, Some, option_and_then, option_map}
+use Rattle.byteorder.specs.Endian.{little_bytes}
 use Rattle.sslist_lister.specs.texts.Parts.{no_timer, details_after_separator}
 use Rattle.sslist_lister.specs.texts.Cells.{FirstColumns, number_or_star, state_name, table_line}
 use Rattle.sslist_lister.specs.declared.command_line.options.Family.{Family}
@@ -18,8 +18,8 @@ use Rattle.sock_diag_families.specs.declared.vsock.response.VsockResponseHeader.
   VsockResponseHeader,
 }
 use Rattle.sock_diag_families.specs.declared.xdp.response.XdpResponseHeader.{XdpResponseHeader}
-use Rattle.sock_diag_extras.specs.declared.constants.TheConstants.{SK_MEMINFO_RMEM_ALLOC}
-use Rattle.sock_diag_extras.specs.declared.constants.TheConstants.{SK_MEMINFO_WMEM_ALLOC}
+use Rattle.sock_diag_values.specs.declared.inet.mem_info.MemInfo.{MemInfo}
+use Rattle.sock_diag_extras.specs.AnyParts.{memory_of, owner_of, packet_info_of, xdp_info_of}
 use Rattle.sock_diag_records.specs.declared.constants.TheConstants.{AF_NETLINK, AF_PACKET}
 use Rattle.sock_diag_records.specs.declared.constants.TheConstants.{SOCK_DGRAM, SOCK_RAW}
 use Rattle.sock_diag_records.specs.declared.constants.TheConstants.{SOCK_SEQPACKET, SOCK_STREAM}
@@ -29,17 +29,9 @@ use Rattle.sock_diag_families.specs.declared.vsock.TheConstants.{AF_VSOCK}
 use Rattle.sock_diag_families.specs.declared.xdp.TheConstants.{AF_XDP, XDP_DIAG_INFO, XDP_DIAG_UID}
 use Rattle.sslist_lister.specs.Details.{details}
 use Rattle.sslist_lister.specs.AttributeFacts.{memory_kind}
-use Rattle.sslist_lister.specs.Collected.{Summary, first_in}
+use Rattle.sslist_lister.specs.Collected.{Summary, value_in}
 use Rattle.sslist_lister.specs.declared.others.OtherSocket.{OtherSocket}
 use Rattle.sslist_lister.specs.declared.others.TheConstants.{ANY, NETLINK_CONNECTED}
-
--- ---- families
-
--- `family_numbered n`: the family with the number `n`; None for any number other than these four
-abbrev pub family_numbered : ℕ → Option Family
-family_numbered n =
-    if n == AF_NETLINK then Some Netlink else if n == AF_PACKET then Some Packet
-    else if n == AF_VSOCK then Some Vsock else if n == AF_XDP then Some Xdp else None
 
 -- ---- values of attributes
 
@@ -47,20 +39,25 @@ family_numbered n =
 abbrev pub none_if_equal : ℕ → ℕ → Option ℕ
 none_if_equal none n = if n == none then None else Some n
 
--- `u32_in_first kind offset s`: the little-endian `u32` at this offset of the value of the first
--- valid attribute of this kind; None if there is none, if its value ends before the end of the
--- `u32`, or if `kind` is None
-abbrev pub u32_in_first : Option ℕ → ℕ → Summary → Option ℕ
-u32_in_first kind offset s = option_and_then
-    (λ a. if nat_lt (length a.value) (offset + 4) then None
-    else Some (little_number 4 (drop offset a.value)))
-    (option_and_then (λ known. first_in known s) kind)
+-- the interface of a packet socket; None if it is not known, or if the number is 0, which is no
+-- interface
+abbrev pub packet_interface : Summary → Option ℕ
+packet_interface s = option_and_then (λ info. none_if_equal 0 info.interface)
+    (option_and_then packet_info_of (value_in PACKET_DIAG_INFO s))
 
--- `interface_number kind s`: the interface number, which is the `u32` at offset 0 of the first
--- valid attribute of this kind. None if there is no such attribute, or if the number is 0, which is
--- no interface.
-abbrev pub interface_number : ℕ → Summary → Option ℕ
-interface_number kind s = option_and_then (none_if_equal 0) (u32_in_first (Some kind) 0 s)
+-- the interface and the queue of an XDP socket, each None if it is not known, the interface also if
+-- the number is 0
+abbrev pub xdp_address : Summary → Option ℕ × Option ℕ
+xdp_address s =
+    let info = option_and_then xdp_info_of (value_in XDP_DIAG_INFO s) in (
+      option_and_then (λ bound. none_if_equal 0 bound.interface) info,
+      option_map (λ bound. bound.queue) info,
+    )
+
+-- the memory of a socket; None if the reply does not have it
+abbrev pub memory_in : Summary → Option MemInfo
+memory_in s = option_and_then memory_of
+    (option_and_then (λ kind. value_in kind s) (memory_kind s.sockets))
 
 -- `user_kind family`: the type of the attribute with the user id of the owner; None for netlink and
 -- vsock, which have none
@@ -68,6 +65,12 @@ abbrev pub user_kind : Family → Option ℕ
 user_kind Packet = Some PACKET_DIAG_UID
 user_kind Xdp = Some XDP_DIAG_UID
 user_kind _ = None
+
+-- `user_in family s`: the user id of the owner of a socket of this family; None if the reply does
+-- not have it
+abbrev pub user_in : Family → Summary → Option ℕ
+user_in family s = option_and_then owner_of
+    (option_and_then (λ kind. value_in kind s) (user_kind family))
 
 -- ---- sockets of each family
 
@@ -87,7 +90,7 @@ netlink_socket h s = record {
 }
 
 -- `packet_socket h s`: the packet socket with the header `h`. Its local address is the protocol,
--- and the interface number at 0 of the attribute PACKET_DIAG_INFO. It has no peer. The column State
+-- and the interface in the attribute PACKET_DIAG_INFO. It has no peer. The column State
 -- has UNCONN (TCP_CLOSE).
 abbrev pub packet_socket : PacketResponseHeader → Summary → OtherSocket
 packet_socket h s = record {
@@ -96,7 +99,7 @@ packet_socket h s = record {
   state = TCP_CLOSE;
   inode = h.inode;
   cookie = h.cookie;
-  local = (Some h.protocol, interface_number PACKET_DIAG_INFO s);
+  local = (Some h.protocol, packet_interface s);
   peer = None;
 }
 
@@ -117,8 +120,8 @@ vsock_socket h s = record {
   );
 }
 
--- `xdp_socket h s`: the XDP socket with the header `h`. Its local address is the interface number
--- at 0 and the queue at 4 of the attribute XDP_DIAG_INFO. It has no peer. The column State has
+-- `xdp_socket h s`: the XDP socket with the header `h`. Its local address is the interface and
+-- the queue in the attribute XDP_DIAG_INFO. It has no peer. The column State has
 -- UNCONN (TCP_CLOSE).
 abbrev pub xdp_socket : XdpResponseHeader → Summary → OtherSocket
 xdp_socket h s = record {
@@ -127,10 +130,7 @@ xdp_socket h s = record {
   state = TCP_CLOSE;
   inode = h.inode;
   cookie = h.cookie;
-  local = (
-    interface_number XDP_DIAG_INFO s,
-    u32_in_first (Some XDP_DIAG_INFO) 4 s,
-  );
+  local = xdp_address s;
   peer = None;
 }
 
@@ -149,17 +149,16 @@ other_kind Packet kind = if kind == SOCK_RAW then codes "p_raw" else codes "p_dg
 other_kind Vsock kind = vsock_kind kind
 other_kind Xdp kind = codes "xdp"
 
--- `other_first_columns socket s`: the first columns of a socket. The attribute with the memory is
--- an array of `u32`: Recv-Q is the one at the index SK_MEMINFO_RMEM_ALLOC, Send-Q at
--- SK_MEMINFO_WMEM_ALLOC. The attribute with the user id is a `u32` (at 0).
+-- `other_first_columns socket s`: the first columns of a socket. Recv-Q and Send-Q are
+-- SK_MEMINFO_RMEM_ALLOC and SK_MEMINFO_WMEM_ALLOC of its memory.
 abbrev pub other_first_columns : OtherSocket → Summary → FirstColumns
 other_first_columns socket s = record {
   kind = other_kind socket.family socket.kind;
   state = state_name socket.state;
-  receive_queue = u32_in_first (memory_kind s.sockets) (4 * SK_MEMINFO_RMEM_ALLOC) s;
-  send_queue = u32_in_first (memory_kind s.sockets) (4 * SK_MEMINFO_WMEM_ALLOC) s;
+  receive_queue = option_map (λ memory. memory.receive_queue) (memory_in s);
+  send_queue = option_map (λ memory. memory.bottom_send_queues) (memory_in s);
   inode = socket.inode;
-  uid = u32_in_first (user_kind socket.family) 0 s;
+  uid = user_in socket.family s;
 }
 
 -- `address_text address`: both numbers of an address, separated by a colon (58); a number that is

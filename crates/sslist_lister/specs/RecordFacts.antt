@@ -1,12 +1,12 @@
--- Facts of arrays of records in the values of attributes. `size` is the size of a record in bytes,
--- and `parsed` returns the record at the start of the bytes.
+-- Facts of arrays of records in the values of attributes.
 use Rattle.std.specs.Prelude.{ℕ, zero, suc, ◌/◌, List, [], ◌∷◌, ◌++◌, codes, drop, length, map}
 use Rattle.std.specs.Prelude.{Option}
 use Rattle.std.specs.Option.{option_map_or}
 use Rattle.std.specs.Net.Text.{ip_text}
 use Rattle.std.specs.declared.net.ip_addr.IpAddr.{IpAddr}
 use Rattle.sslist_lister.specs.texts.JsonData.{JsonMember, address_member, array_member, object_of}
-use Rattle.sslist_lister.specs.Facts.{Facts}
+use Rattle.sock_diag_extras.specs.RecordTable.{RecordTable, parse_by_table}
+use Rattle.sslist_lister.specs.Facts.{Facts, separated_records}
 
 -- an IP address of a record, or `*` if its family has none (None)
 abbrev pub ip_or_star : Option IpAddr → List ℕ
@@ -16,22 +16,15 @@ ip_or_star ip = option_map_or ip_text ip (codes "*")
 unfoldable pub ip_member : Option IpAddr → List JsonMember
 ip_member ip = option_map_or (address_member (codes "addr")) ip []
 
--- `first_records size parsed count bytes`: the first `count` records in the bytes
-abbrev pub first_records : {A : Type 0} → ℕ → (List ℕ → A) → ℕ → List ℕ → List A
-first_records size parsed zero bytes = []
-first_records size parsed (suc count) bytes =
-    parsed bytes ∷ first_records size parsed count (drop size bytes)
+-- `first_records layout count bytes`: the first `count` records of this layout in the bytes
+abbrev pub first_records : {A : Type 0} → RecordTable A → ℕ → List ℕ → List A
+first_records layout zero bytes = []
+first_records layout (suc count) bytes =
+    parse_by_table layout bytes ∷ first_records layout count (drop layout.size bytes)
 
--- `records_in size parsed bytes`: all whole records in the bytes
-abbrev pub records_in : {A : Type 0} → ℕ → (List ℕ → A) → List ℕ → List A
-records_in size parsed bytes = first_records size parsed (length bytes / size) bytes
-
--- `separated_records text before later records`: the texts of records: the first one after the text
--- `before`, and each later one after the text `later`
-abbrev pub separated_records : {A : Type 0} → (A → List ℕ) → List ℕ → List ℕ → List A → List ℕ
-separated_records text before later [] = []
-separated_records text before later (r ∷ rs) =
-    before ++ (text r ++ separated_records text later later rs)
+-- `records_in layout bytes`: all whole records of this layout in the bytes
+unfoldable pub records_in : {A : Type 0} → RecordTable A → List ℕ → List A
+records_in layout bytes = first_records layout (length bytes / layout.size) bytes
 
 -- `records_facts text members before later member records`: the table shows the text of the first
 -- record after `before`, and that of each later one after `later`. JSON has the array `member` of

@@ -13,8 +13,12 @@ use Rattle.sock_diag_records.specs.declared.unix.request.TheConstants.{UNIX_REQU
 use Rattle.sslist_lister.specs.Lists.{ComparedContent, first_request, first_with}
 use Rattle.sslist_lister.specs.Lists.{is_repetition}
 use Rattle.sslist_lister.specs.Messages.{MessageParts}
-use Rattle.sslist_lister.specs.Others.{family_numbered}
 use Rattle.sock_diag_extras.specs.Pieces.{last_of_kind, pieces_in}
+use Rattle.sock_diag_families.specs.declared.vsock.TheConstants.{AF_VSOCK}
+use Rattle.sock_diag_families.specs.declared.xdp.TheConstants.{AF_XDP}
+use Rattle.sslist_lister.specs.declared.command_line.options.Family.{Family}
+use Rattle.sslist_lister.specs.declared.command_line.options.Family.TheVariants.{Netlink, Packet}
+use Rattle.sslist_lister.specs.declared.command_line.options.Family.TheVariants.{Vsock, Xdp}
 use Rattle.sslist_lister.specs.declared.requests.Query.{Query}
 use Rattle.sslist_lister.specs.declared.requests.Requested.{Requested}
 use Rattle.sslist_lister.specs.declared.requests.Requested.TheVariants as requests
@@ -45,6 +49,12 @@ query_of request = record {
 abbrev pub is_about_sockets : ℕ → Bool
 is_about_sockets message_type =
     (message_type == c.SOCK_DIAG_BY_FAMILY) || (message_type == c.SOCK_DESTROY)
+
+-- `family_numbered n`: the family with the number `n`; None for any number other than these four
+abbrev pub family_numbered : ℕ → Option Family
+family_numbered n =
+    if n == c.AF_NETLINK then Some Netlink else if n == c.AF_PACKET then Some Packet
+    else if n == AF_VSOCK then Some Vsock else if n == AF_XDP then Some Xdp else None
 
 -- `requested_of_family family request`: what a request about sockets of this family asks for. A
 -- request for IPv4 or IPv6 sockets has at least a `struct inet_diag_req_v2`, one for UNIX sockets a

@@ -6,17 +6,17 @@ use Rattle.std.specs.Prelude.{Option, is_some, slice_get, unwrap_or}
 use Rattle.std.specs.Option.{option_map_or}
 use Rattle.sock_diag_records.specs.declared.constants.TheConstants.{INET_DIAG_PEERS, IPPROTO_SCTP}
 use Rattle.sock_diag_records.specs.declared.constants.TheConstants.{TCP_CLOSE, TCP_ESTABLISHED}
-use Rattle.sock_diag_extras.specs.Pieces.{first_of_kind, pieces_in}
+use Rattle.sslist_lister.specs.Collected.{Summary, value_in}
 use Rattle.sslist_lister.specs.declared.sctp.TheConstants.{NO_TCP_STATE}
 use Rattle.sslist_lister.specs.texts.Cells.{state_name}
 
--- `is_association protocol bytes`: a reply with the attributes in `bytes` is about an association.
--- The kernel sends INET_DIAG_PEERS about each association, and about nothing else. `protocol` is
--- the protocol of the socket, None if that is not known.
-abbrev pub is_association : Option ℕ → List ℕ → Bool
-is_association protocol bytes =
+-- `is_association protocol s`: a reply with the attributes `s` is about an association. The kernel
+-- sends INET_DIAG_PEERS about each association, and about nothing else. `protocol` is the protocol
+-- of the socket, None if that is not known.
+abbrev pub is_association : Option ℕ → Summary → Bool
+is_association protocol s =
     option_map_or (λ number. number == IPPROTO_SCTP) protocol true
-    && is_some (first_of_kind INET_DIAG_PEERS (pieces_in bytes))
+    && is_some (value_in INET_DIAG_PEERS s)
 
 -- the names of the states 0 to 7 of an association as ss(8) prints them, in the order of
 -- `enum sctp_state`

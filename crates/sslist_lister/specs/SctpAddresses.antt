@@ -2,17 +2,11 @@
 -- sockaddr_storage`, 128 bytes. The texts are those of ss(8), and names in JSON are the kernel's
 -- names without the prefixes `sin_` and `sin6_`.
 use Rattle.std.specs.Prelude.{ℕ, List, [], ◌∷◌, ◌++◌, codes}
-use Rattle.sock_diag_extras.specs.RecordTable.{parse_by_table}
 use Rattle.sock_diag_extras.specs.StoredAddress.{ip_of, stored_address}
 use Rattle.sock_diag_extras.specs.declared.stored_address.StoredAddress.{StoredAddress}
 use Rattle.sslist_lister.specs.texts.JsonData.{JsonMember, number_members}
 use Rattle.sslist_lister.specs.Facts.{Facts}
 use Rattle.sslist_lister.specs.RecordFacts.{ip_member, ip_or_star, records_facts, records_in}
-use Rattle.sslist_lister.specs.declared.sctp_addresses.TheConstants.{ADDRESS_LENGTH}
-
--- the record at the start of the bytes
-unfoldable pub address_at : List ℕ → StoredAddress
-address_at bytes = parse_by_table stored_address bytes
 
 -- the text of an address
 abbrev pub stored_address_text : StoredAddress → List ℕ
@@ -29,4 +23,4 @@ stored_address_members a =
 abbrev pub addresses_facts : List ℕ → List ℕ → List ℕ → Facts
 addresses_facts before member value =
     records_facts stored_address_text stored_address_members before (codes ",") member
-    (records_in ADDRESS_LENGTH address_at value)
+    (records_in stored_address value)

@@ -1,12 +1,7 @@
 -- Lines of the table for UNIX, IPv4 and IPv6 sockets. `s` is what a reply has in its attributes.
 use Rattle.std.specs.Prelude.{ℕ, ◌==◌, nat_lt, if◌then◌else◌, ◌&&◌, Bool, List, [], ◌∷◌, ◌++◌}
 use Rattle.std.specs.Prelude.{length, codes, Option, None, Some, slice_index, option_map, drop}
-use Rattle.std.specs.Prelude.{◌||◌, option_and_then, Result, Ok, Err}
-use Rattle.byteorder.specs.Endian.{little_number}
-use Rattle.netlink_core.specs.Attribute.{Attribute}
-use Rattle.netlink_core.specs.AttributeSet.{AttributeValue, ValueOfKind, decode_attribute}
-use Rattle.netlink_core.specs.AttributeSet.{value_of_kind}
-use Rattle.netlink_core.specs.declared.error.DecodeError.{DecodeError}
+use Rattle.std.specs.Prelude.{◌||◌, option_and_then}
 use Rattle.sslist_lister.specs.texts.Cells.{FirstColumns, endpoint, first_columns, number_or_star}
 use Rattle.sslist_lister.specs.texts.Cells.{state_name, table_line}
 use Rattle.sslist_lister.specs.texts.Widths.{name_column}
@@ -24,15 +19,18 @@ use Rattle.sock_diag_records.specs.declared.constants.TheConstants.{UNIX_DIAG_NA
 use Rattle.sock_diag_records.specs.declared.constants.TheConstants.{UNIX_DIAG_PEER, UNIX_DIAG_RQLEN}
 use Rattle.sock_diag_attributes.specs.declared.unix.name.SocketName.{SocketName}
 use Rattle.sock_diag_attributes.specs.declared.unix.name.SocketName.TheVariants.{Abstract, Pathname}
-use Rattle.sock_diag_attributes.specs.UnixAttributes.{unix_attribute_set}
 use Rattle.sslist_lister.specs.Details.{details}
 use Rattle.sslist_lister.specs.Sctp.{inet_state_name}
 use Rattle.sslist_lister.specs.declared.line.InetSocket.{InetSocket}
 use Rattle.sslist_lister.specs.declared.line.TheConstants.{NO_INTERFACE}
+use Rattle.sock_diag_extras.specs.declared.any.nla.Sockets.{Sockets}
+use Rattle.sock_diag_extras.specs.declared.any.nla.Sockets.TheVariants.{Inet}
 use Rattle.sock_diag_extras.specs.declared.any.nla.InfoFormat.{InfoFormat}
 use Rattle.sock_diag_extras.specs.declared.any.nla.InfoFormat.TheVariants.{Mptcp, Sctp, Tcp}
 use Rattle.sock_diag_extras.specs.declared.any.nla.InfoFormat.TheVariants.{Unknown}
-use Rattle.sslist_lister.specs.Collected.{Summary, first_in}
+use Rattle.sock_diag_extras.specs.AnyParts.{owner_of, peer_of, queue_lengths_of}
+use Rattle.sock_diag_extras.specs.AnyParts.{socket_name_of}
+use Rattle.sslist_lister.specs.Collected.{Summary, value_in}
 use Rattle.sock_diag_extras.specs.declared.constants.TheConstants.{UNIX_DIAG_UID}
 
 -- ---- UNIX sockets
@@ -95,25 +93,6 @@ inet_kind (Some protocol) family =
 
 -- ---- lines
 
--- the user id in the value of an attribute UNIX_DIAG_UID; None if the value does not have four
--- bytes
-abbrev pub user_id : Attribute → Option ℕ
-user_id a = if length a.value == 4 then Some (little_number 4 a.value) else None
-
--- `unix_content k decoded`: the content, if this decoded to a value of the kind `k`; None for
--- another kind, an undecoded attribute or a decode error. The type of the content depends on `k`
--- (`ValueOfKind`).
-abbrev pub unix_content : (k : ℕ) → Result (AttributeValue unix_attribute_set) DecodeError
-    → Option (ValueOfKind unix_attribute_set k)
-unix_content k (Ok value) = value_of_kind unix_attribute_set k value
-unix_content k (Err e) = None
-
--- `unix_value k s`: the content of the first valid attribute of the kind `k` of a UNIX socket,
--- whose type depends on `k` (`ValueOfKind`); None if there is no such attribute
-abbrev pub unix_value : (k : ℕ) → Summary → Option (ValueOfKind unix_attribute_set k)
-unix_value k s =
-    option_and_then (λ a. unix_content k (decode_attribute unix_attribute_set a)) (first_in k s)
-
 -- `unix_first_columns h queues uid`: the first columns of the UNIX socket with the header `h`.
 -- `queues` are the lengths of the receive queue (`.0`) and the send queue (`.1`), and `uid` is the
 -- user id of the owner; each is None if the reply does not have it.
@@ -133,10 +112,12 @@ unix_first_columns h queues uid = record {
 -- UNIX_DIAG_UID. The width of the cell, 30, is measured by `name_column`.
 abbrev pub unix_columns : Options → UnixResponseHeader → Summary → List ℕ
 unix_columns o h s =
-    first_columns (unix_first_columns h (unix_value UNIX_DIAG_RQLEN s)
-    (option_and_then user_id (first_in UNIX_DIAG_UID s)))
-    ++ name_column o.utf8 30 (name_cell o.utf8 (unix_value UNIX_DIAG_NAME s))
-    ++ number_or_star (unix_value UNIX_DIAG_PEER s)
+    first_columns (unix_first_columns h
+    (option_and_then queue_lengths_of (value_in UNIX_DIAG_RQLEN s))
+    (option_and_then owner_of (value_in UNIX_DIAG_UID s)))
+    ++ name_column o.utf8 30
+    (name_cell o.utf8 (option_and_then socket_name_of (value_in UNIX_DIAG_NAME s)))
+    ++ number_or_star (option_and_then peer_of (value_in UNIX_DIAG_PEER s))
 
 -- the first columns of an IPv4 or IPv6 socket
 abbrev pub inet_first_columns : InetSocket → FirstColumns
@@ -171,11 +152,11 @@ info_of_protocol (Some protocol) =
     if protocol == IPPROTO_TCP then Tcp else if protocol == IPPROTO_MPTCP then Mptcp
     else if protocol == IPPROTO_SCTP then Sctp else Unknown
 
--- `info_of_reply protocol is_association`: the format of INET_DIAG_INFO of a socket, or of an SCTP
--- association, whose protocol may be unknown
-abbrev pub info_of_reply : Option ℕ → Bool → InfoFormat
-info_of_reply protocol is_association =
-    if is_association then Sctp else info_of_protocol protocol
+-- `inet_sockets protocol is_association`: the sockets that a reply about an IPv4 or IPv6 socket of
+-- this protocol is about, or about an SCTP association, whose protocol may be unknown
+abbrev pub inet_sockets : Option ℕ → Bool → Sockets
+inet_sockets protocol is_association =
+    Inet (if is_association then Sctp else info_of_protocol protocol)
 
 -- `inet_lines o socket s`: the lines of an IPv4 or IPv6 socket: the columns, the details and a line
 -- feed (10)

@@ -3,7 +3,8 @@
 -- JSON are the kernel's names without the prefixes `INET_ULP_INFO_`, `TLS_INFO_` and
 -- `MPTCP_SUBFLOW_ATTR_`; the texts are those of ss(8).
 use Rattle.std.specs.Prelude.{ℕ, ◌==◌, if◌then◌else◌, Bool, List, codes, is_some, length}
-use Rattle.std.specs.Prelude.{Option, None, Some, Result, Err, false, option_and_then, option_map}
+use Rattle.std.specs.Prelude.{Option, None, Some, Result, Ok, Err, false, option_and_then}
+use Rattle.std.specs.Prelude.{option_map}
 use Rattle.std.specs.Borrow.{Bor}
 use Rattle.std.specs.List.{list_all}
 use Rattle.std.specs.Option.{option_map_or}
@@ -17,8 +18,8 @@ use Rattle.sock_diag_extras.specs.declared.constants.TheConstants.{INET_ULP_INFO
 use Rattle.sock_diag_extras.specs.declared.constants.TheConstants.{INET_ULP_INFO_TLS}
 use Rattle.sock_diag_extras.specs.declared.constants.TheConstants.{TLS_INFO_RX_NO_PAD}
 use Rattle.sock_diag_extras.specs.declared.constants.TheConstants.{TLS_INFO_ZC_RO_TX}
-use Rattle.sslist_lister.specs.Facts.{Facts, Outcome, both, facts_of_each, flag_facts, json_group}
-use Rattle.sslist_lister.specs.Facts.{no_facts, number_facts, parsed_outcome, text_facts}
+use Rattle.sslist_lister.specs.Facts.{Facts, both, facts_of_each, flag_facts, json_group}
+use Rattle.sslist_lister.specs.Facts.{no_facts, number_facts, text_facts}
 use Rattle.sock_diag_extras.specs.Pieces.{first_of_kind, pieces_in}
 use Rattle.sslist_lister.specs.Rows.{Text, text_of}
 use Rattle.sslist_lister.specs.declared.facts.Shown.{Shown}
@@ -125,8 +126,12 @@ ulp_parts name value =
     (both (nested_group (codes "tls") tls_facts (nested_value INET_ULP_INFO_TLS value))
     (nested_group (codes "mptcp") subflow_facts (nested_value INET_ULP_INFO_MPTCP value)))
 
--- what an attribute INET_DIAG_ULP_INFO with this value says: the group `ulp_info`, or the error of
--- the name of the protocol
-abbrev pub ulp_outcome : List ℕ → Outcome
-ulp_outcome value =
-    parsed_outcome (λ name. json_group (codes "ulp_info") (ulp_parts name value)) (ulp_name value)
+-- `facts_if_named value name`: the group `ulp_info` of a protocol with this name, and with this
+-- value of the attribute; no facts without a valid name (Err)
+abbrev pub facts_if_named : List ℕ → Result (List ℕ) DecodeError → Facts
+facts_if_named value (Ok name) = json_group (codes "ulp_info") (ulp_parts name value)
+facts_if_named value (Err e) = no_facts
+
+-- the facts of an attribute INET_DIAG_ULP_INFO with this value
+abbrev pub ulp_facts : List ℕ → Facts
+ulp_facts value = facts_if_named value (ulp_name value)

@@ -6,19 +6,16 @@
 //! showed before. `S.content sink.old` and `S.content sink.new` are what the sink shows before and
 //! after the call. `any_model value.now` is what an attribute says.
 
-ghost use Rattle.std.specs.Prelude.{◌≡◌, IfOk, OnOk, Some, codes, false};
-ghost use Rattle.netlink_core.specs.Walk.{buffered_attribute};
+ghost use Rattle.std.specs.Prelude.{◌≡◌, IfOk, OnOk, Some, codes};
 ghost use Rattle.sock_diag_attributes.specs.NumbersModel.{numbers_view_model};
 ghost use Rattle.sock_diag_extras.specs.AnyNla.{any_model};
-ghost use Rattle.sock_diag_extras.specs.declared.any.nla.Sockets.{Sockets as SocketsRead};
-ghost use Rattle.sslist_lister.specs.AttributeFacts.{any_outcome, attribute_outcome, bbr_facts};
+ghost use Rattle.sslist_lister.specs.AttributeFacts.{any_facts, bbr_facts, value_status};
 ghost use Rattle.sslist_lister.specs.AttributeFacts.{dctcp_facts};
 ghost use Rattle.sslist_lister.specs.AttributeFacts.{legacy_memory_facts, memory_facts};
 ghost use Rattle.sslist_lister.specs.AttributeFacts.{memory_group, memory_kind, memory_member};
 ghost use Rattle.sslist_lister.specs.AttributeFacts.{option_bits, owner_facts};
 ghost use Rattle.sslist_lister.specs.AttributeFacts.{queue_facts, vegas_facts, vfs_facts};
-ghost use Rattle.sslist_lister.specs.Facts.{AddsFacts, facts_in, list_facts, number_facts};
-ghost use Rattle.sslist_lister.specs.Facts.{status_of};
+ghost use Rattle.sslist_lister.specs.Facts.{AddsFacts, list_facts, number_facts};
 ghost use Rattle.sslist_lister.specs.declared.facts.Shown.TheVariants.{Hex};
 
 use crate::facts::{
@@ -29,14 +26,13 @@ use crate::family_facts::{
     show_fanout, show_groups, show_netlink_flags, show_packet, show_packet_ring, show_umem,
     show_xdp, show_xdp_ring, show_xdp_statistics,
 };
-use crate::filter_program::{show_filter, status_of_filter};
-use crate::memberships::{show_memberships, status_of_memberships};
 use crate::tcp::{show_mptcp_info, show_tcp_info};
 use crate::ulp_info::{show_ulp, status_of_ulp};
-use netlink_core::NlaBuffer;
 use sock_diag_attributes::unix::nlas::NumbersView;
 use sock_diag_extras::any::{AnyNla, Sockets};
-use sock_diag_extras::{BbrInfo, DctcpInfo, Md5Signature, StoredAddress, VegasInfo};
+use sock_diag_extras::{
+    BbrInfo, DctcpInfo, FilterInstruction, Md5Signature, PacketMembership, StoredAddress, VegasInfo,
+};
 use sock_diag_families::netlink::NETLINK_DIAG_MEMINFO;
 use sock_diag_families::packet::PACKET_DIAG_MEMINFO;
 use sock_diag_families::xdp::XDP_DIAG_MEMINFO;
@@ -44,29 +40,11 @@ use sock_diag_records::constants::{INET_DIAG_SKMEMINFO, UNIX_DIAG_MEMINFO};
 use sock_diag_values::inet::{LegacyMemInfo, MemInfo};
 use std::alloc::{AllocError, Global};
 
-/// Shows the facts of an attribute of a reply about these sockets. Shows nothing if its kind is
-/// unknown, or if its value is invalid. The table shows names with letters that are not ASCII if
-/// `utf8` is set. JSON allocates temporary strings by `alloc`.
-pub(crate) fn show_attribute<S: FactSink>(
-    sink: &mut S,
-    alloc: Global,
-    utf8: bool,
-    sockets: Sockets,
-    nla: &NlaBuffer<'_>,
-) -> Result<(), AllocError>
-    ensures { OnOk result (AddsFacts (S.content sink.old) (S.content sink.new)
-        (facts_in (attribute_outcome utf8 sockets (buffered_attribute nla.now)))) }
-{
-    match AnyNla::read(sockets, nla) {
-        Ok(value) => show_any(sink, alloc, utf8, sockets, &value),
-        Err(_) => Ok(()),
-    }
-}
-
 /// Shows the facts of an attribute that says this, in a reply about these sockets. Shows nothing if
-/// its kind is unknown, or if its value is invalid. Only JSON has the name of a UNIX socket, its
-/// peer, its queues and its owner here, since the table has columns for them.
-fn show_any<S: FactSink>(
+/// its kind is unknown. Only JSON has the name of a UNIX socket, its peer, its queues and its owner
+/// here, since the table has columns for them. The table shows names with letters that are not
+/// ASCII if `utf8` is set. JSON allocates temporary strings by `alloc`.
+pub(crate) fn show_any<S: FactSink>(
     sink: &mut S,
     alloc: Global,
     utf8: bool,
@@ -74,7 +52,7 @@ fn show_any<S: FactSink>(
     value: &AnyNla<'_>,
 ) -> Result<(), AllocError>
     ensures { OnOk result (AddsFacts (S.content sink.old) (S.content sink.new)
-        (facts_in (any_outcome utf8 sockets (any_model value.now)))) }
+        (any_facts utf8 sockets (any_model value.now))) }
 {
     match value {
         AnyNla::Name(name) => sink.socket_name(alloc, *name),
@@ -125,7 +103,9 @@ fn show_any<S: FactSink>(
         AnyNla::ReceiveFrames(ring) => show_packet_ring(sink, b" ring_rx(", "rx_ring", ring),
         AnyNla::SendFrames(ring) => show_packet_ring(sink, b" ring_tx(", "tx_ring", ring),
         AnyNla::Fanout(number) => show_fanout(sink, *number),
-        AnyNla::Filter(instructions) => show_filter(sink, alloc, instructions),
+        AnyNla::Filter(instructions) => {
+            sink.records::<FilterInstruction>(alloc, b" bpf filter:", b",", "filter", instructions)
+        }
         AnyNla::XdpInfo(info) => show_xdp(sink, info),
         AnyNla::ReceiveRing(entries) => show_xdp_ring(sink, b" rx(", "rx_ring", *entries),
         AnyNla::SendRing(entries) => show_xdp_ring(sink, b" tx(", "tx_ring", *entries),
@@ -135,21 +115,19 @@ fn show_any<S: FactSink>(
         }
         AnyNla::Umem(umem) => show_umem(sink, umem),
         AnyNla::Statistics(counters) => show_xdp_statistics(sink, counters),
-        AnyNla::Memberships(records) => show_memberships(sink, alloc, records),
+        AnyNla::Memberships(records) => {
+            sink.records::<PacketMembership>(alloc, b"", b"", "mclist", records)
+        }
         AnyNla::BpfStorages(_) | AnyNla::Unknown(_) => Ok(()),
     }
 }
 
-/// Returns the status of an attribute that says this, in a reply about any sockets. It does not
-/// depend on the option `--utf8`, for which the contract passes `false`.
-pub(crate) fn status_of_any(value: &AnyNla<'_>) -> Status
-    ensures { (sockets : SocketsRead)
-        → result ≡ status_of (any_outcome false sockets (any_model value.now)) }
+/// Returns the status of an attribute that says this.
+pub(crate) fn status_of(value: &AnyNla<'_>) -> Status
+    ensures { result ≡ value_status (any_model value.now) }
 {
     match value {
         AnyNla::Ulp(info) => status_of_ulp(info.0.bytes()),
-        AnyNla::Filter(instructions) => status_of_filter(instructions),
-        AnyNla::Memberships(records) => status_of_memberships(records),
         AnyNla::BpfStorages(_) | AnyNla::Unknown(_) => Ok(false),
         _ => Ok(true),
     }

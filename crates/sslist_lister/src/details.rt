@@ -3,27 +3,24 @@
 //! the text is not specified. In the contracts, `buffered_attribute nla.now` is the attribute
 //! `nla`, and `collected found.now` is what the attributes in `found` say.
 
-ghost use Rattle.std.specs.Prelude.{◌≡◌, ◌≤◌, ◌++◌, Some, flat_map, length, OnOk};
+ghost use Rattle.std.specs.Prelude.{◌≡◌, ◌++◌, Some, flat_map, OnOk};
 ghost use Rattle.sslist_lister.specs.texts.Parts.{separator, details_after_separator};
 ghost use Rattle.netlink_core.specs.Walk.{buffered_attribute};
-ghost use Rattle.sslist_lister.specs.Collected.{collected, other_model, slot_attribute};
+ghost use Rattle.sslist_lister.specs.Collected.{collected, other_model, slot_value};
 ghost use Rattle.sslist_lister.specs.Details.{detail_group, details, invalid_attribute_text};
-ghost use Rattle.sslist_lister.specs.Details.{other_detail, status_text, timer_in};
+ghost use Rattle.sock_diag_extras.specs.AnyNla.{any_model};
+ghost use Rattle.sslist_lister.specs.Details.{other_detail, status_text};
 ghost use Rattle.sslist_lister.specs.Details.{unknown_attribute_text, valid_detail};
-ghost use Rattle.sock_diag_records.specs.declared.inet.response.TheConstants.{
-  INET_RESPONSE_HEADER_LEN,
-};
 
-use crate::attributes::{memory_kind, show_attribute};
-use crate::collected::Attributes;
+use crate::attributes::{memory_kind, show_any};
+use crate::collected::{Attributes, Valid};
 use crate::command_line::{Detail, Options};
 use crate::facts::Status;
 use crate::kinds::reason_of;
 use crate::texts::cells::push_number;
-use crate::texts::parts::{TimerFields, push_pair, push_shown_cookie, push_shown_timer, separator};
-use byteorder::{ByteOrder, LittleEndian};
+use crate::texts::parts::{push_pair, push_shown_cookie, push_shown_timer, separator};
 use netlink_core::{DecodeError, NlaBuffer};
-use sock_diag_extras::any::Sockets;
+use sock_diag_extras::any::{AnyNla, RawTimer, Sockets};
 use sock_diag_extras::constants::INET_DIAG_ULP_INFO;
 use sock_diag_records::constants::{
     INET_DIAG_BBRINFO, INET_DIAG_CONG, INET_DIAG_DCTCPINFO, INET_DIAG_INFO, INET_DIAG_LOCALS,
@@ -31,27 +28,13 @@ use sock_diag_records::constants::{
 };
 use std::alloc::AllocError;
 
-/// Returns the timer fields of a reply about an IPv4 or IPv6 socket. The payload must have at least
-/// the bytes of the header, which contains them.
-pub(crate) fn timer_of(payload: &[u8]) -> TimerFields
-    requires { INET_RESPONSE_HEADER_LEN ≤ length payload.now }
-    ensures { result ≡ timer_in payload.now }
-{
-    TimerFields {
-        // The offsets of `idiag_timer`, `idiag_retrans` and `idiag_expires`.
-        class: payload[2],
-        retransmits: payload[3],
-        expires: LittleEndian::read_u32(&payload[52..]),
-    }
-}
-
 /// Appends the details of a socket with this timer, this cookie and the attributes `found`. They
 /// follow the separator, which is a line feed and a tab, or nothing with `-O`. Appends nothing if
 /// there are no details.
 pub(crate) fn push_details(
     text: &mut Vec<u8>,
     options: Options,
-    timer: &TimerFields,
+    timer: &RawTimer,
     cookie: &[u8; 8],
     found: &Attributes<'_>,
 ) -> Result<(), AllocError>
@@ -75,7 +58,7 @@ pub(crate) fn push_details(
 fn push_selected(
     text: &mut Vec<u8>,
     options: Options,
-    timer: &TimerFields,
+    timer: &RawTimer,
     cookie: &[u8; 8],
     found: &Attributes<'_>,
 ) -> Result<(), AllocError>
@@ -94,34 +77,36 @@ fn push_valid(
     text: &mut Vec<u8>,
     options: Options,
     sockets: Sockets,
-    slots: &[Option<NlaBuffer<'_>>],
+    slots: &[Option<Valid<'_>>],
 ) -> Result<(), AllocError>
     ensures { OnOk result (text.new.items ≡ text.old.items
-        ++ flat_map (λ slot. valid_detail options sockets (slot_attribute slot)) slots.now) }
+        ++ flat_map (λ slot. valid_detail options sockets (slot_value slot)) slots.now) }
 {
     for slot in slots {
-        if let Some(nla) = slot {
-            push_facts(text, options, sockets, nla)?;
+        if let Some((kind, value)) = slot {
+            push_facts(text, options, sockets, *kind, value)?;
         }
     }
     Ok(())
 }
 
-/// Appends the facts of a valid attribute, if the options select its group of details.
+/// Appends the facts of a valid attribute of this kind, which says `value`, if the options select
+/// its group of details.
 fn push_facts(
     text: &mut Vec<u8>,
     options: Options,
     sockets: Sockets,
-    nla: &NlaBuffer<'_>,
+    kind: u16,
+    value: &AnyNla<'_>,
 ) -> Result<(), AllocError>
     ensures { OnOk result (text.new.items ≡ text.old.items
-        ++ valid_detail options sockets (Some (buffered_attribute nla.now))) }
+        ++ valid_detail options sockets (Some (kind, any_model value.now))) }
 {
-    if !options.shows(detail_group(sockets, nla.kind())) {
+    if !options.shows(detail_group(sockets, kind)) {
         return Ok(());
     }
     let alloc = *text.allocator();
-    show_attribute(text, alloc, options.utf8, sockets, nla)
+    show_any(text, alloc, options.utf8, sockets, value)
 }
 
 /// Appends each unknown or invalid attribute, if the options select its group of details.

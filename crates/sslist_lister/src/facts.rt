@@ -13,7 +13,8 @@ ghost use Rattle.sock_diag_attributes.specs.NameModel.{name_view_model};
 ghost use Rattle.sslist_lister.specs.Facts.{AddsFacts, AddsItems, Facts, SinkContent, both};
 ghost use Rattle.sslist_lister.specs.Facts.{flag_facts, group, json_group, list_facts, name_facts};
 ghost use Rattle.sslist_lister.specs.Facts.{named_member, no_facts, number_facts, number_row_facts};
-ghost use Rattle.sslist_lister.specs.Facts.{number_row_of, number_text, numbers, separated};
+ghost use Rattle.sslist_lister.specs.Facts.{number_row_of, number_text, numbers};
+ghost use Rattle.sslist_lister.specs.Facts.{separated_records};
 ghost use Rattle.sslist_lister.specs.Facts.{text_facts};
 ghost use Rattle.sslist_lister.specs.declared.facts.Shown.TheVariants.{FanoutMode};
 ghost use Rattle.sslist_lister.specs.laws.FactTokens.{group_tokens, no_tokens};
@@ -148,7 +149,7 @@ pub(crate) trait FactSink {
     ) -> Result<(), AllocError>
         ensures { OnOk result (AddsFacts (content self.old) (content self.new)
             (records_facts T.record_text T.record_members before.now later.now member.now
-            (records_in T.size T.parsed value.now))) };
+            (records_in T.layout value.now))) };
 
     /// Begins a group: the text `opening` in the table, and the object `member` in JSON.
     fn begin(&mut self, opening: &[u8], member: &str) -> Result<(), AllocError>
@@ -559,7 +560,7 @@ fn push_separated(
     numbers: &[u64],
 ) -> Result<(), AllocError>
     ensures { OnOk result (text.new.items
-        ≡ text.old.items ++ separated before.now later.now numbers.now) }
+        ≡ text.old.items ++ separated_records decimal before.now later.now numbers.now) }
 {
     let mut separator = before;
     for number in numbers {

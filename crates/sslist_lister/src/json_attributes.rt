@@ -11,7 +11,7 @@ ghost use Rattle.std.specs.Prelude.{◌≡◌, ◌++◌, List, OnOk, codes, flat
 ghost use Rattle.json.specs.Lex.{tokens};
 ghost use Rattle.json.specs.Tree.{json_tokens};
 ghost use Rattle.netlink_core.specs.Walk.{buffered_attribute};
-ghost use Rattle.sslist_lister.specs.Collected.{collected, other_model, slot_attribute};
+ghost use Rattle.sslist_lister.specs.Collected.{collected, other_model, slot_value};
 ghost use Rattle.sslist_lister.specs.JsonAttributes.{attribute_members, attributes_members};
 ghost use Rattle.sslist_lister.specs.JsonAttributes.{item_members, later_list, other_item};
 ghost use Rattle.sslist_lister.specs.JsonAttributes.{socket_json, socket_members};
@@ -20,8 +20,8 @@ ghost use Rattle.sslist_lister.specs.texts.JsonData.{JsonMember, array_member, j
 ghost use Rattle.sslist_lister.specs.texts.JsonData.{object_of, optional_member};
 ghost use Rattle.sslist_lister.specs.texts.JsonWriting.{KeepsPrefix, members_tokens};
 
-use crate::attributes::show_attribute;
-use crate::collected::Attributes;
+use crate::attributes::show_any;
+use crate::collected::{Attributes, Valid};
 use crate::facts::Status;
 use crate::kinds::reason_of;
 use crate::texts::json_writing::{write_numbers, write_optional, write_text};
@@ -122,7 +122,7 @@ fn write_members(
     ensures prefix { KeepsPrefix result writer.old writer.new }
     ensures members { OnOk result (writer.new.tokens ≡ writer.old.tokens
         ++ members_tokens
-        (flat_map (valid_members found.now.sockets) (map slot_attribute found.now.first.slots))) }
+        (flat_map (valid_members found.now.sockets) (map slot_value found.now.first.slots))) }
 {
     write_valid(alloc, writer, found.sockets, &found.first.slots)
 }
@@ -133,17 +133,17 @@ fn write_valid(
     alloc: Global,
     writer: &mut Writer,
     sockets: Sockets,
-    slots: &[Option<NlaBuffer<'_>>],
+    slots: &[Option<Valid<'_>>],
 ) -> Result<(), AllocError>
     ensures prefix { KeepsPrefix result writer.old writer.new }
     ensures tokens { OnOk result (writer.new.tokens ≡ writer.old.tokens
-        ++ flat_map (λ slot. members_tokens (valid_members sockets (slot_attribute slot)))
+        ++ flat_map (λ slot. members_tokens (valid_members sockets (slot_value slot)))
         slots.now) }
 {
     for slot in slots {
-        if let Some(nla) = slot {
+        if let Some((_, value)) = slot {
             // `false`: JSON does not depend on `--utf8`.
-            show_attribute(writer, alloc, false, sockets, nla)?;
+            show_any(writer, alloc, false, sockets, value)?;
         }
     }
     Ok(())

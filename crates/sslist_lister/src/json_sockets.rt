@@ -13,8 +13,8 @@ use crate::line::InetSocket;
 use crate::sctp::name_of_inet_state;
 use crate::texts::cells::name_of_state;
 use crate::texts::json_writing::{write_address, write_cookie, write_numbers, write_text};
-use crate::texts::parts::TimerFields;
 use json::Writer;
+use sock_diag_extras::any::RawTimer;
 use sock_diag_records::constants::AF_UNIX;
 use sock_diag_records::inet::InetResponseHeader;
 use sock_diag_records::unix::UnixResponseHeader;
@@ -88,7 +88,7 @@ fn write_inet_header(
 /// Writes the members of the header of an IPv4 or IPv6 socket that precede the addresses.
 fn write_inet_front(
     writer: &mut Writer,
-    timer: &TimerFields,
+    timer: &RawTimer,
     header: &InetResponseHeader,
 ) -> Result<(), AllocError>
     ensures prefix { KeepsPrefix result writer.old writer.new }
@@ -98,7 +98,7 @@ fn write_inet_front(
     let rows = [
         ("family", header.family as u64),
         ("state", header.state as u64),
-        ("timer", timer.class as u64),
+        ("timer", timer.kind as u64),
         ("retrans", timer.retransmits as u64),
         ("sport", header.socket_id.source_port as u64),
         ("dport", header.socket_id.destination_port as u64),
@@ -109,7 +109,7 @@ fn write_inet_front(
 /// Writes the members of the header of an IPv4 or IPv6 socket that follow the cookie.
 fn write_inet_back(
     writer: &mut Writer,
-    timer: &TimerFields,
+    timer: &RawTimer,
     header: &InetResponseHeader,
 ) -> Result<(), AllocError>
     ensures prefix { KeepsPrefix result writer.old writer.new }

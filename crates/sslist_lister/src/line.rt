@@ -6,53 +6,49 @@
 //! In the contracts, `pieces_in bytes` is each attribute in the bytes, and then the framing error,
 //! if there is one. `collected found.now` is what the attributes in `found` say.
 
-ghost use Rattle.std.specs.Prelude.{◌≡◌, ◌++◌, if◌then◌else◌, Some, IfOk, OnOk, option_map};
-ghost use Rattle.std.specs.Prelude.{option_and_then};
-ghost use Rattle.sslist_lister.specs.texts.CellsModel.{cells_model};
-ghost use Rattle.sock_diag_records.specs.InetResponse.{inet_response_header};
-ghost use Rattle.sock_diag_records.specs.UnixResponseHeader.{unix_response_header};
+ghost use Rattle.std.specs.Prelude.{◌≡◌, ◌≤◌, ◌++◌, IfOk, OnOk, if◌then◌else◌, length};
+ghost use Rattle.std.specs.Prelude.{◌↔◌, IsTrue, option_and_then, option_map};
 ghost use Rattle.sock_diag_attributes.specs.NameModel.{name_view_model};
-ghost use Rattle.sslist_lister.specs.Collected.{collected, first_in, summary_of};
+ghost use Rattle.sock_diag_extras.specs.AnyHeader.{any_header, header_size};
+ghost use Rattle.sock_diag_extras.specs.AnyParts.{owner_of, peer_of, queue_lengths_of};
+ghost use Rattle.sock_diag_extras.specs.AnyParts.{socket_name_of};
+ghost use Rattle.sock_diag_extras.specs.Pieces.{framing_error_of, pieces_in};
+ghost use Rattle.sock_diag_extras.specs.declared.any.nla.Sockets.TheVariants.{Unix};
+ghost use Rattle.sslist_lister.specs.Collected.{collected, summary_of, value_in};
 ghost use Rattle.sslist_lister.specs.JsonAttributes.{socket_json};
 ghost use Rattle.sslist_lister.specs.JsonListing.{inet_output, unix_output};
 ghost use Rattle.sslist_lister.specs.JsonSockets.{inet_header_members, unix_header_members};
-ghost use Rattle.sslist_lister.specs.Listing.{inet_reply_lines, is_inet_type};
-ghost use Rattle.sslist_lister.specs.Listing.{reply_error, reply_kind, reply_lines};
-ghost use Rattle.sslist_lister.specs.Listing.{payload_error, payload_lines};
-ghost use Rattle.sock_diag_extras.specs.Pieces.{framing_error_of, pieces_in};
-ghost use Rattle.sslist_lister.specs.Protocol.{protocol_of_reply};
+ghost use Rattle.sslist_lister.specs.Listing.{after_header, header_lines, inet_reply_lines};
+ghost use Rattle.sslist_lister.specs.Listing.{reply_error, reply_lines};
 ghost use Rattle.sslist_lister.specs.Selection.{lists_inet};
 ghost use Rattle.sslist_lister.specs.Table.{inet_columns, inet_first_columns, inet_lines};
-ghost use Rattle.sslist_lister.specs.Table.{info_of_reply, unix_columns, unix_first_columns};
-ghost use Rattle.sslist_lister.specs.Table.{unix_lines, unix_value, user_id};
-ghost use Rattle.sock_diag_extras.specs.declared.any.nla.Sockets.TheVariants.{Inet, Unix};
+ghost use Rattle.sslist_lister.specs.Table.{inet_sockets, unix_columns, unix_first_columns};
+ghost use Rattle.sslist_lister.specs.Table.{unix_lines};
+ghost use Rattle.sslist_lister.specs.texts.CellsModel.{cells_model};
 
 use crate::collected::Attributes;
 use crate::command_line::{IPPROTO_MPTCP, IPPROTO_TCP, Options};
-use crate::details::{push_details, timer_of};
+use crate::details::push_details;
 use crate::json_attributes::push_json;
 use crate::kinds::{name_of_inet_kind, name_of_unix_kind};
 use crate::name_cells::push_name_column;
 use crate::others::push_other;
-use crate::pieces::find_framing_error;
-use crate::protocol::protocol_of_reply;
+use crate::protocol::protocol_in;
 use crate::sctp::{is_association, name_of_inet_state, tcp_state_of};
 use crate::texts::cells::{
     Cells, name_of_state, push_endpoint, push_endpoint_column, push_first_columns,
     push_number_or_star,
 };
-use crate::texts::parts::{NO_TIMER, TimerFields};
+use crate::texts::parts::NO_TIMER;
 use netlink_core::DecodeError;
-use sock_diag_attributes::unix::nlas::{NameView, NlaView};
-use sock_diag_extras::any::{InfoFormat, Sockets};
-use sock_diag_extras::constants::{DCCPDIAG_GETSOCK, TCPDIAG_GETSOCK, UNIX_DIAG_UID};
-use sock_diag_extras::parse_uid;
+use sock_diag_attributes::unix::nlas::NameView;
+use sock_diag_extras::any::{AnyHeader, AnyNla, InfoFormat, RawTimer, Sockets};
+use sock_diag_extras::constants::UNIX_DIAG_UID;
 use sock_diag_records::constants::{
-    AF_INET, AF_INET6, AF_UNIX, IPPROTO_SCTP, SOCK_DIAG_BY_FAMILY, UNIX_DIAG_NAME, UNIX_DIAG_PEER,
-    UNIX_DIAG_RQLEN,
+    AF_INET6, IPPROTO_SCTP, UNIX_DIAG_NAME, UNIX_DIAG_PEER, UNIX_DIAG_RQLEN,
 };
-use sock_diag_records::inet::{INET_RESPONSE_HEADER_LEN, InetResponseHeader};
-use sock_diag_records::unix::{UNIX_RESPONSE_HEADER_LEN, UnixResponseHeader};
+use sock_diag_records::inet::InetResponseHeader;
+use sock_diag_records::unix::UnixResponseHeader;
 use std::alloc::AllocError;
 
 /// Heading of the table.
@@ -79,59 +75,60 @@ pub(crate) fn push_reply(
     message_type: u16,
     payload: &[u8],
 ) -> Result<Option<DecodeError>, AllocError>
-    ensures lines { OnOk result (text.new.items ≡ text.old.items ++ payload_lines options list
-        requested (reply_kind payload.now message_type) payload.now) }
+    ensures lines { OnOk result (text.new.items ≡ text.old.items ++ reply_lines options list
+        requested payload.now (any_header payload.now message_type)) }
     ensures error { IfOk result (λ error.
-        error ≡ payload_error (reply_kind payload.now message_type) payload.now) }
+        error ≡ reply_error payload.now (any_header payload.now message_type)) }
 {
-    if payload.len() < 2 {
-        let got = payload.len();
-        return Ok(Some(DecodeError::MessageTooShort { got }));
-    }
-    if is_inet_type(message_type) {
-        return push_inet(text, options, list, requested, payload);
-    }
-    if message_type != SOCK_DIAG_BY_FAMILY {
-        return Ok(Some(DecodeError::UnknownMessageType { message_type }));
-    }
-    match payload[0] {
-        AF_UNIX => push_unix(text, options, list, payload),
-        AF_INET | AF_INET6 => push_inet(text, options, list, requested, payload),
-        family => push_other(text, options, list, family, payload),
-    }
-}
-
-/// Returns whether a reply of this type of message is about an IPv4 or IPv6 socket.
-fn is_inet_type(message_type: u16) -> bool
-    ensures { result ≡ is_inet_type message_type }
-{
-    matches!(message_type, TCPDIAG_GETSOCK | DCCPDIAG_GETSOCK)
-}
-
-/// Appends what is written for a UNIX socket, if the options select it. Returns the error of the
-/// header, or else of the bytes after the last attribute, if there is one.
-fn push_unix(
-    text: &mut Vec<u8>,
-    options: Options,
-    list: u64,
-    payload: &[u8],
-) -> Result<Option<DecodeError>, AllocError>
-    ensures lines { OnOk result (text.new.items ≡ text.old.items
-        ++ reply_lines unix_response_header Unix (unix_output options list) payload.now) }
-    ensures error { IfOk result (λ error. error ≡ reply_error unix_response_header payload.now) }
-{
-    match UnixResponseHeader::from_prefix(payload) {
-        Ok(header) => {
-            let attributes = &payload[UNIX_RESPONSE_HEADER_LEN..];
-            push_unix_socket(text, options, list, &header, attributes)
-        }
+    match AnyHeader::parse(payload, message_type) {
+        Ok(header) => push_socket(text, options, list, requested, header, payload),
+        Err(DecodeError::UnknownFamily { .. }) => Ok(None),
         Err(error) => Ok(Some(error)),
     }
 }
 
+/// Appends what is written for the reply with this payload, which begins with this header, if the
+/// options select its socket. Returns the error of the bytes after the last attribute, if there are
+/// any.
+fn push_socket(
+    text: &mut Vec<u8>,
+    options: Options,
+    list: u64,
+    requested: Option<u32>,
+    header: AnyHeader,
+    payload: &[u8],
+) -> Result<Option<DecodeError>, AllocError>
+    requires { header_size header ≤ length payload.now }
+    ensures lines { OnOk result (text.new.items ≡ text.old.items
+        ++ header_lines options list requested payload.now header) }
+    ensures error { IfOk result
+        (λ error. error ≡ framing_error_of (pieces_in (after_header payload.now header))) }
+{
+    let bytes = after_header(payload, &header);
+    match header {
+        AnyHeader::Unix(header) => push_unix(text, options, list, &header, bytes),
+        AnyHeader::Inet(header) => {
+            let timer = RawTimer::parse(payload);
+            push_inet(text, options, list, requested, header, timer, bytes)
+        }
+        AnyHeader::Netlink(header) => push_other(text, options, list, &header, bytes),
+        AnyHeader::Packet(header) => push_other(text, options, list, &header, bytes),
+        AnyHeader::Vsock(header) => push_other(text, options, list, &header, bytes),
+        AnyHeader::Xdp(header) => push_other(text, options, list, &header, bytes),
+    }
+}
+
+/// Returns the bytes of a payload after the header that it begins with.
+fn after_header<'a>(payload: &'a [u8], header: &AnyHeader) -> &'a [u8]
+    requires { header_size header.now ≤ length payload.now }
+    ensures { result.now ≡ after_header payload.entry.now header.now }
+{
+    &payload[header.size()..]
+}
+
 /// Appends what is written for a UNIX socket with this header, if the options select it. `bytes`
 /// are its attributes. Returns the error of the bytes after the last attribute, if there are any.
-fn push_unix_socket(
+fn push_unix(
     text: &mut Vec<u8>,
     options: Options,
     list: u64,
@@ -139,16 +136,15 @@ fn push_unix_socket(
     bytes: &[u8],
 ) -> Result<Option<DecodeError>, AllocError>
     ensures lines { OnOk result (text.new.items ≡ text.old.items ++ unix_output options list
-        header.now (summary_of Unix (pieces_in bytes.now))) }
+        header.now (summary_of Unix bytes.now)) }
     ensures error { IfOk result
         (λ error. error ≡ framing_error_of (pieces_in bytes.now)) }
 {
-    if !options.lists_unix(header.state) {
-        return Ok(find_framing_error(bytes));
-    }
     let mut found = Attributes::new(*text.allocator(), Sockets::Unix);
     found.collect(bytes)?;
-    push_unix_lines(text, options, list, header, &found)?;
+    if options.lists_unix(header.state) {
+        push_unix_lines(text, options, list, header, &found)?;
+    }
     Ok(found.end)
 }
 
@@ -213,23 +209,20 @@ fn unix_cells(header: &UnixResponseHeader, queues: Option<(u32, u32)>, uid: Opti
 /// Returns the name of a UNIX socket, if the reply has it.
 fn name_in<'a>(found: &Attributes<'a>) -> Option<NameView<'a>>
     ensures { option_map name_view_model result
-        ≡ unix_value UNIX_DIAG_NAME (collected found.now) }
+        ≡ option_and_then socket_name_of (value_in UNIX_DIAG_NAME (collected found.now)) }
 {
-    match NlaView::parse(&found.first_of(UNIX_DIAG_NAME)?) {
-        Ok(NlaView::Name(name)) => Some(name),
-        // Not reached, since `first_of` returns a valid attribute of this kind.
+    match found.value_of_kind(UNIX_DIAG_NAME)? {
+        AnyNla::Name(name) => Some(*name),
         _ => None,
     }
 }
 
 /// Returns the inode of the peer of a UNIX socket, if the reply has it.
 fn peer_in(found: &Attributes<'_>) -> Option<u32>
-    ensures { result
-        ≡ unix_value UNIX_DIAG_PEER (collected found.now) }
+    ensures { result ≡ option_and_then peer_of (value_in UNIX_DIAG_PEER (collected found.now)) }
 {
-    match NlaView::parse(&found.first_of(UNIX_DIAG_PEER)?) {
-        Ok(NlaView::Peer(inode)) => Some(inode),
-        // Not reached, since `first_of` returns a valid attribute of this kind.
+    match found.value_of_kind(UNIX_DIAG_PEER)? {
+        AnyNla::Peer(inode) => Some(*inode),
         _ => None,
     }
 }
@@ -238,20 +231,22 @@ fn peer_in(found: &Attributes<'_>) -> Option<u32>
 /// them.
 fn queues_in(found: &Attributes<'_>) -> Option<(u32, u32)>
     ensures { result
-        ≡ unix_value UNIX_DIAG_RQLEN (collected found.now) }
+        ≡ option_and_then queue_lengths_of (value_in UNIX_DIAG_RQLEN (collected found.now)) }
 {
-    match NlaView::parse(&found.first_of(UNIX_DIAG_RQLEN)?) {
-        Ok(NlaView::ReceiveQueueLength(first, second)) => Some((first, second)),
-        // Not reached, since `first_of` returns a valid attribute of this kind.
+    match found.value_of_kind(UNIX_DIAG_RQLEN)? {
+        AnyNla::QueueLengths(receive, send) => Some((*receive, *send)),
         _ => None,
     }
 }
 
 /// Returns the user id of the owner of a UNIX socket, if the reply has it.
 fn user_in(found: &Attributes<'_>) -> Option<u32>
-    ensures { result ≡ option_and_then user_id (first_in UNIX_DIAG_UID (collected found.now)) }
+    ensures { result ≡ option_and_then owner_of (value_in UNIX_DIAG_UID (collected found.now)) }
 {
-    parse_uid(found.first_of(UNIX_DIAG_UID)?.value())
+    match found.value_of_kind(UNIX_DIAG_UID)? {
+        AnyNla::Owner(user) => Some(*user),
+        _ => None,
+    }
 }
 
 /// An IPv4 or IPv6 socket.
@@ -261,82 +256,110 @@ pub(crate) struct InetSocket {
     pub(crate) protocol: Option<u32>,
     /// Whether the reply is about an SCTP association instead of a socket.
     pub(crate) is_association: bool,
-    /// The timer fields of the header.
-    pub(crate) timer: TimerFields,
+    /// The timer.
+    pub(crate) timer: RawTimer,
     /// The header of the reply.
     pub(crate) header: InetResponseHeader,
 }
 
-/// Appends what is written for an IPv4 or IPv6 socket, if the options select it. `requested` is the
-/// protocol of the request that the reply answers, if it is known. Returns the error of the header,
-/// or else of the bytes after the last attribute, if there is one.
+/// Appends what is written for the reply about an IPv4 or IPv6 socket with this header and this
+/// timer, if the options select it. `bytes` are its attributes, and `requested` is the protocol of
+/// the request that the reply answers, if it is known. Returns the error of the bytes after the
+/// last attribute, if there are any.
 fn push_inet(
     text: &mut Vec<u8>,
     options: Options,
     list: u64,
     requested: Option<u32>,
-    payload: &[u8],
+    header: InetResponseHeader,
+    timer: RawTimer,
+    bytes: &[u8],
 ) -> Result<Option<DecodeError>, AllocError>
     ensures lines { OnOk result (text.new.items ≡ text.old.items
-        ++ inet_reply_lines options list (protocol_of_reply requested payload.now) payload.now) }
-    ensures error { IfOk result (λ error. error ≡ reply_error inet_response_header payload.now) }
+        ++ inet_reply_lines options list requested header timer bytes.now) }
+    ensures error { IfOk result
+        (λ error. error ≡ framing_error_of (pieces_in bytes.now)) }
 {
-    let protocol = protocol_of_reply(requested, payload);
-    push_inet_reply(text, options, list, protocol, payload)
+    let asked = inet_sockets(requested, false);
+    let mut found = Attributes::new(*text.allocator(), asked);
+    found.collect(bytes)?;
+    let protocol = protocol_in(requested, &found);
+    let is_association = is_association(protocol, &found);
+    let socket = InetSocket {
+        protocol,
+        is_association,
+        timer,
+        header,
+    };
+    push_inet_socket(text, options, list, &socket, &found, asked, bytes)?;
+    Ok(found.end)
 }
 
-/// Does what [`push_inet`] does, for a socket of this protocol.
-fn push_inet_reply(
-    text: &mut Vec<u8>,
-    options: Options,
-    list: u64,
-    protocol: Option<u32>,
-    payload: &[u8],
-) -> Result<Option<DecodeError>, AllocError>
-    ensures lines { OnOk result (text.new.items ≡ text.old.items
-        ++ inet_reply_lines options list protocol payload.now) }
-    ensures error { IfOk result (λ error. error ≡ reply_error inet_response_header payload.now) }
-{
-    match InetResponseHeader::from_prefix(payload) {
-        Ok(header) => {
-            let attributes = &payload[INET_RESPONSE_HEADER_LEN..];
-            let timer = timer_of(payload);
-            let socket = InetSocket {
-                protocol,
-                is_association: is_association(protocol, attributes),
-                timer,
-                header,
-            };
-            push_inet_socket(text, options, list, &socket, attributes)
-        }
-        Err(error) => Ok(Some(error)),
-    }
-}
-
-/// Appends what is written for an IPv4 or IPv6 socket, if the options select it. `bytes` are its
-/// attributes. Returns the error of the bytes after the last attribute, if there are any.
+/// Appends what is written for an IPv4 or IPv6 socket, if the options select it. `found` are its
+/// attributes in `bytes`, read as those of a reply about the sockets `asked`. They are read again
+/// if it is about other sockets, by the protocol of the socket.
 fn push_inet_socket(
     text: &mut Vec<u8>,
     options: Options,
     list: u64,
     socket: &InetSocket,
+    found: &Attributes<'_>,
+    asked: Sockets,
     bytes: &[u8],
-) -> Result<Option<DecodeError>, AllocError>
-    ensures lines { OnOk result (text.new.items ≡ text.old.items
-        ++ inet_output options list socket.now (summary_of
-        (Inet (info_of_reply socket.now.protocol socket.now.is_association))
-        (pieces_in bytes.now))) }
-    ensures error { IfOk result
-        (λ error. error ≡ framing_error_of (pieces_in bytes.now)) }
+) -> Result<(), AllocError>
+    requires { collected found.now ≡ summary_of asked bytes.now }
+    ensures { OnOk result (text.new.items ≡ text.old.items ++ inet_output options list socket.now
+        (summary_of (inet_sockets socket.now.protocol socket.now.is_association) bytes.now)) }
 {
-    if !lists_inet(options, socket) {
-        return Ok(find_framing_error(bytes));
+    let sockets = inet_sockets(socket.protocol, socket.is_association);
+    if are_same(sockets, asked) {
+        return push_inet_output(text, options, list, socket, found);
     }
-    let sockets = Sockets::Inet(info_of(socket.protocol, socket.is_association));
+    push_inet_again(text, options, list, socket, sockets, bytes)
+}
+
+/// Returns whether two replies are about the same sockets.
+fn are_same(sockets: Sockets, others: Sockets) -> bool
+    ensures { IsTrue result ↔ (sockets ≡ others) }
+{
+    sockets == others
+}
+
+/// Appends what is written for an IPv4 or IPv6 socket, if the options select it. `bytes` are its
+/// attributes, which are read as those of a reply about these sockets.
+fn push_inet_again(
+    text: &mut Vec<u8>,
+    options: Options,
+    list: u64,
+    socket: &InetSocket,
+    sockets: Sockets,
+    bytes: &[u8],
+) -> Result<(), AllocError>
+    ensures { OnOk result (text.new.items ≡ text.old.items ++ inet_output options list socket.now
+        (summary_of sockets bytes.now)) }
+{
     let mut found = Attributes::new(*text.allocator(), sockets);
     found.collect(bytes)?;
-    push_inet_lines(text, options, list, socket, &found)?;
-    Ok(found.end)
+    push_inet_output(text, options, list, socket, &found)
+}
+
+/// Appends what is written for an IPv4 or IPv6 socket with the attributes `found`, if the options
+/// select it.
+fn push_inet_output(
+    text: &mut Vec<u8>,
+    options: Options,
+    list: u64,
+    socket: &InetSocket,
+    found: &Attributes<'_>,
+) -> Result<(), AllocError>
+    ensures { OnOk result (text.new.items ≡ text.old.items
+        ++ inet_output options list socket.now (collected found.now)) }
+{
+    if lists_inet(options, socket) {
+        push_inet_lines(text, options, list, socket, found)
+    } else {
+        Ok(())
+    }
 }
 
 /// Appends the lines of the table for an IPv4 or IPv6 socket with the attributes `found`, or its
@@ -379,18 +402,19 @@ fn lists_inet(options: Options, socket: &InetSocket) -> bool
             .meets_addresses(id.source_address, id.destination_address)
 }
 
-/// Returns the format of `INET_DIAG_INFO` of an SCTP association, or else by the protocol:
+/// Returns the sockets that a reply about an IPv4 or IPv6 socket of this protocol is about. The
+/// format of `INET_DIAG_INFO` is that of an SCTP association, or else that of the protocol:
 /// `Unknown` for any other than TCP, MPTCP and SCTP, and for `None`.
-fn info_of(protocol: Option<u32>, is_association: bool) -> InfoFormat
-    ensures { result ≡ info_of_reply protocol is_association }
+fn inet_sockets(protocol: Option<u32>, is_association: bool) -> Sockets
+    ensures { result ≡ inet_sockets protocol is_association }
 {
-    match protocol {
+    Sockets::Inet(match protocol {
         _ if is_association => InfoFormat::Sctp,
         Some(IPPROTO_TCP) => InfoFormat::Tcp,
         Some(IPPROTO_MPTCP) => InfoFormat::Mptcp,
         Some(number) if number == IPPROTO_SCTP as u32 => InfoFormat::Sctp,
         _ => InfoFormat::Unknown,
-    }
+    })
 }
 
 /// Appends the columns of an IPv4 or IPv6 socket.

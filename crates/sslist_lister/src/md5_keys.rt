@@ -2,37 +2,22 @@
 //! text or to a writer may fail: then an allocation failed, and the content is not specified. The
 //! clauses `prefix` state that the bytes before the first token of the writer are unchanged.
 
-ghost use Rattle.std.specs.Prelude.{◌≡◌, ◌≤◌, ◌++◌, OnOk, SomeIff, flat_map, length};
-ghost use Rattle.sslist_lister.specs.Md5Keys.{key_at, key_byte, md5_key_members, md5_key_text};
-ghost use Rattle.sslist_lister.specs.declared.md5_keys.TheConstants.{KEY_LENGTH};
+ghost use Rattle.std.proofs.Common.{rules};
+ghost use Rattle.std.specs.Prelude.{◌≡◌, ◌++◌, OnOk, flat_map};
+ghost use Rattle.sslist_lister.specs.Md5Keys.{key_byte, md5_key_members, md5_key_text};
 ghost use Rattle.sslist_lister.specs.texts.JsonWriting.{KeepsPrefix, members_tokens};
 
 use crate::records::{ShownRecord, push_ip_or_star, write_ip};
 use crate::texts::cells::{push_digits, push_escaped_byte, push_number};
 use crate::texts::json_writing::{write_numbers, write_text};
 use json::Writer;
-use sock_diag_extras::{Md5Signature, read_attribute_record};
+use sock_diag_extras::Md5Signature;
 use std::alloc::{AllocError, Global};
 
-/// Length of a `struct tcp_diag_md5sig` in bytes.
-const KEY_LENGTH: usize = 100;
-
 impl ShownRecord for Md5Signature {
-    ghost size = { KEY_LENGTH };
-
-    ghost parsed = { key_at };
-
     ghost record_text = { md5_key_text };
 
     ghost record_members = { md5_key_members };
-
-    fn record_size() -> usize {
-        KEY_LENGTH
-    }
-
-    fn read(bytes: &[u8]) -> Option<Md5Signature> {
-        read_key(bytes)
-    }
 
     fn push_text(&self, text: &mut Vec<u8>) -> Result<(), AllocError> {
         push_key(text, self)
@@ -41,15 +26,8 @@ impl ShownRecord for Md5Signature {
     fn write_members(&self, alloc: Global, writer: &mut Writer) -> Result<(), AllocError> {
         write_key_members(alloc, writer, self)
     }
-}
 
-/// Returns the key at the start of the bytes. Returns `None` if they are fewer than the
-/// `KEY_LENGTH` bytes of a key.
-#[tactic(auto, unfolding(crate::specs::Md5Keys::key_at))]
-fn read_key(bytes: &[u8]) -> Option<Md5Signature>
-    ensures { SomeIff result (KEY_LENGTH ≤ length bytes.now) (key_at bytes.now) }
-{
-    read_attribute_record::<Md5Signature>(bytes)
+    ghost has_bytes = { Prim.search rules };
 }
 
 /// Appends a key: the address of the peers, a slash, the length of the prefix, an equals sign, and

@@ -6,21 +6,17 @@
 //! In the contracts, `collected found.now` is what the attributes in `found` say. `H.json_members`
 //! are the members of a header in JSON.
 
-ghost use Rattle.std.specs.Prelude.{◌≡◌, ◌++◌, ◌≤◌, drop, IfOk, OnOk, option_map};
+ghost use Rattle.std.specs.Prelude.{◌≡◌, ◌++◌, IfOk, OnOk, option_map};
 ghost use Rattle.sslist_lister.specs.texts.CellsModel.{cells_model};
 ghost use Rattle.sslist_lister.specs.texts.Cells.{column};
-ghost use Rattle.netlink_core.specs.Walk.{buffered_attribute};
 ghost use Rattle.sslist_lister.specs.Collected.{Summary, collected, summary_of};
 ghost use Rattle.sslist_lister.specs.JsonListing.{other_output};
-ghost use Rattle.sslist_lister.specs.Listing.{family_error, family_lines, reply_error};
-ghost use Rattle.sslist_lister.specs.Listing.{reply_lines};
-ghost use Rattle.sslist_lister.specs.Others.{family_numbered, optional_address_text};
-ghost use Rattle.sslist_lister.specs.Others.{address_text, interface_number, netlink_socket};
+ghost use Rattle.sslist_lister.specs.Others.{memory_in, optional_address_text, packet_interface};
+ghost use Rattle.sslist_lister.specs.Others.{address_text, netlink_socket};
 ghost use Rattle.sslist_lister.specs.Others.{other_columns, other_first_columns};
 ghost use Rattle.sslist_lister.specs.Others.{other_lines, packet_socket, none_if_equal};
-ghost use Rattle.sslist_lister.specs.Others.{user_kind, vsock_socket};
-ghost use Rattle.sslist_lister.specs.Others.{u32_in_first};
-ghost use Rattle.sslist_lister.specs.Others.{xdp_socket};
+ghost use Rattle.sslist_lister.specs.Others.{user_in, user_kind, vsock_socket};
+ghost use Rattle.sslist_lister.specs.Others.{xdp_address, xdp_socket};
 ghost use Rattle.sock_diag_extras.specs.Pieces.{framing_error_of, pieces_in};
 ghost use Rattle.sock_diag_extras.specs.declared.any.nla.Sockets.{Sockets as SocketsRead};
 ghost use Rattle.sock_diag_extras.specs.declared.any.nla.Sockets.TheVariants as about;
@@ -38,13 +34,14 @@ use crate::texts::cells::{
 };
 use crate::texts::parts::NO_TIMER;
 use byteorder::{ByteOrder, LittleEndian};
-use netlink_core::{DecodeError, NlaBuffer, Record, read_record};
-use sock_diag_extras::any::Sockets;
+use netlink_core::DecodeError;
+use sock_diag_extras::any::{AnyNla, Sockets};
 use sock_diag_families::netlink::NetlinkResponseHeader;
 use sock_diag_families::packet::{PACKET_DIAG_INFO, PACKET_DIAG_UID, PacketResponseHeader};
-use sock_diag_families::vsock::{AF_VSOCK, VsockResponseHeader};
-use sock_diag_families::xdp::{AF_XDP, XDP_DIAG_INFO, XDP_DIAG_UID, XdpResponseHeader};
-use sock_diag_records::constants::{AF_NETLINK, AF_PACKET, TCP_CLOSE};
+use sock_diag_families::vsock::VsockResponseHeader;
+use sock_diag_families::xdp::{XDP_DIAG_INFO, XDP_DIAG_UID, XdpResponseHeader};
+use sock_diag_records::constants::TCP_CLOSE;
+use sock_diag_values::inet::MemInfo;
 use std::alloc::AllocError;
 
 /// `NETLINK_CONNECTED`, the state of a netlink socket that is connected to another one.
@@ -52,12 +49,6 @@ const NETLINK_CONNECTED: u8 = 1;
 
 /// `VMADDR_CID_ANY` and `VMADDR_PORT_ANY` of vsock(7).
 const ANY: u32 = 0xffff_ffff;
-
-/// Offset of `SK_MEMINFO_RMEM_ALLOC` in the attribute with the memory, in bytes.
-const RMEM_ALLOC_OFFSET: usize = 0;
-
-/// Offset of `SK_MEMINFO_WMEM_ALLOC` in the attribute with the memory, in bytes.
-const WMEM_ALLOC_OFFSET: usize = 8;
 
 /// A local or peer address: two numbers, such as the context and the port of a vsock socket. `None`
 /// is shown as `*`.
@@ -78,7 +69,7 @@ pub(crate) struct OtherSocket {
 }
 
 /// A header of a reply about a netlink, packet, vsock or XDP socket.
-pub(crate) trait Listed: Record<Param = ()> + JsonHeader + Drop {
+pub(crate) trait Listed: JsonHeader {
     // The sockets of the family.
     ghost listed_sockets: { SocketsRead };
 
@@ -94,74 +85,16 @@ pub(crate) trait Listed: Record<Param = ()> + JsonHeader + Drop {
         ensures { result ≡ listed self.now (collected found.now) };
 }
 
-/// Returns the netlink, packet, vsock or XDP family of this number. Returns `None` for any other
-/// number.
-pub(crate) fn family_numbered(number: u8) -> Option<Family>
-    ensures { result ≡ family_numbered number }
-{
-    match number {
-        AF_NETLINK => Some(Family::Netlink),
-        AF_PACKET => Some(Family::Packet),
-        AF_VSOCK => Some(Family::Vsock),
-        AF_XDP => Some(Family::Xdp),
-        _ => None,
-    }
-}
-
-/// Appends the lines of a socket of the family of this number. Returns the decode error of the
-/// reply, if it has one. An unknown family has no lines and no error.
-pub(crate) fn push_other(
-    text: &mut Vec<u8>,
-    options: Options,
-    list: u64,
-    number: u8,
-    payload: &[u8],
-) -> Result<Option<DecodeError>, AllocError>
-    ensures lines { OnOk result (text.new.items ≡ text.old.items
-        ++ family_lines options list (family_numbered number) payload.now) }
-    ensures error { IfOk result
-        (λ error. error ≡ family_error (family_numbered number) payload.now) }
-{
-    match family_numbered(number) {
-        Some(Family::Netlink) => push_listed::<NetlinkResponseHeader>(text, options, list, payload),
-        Some(Family::Packet) => push_listed::<PacketResponseHeader>(text, options, list, payload),
-        Some(Family::Vsock) => push_listed::<VsockResponseHeader>(text, options, list, payload),
-        Some(Family::Xdp) => push_listed::<XdpResponseHeader>(text, options, list, payload),
-        None => Ok(None),
-    }
-}
-
-/// Appends what is written for a reply with a header of the type `H`, if the options select its
-/// socket. Returns the error of the header, or else of the bytes after the last attribute, if there
-/// is one.
-fn push_listed<H: Listed>(
-    text: &mut Vec<u8>,
-    options: Options,
-    list: u64,
-    payload: &[u8],
-) -> Result<Option<DecodeError>, AllocError>
-    ensures lines { OnOk result (text.new.items ≡ text.old.items
-        ++ reply_lines H.layout H.listed_sockets
-        (λ header summary. other_output options list (H.listed header summary)
-        (H.json_members header) summary) payload.now) }
-    ensures error { IfOk result (λ error. error ≡ reply_error H.layout payload.now) }
-{
-    match read_record::<H>(payload, ()) {
-        Ok(header) => push_socket(text, options, list, &header, attributes_of::<H>(payload)),
-        Err(error) => Ok(Some(error)),
-    }
-}
-
 /// Appends what is written for a socket with this header, if the options select it. `bytes` are its
 /// attributes. Returns the error of the bytes after the last attribute, if there are any.
-fn push_socket<H: Listed>(
+pub(crate) fn push_other<H: Listed>(
     text: &mut Vec<u8>,
     options: Options,
     list: u64,
     header: &H,
     bytes: &[u8],
 ) -> Result<Option<DecodeError>, AllocError>
-    ensures lines { let summary = summary_of H.listed_sockets (pieces_in bytes.now) in
+    ensures lines { let summary = summary_of H.listed_sockets bytes.now in
         OnOk result (text.new.items ≡ text.old.items
         ++ other_output options list (H.listed header.now summary) (H.json_members header.now)
         summary) }
@@ -197,18 +130,6 @@ fn push_output<H: Listed>(
     push_lines(text, options, socket, found)
 }
 
-/// Returns the bytes after the header, which has `H.layout.least` bytes. There are none if the
-/// payload is shorter.
-fn attributes_of<H: Listed>(payload: &[u8]) -> &[u8]
-    ensures { result.now ≡ drop H.layout.least payload.now }
-{
-    let (_, least) = H::name_and_least();
-    if payload.len() < least {
-        return &[];
-    }
-    &payload[least..]
-}
-
 /// Appends the lines of the table for a socket with the attributes `found`.
 #[tactic(auto, using(crate::proofs::Adding::three_texts_concatenate))]
 fn push_lines(
@@ -241,19 +162,22 @@ fn push_other_columns(
     push_optional_address(text, socket.peer)
 }
 
-/// Returns the first columns of a socket. The queues are in the attribute with its memory, and the
-/// user id is in an attribute too.
+/// Returns the first columns of a socket. Recv-Q and Send-Q are `SK_MEMINFO_RMEM_ALLOC` and
+/// `SK_MEMINFO_WMEM_ALLOC` of its memory.
 fn other_cells(socket: &OtherSocket, found: &Attributes<'_>) -> Cells
     ensures { cells_model result ≡ other_first_columns socket.now (collected found.now) }
 {
-    let memory = memory_kind(found.sockets);
+    let (receive_queue, send_queue) = match memory_in(found) {
+        Some(memory) => (Some(memory.receive_queue), Some(memory.bottom_send_queues)),
+        None => (None, None),
+    };
     Cells {
         kind: name_of_other_kind(socket.family, socket.kind).as_bytes(),
         state: name_of_state(socket.state).as_bytes(),
-        receive_queue: u32_in_first(found, memory, RMEM_ALLOC_OFFSET),
-        send_queue: u32_in_first(found, memory, WMEM_ALLOC_OFFSET),
+        receive_queue,
+        send_queue,
         inode: socket.inode,
-        uid: u32_in_first(found, user_kind(socket.family), 0),
+        uid: user_in(socket.family, found),
     }
 }
 
@@ -299,20 +223,46 @@ fn push_address(text: &mut Vec<u8>, address: Address) -> Result<(), AllocError>
     push_number_or_star(text, second)
 }
 
-/// Returns the little-endian `u32` at an offset of the value of the first valid attribute of a
-/// kind. Returns `None` if there is no such attribute, if its value is too short, or if `kind` is
-/// `None`.
-fn u32_in_first(found: &Attributes<'_>, kind: Option<u16>, offset: usize) -> Option<u32>
-    // The greatest offset that is used, so that `offset + 4` cannot overflow.
-    requires { offset ≤ WMEM_ALLOC_OFFSET }
-    ensures { result ≡ u32_in_first kind offset (collected found.now) }
+/// Returns the memory of a socket, if the reply has it.
+fn memory_in<'s>(found: &'s Attributes<'_>) -> Option<&'s MemInfo>
+    ensures { option_map (λ memory. memory.now) result ≡ memory_in (collected found.now) }
 {
-    let nla = found.first_of(kind?)?;
-    let value = nla.value();
-    if value.len() < offset + 4 {
-        return None;
+    match found.value_of_kind(memory_kind(found.sockets)?)? {
+        AnyNla::Memory(memory) => Some(memory),
+        _ => None,
     }
-    Some(LittleEndian::read_u32(&value[offset..]))
+}
+
+/// Returns the user id of the owner of a socket of this family, if the reply has it.
+fn user_in(family: Family, found: &Attributes<'_>) -> Option<u32>
+    ensures { result ≡ user_in family (collected found.now) }
+{
+    match found.value_of_kind(user_kind(family)?)? {
+        AnyNla::Owner(user) => Some(*user),
+        _ => None,
+    }
+}
+
+/// Returns the interface of a packet socket. Returns `None` if it is not known, or if the number is
+/// 0, which is no interface.
+fn packet_interface(found: &Attributes<'_>) -> Option<u32>
+    ensures { result ≡ packet_interface (collected found.now) }
+{
+    match found.value_of_kind(PACKET_DIAG_INFO)? {
+        AnyNla::PacketInfo(info) => none_if_equal(0, info.interface),
+        _ => None,
+    }
+}
+
+/// Returns the interface and the queue of an XDP socket. Each is `None` if it is not known, and the
+/// interface also if the number is 0.
+fn xdp_address(found: &Attributes<'_>) -> Address
+    ensures { result ≡ xdp_address (collected found.now) }
+{
+    match found.value_of_kind(XDP_DIAG_INFO) {
+        Some(AnyNla::XdpInfo(info)) => (none_if_equal(0, info.interface), Some(info.queue)),
+        _ => (None, None),
+    }
 }
 
 /// Returns the number, or `None` if it is equal to `none`.
@@ -320,14 +270,6 @@ fn none_if_equal(none: u32, number: u32) -> Option<u32>
     ensures { result ≡ none_if_equal none number }
 {
     if number == none { None } else { Some(number) }
-}
-
-/// Returns the interface number: the `u32` at offset 0 of the first valid attribute of a kind.
-/// Returns `None` if there is no such attribute, or if the number is 0, which is no interface.
-fn interface_number(found: &Attributes<'_>, kind: u16) -> Option<u32>
-    ensures { result ≡ interface_number kind (collected found.now) }
-{
-    none_if_equal(0, u32_in_first(found, Some(kind), 0)?)
 }
 
 impl Listed for NetlinkResponseHeader {
@@ -368,7 +310,6 @@ impl Listed for PacketResponseHeader {
     }
 
     fn socket(&self, found: &Attributes<'_>) -> OtherSocket {
-        let interface = interface_number(found, PACKET_DIAG_INFO);
         OtherSocket {
             family: Family::Packet,
             kind: self.kind,
@@ -376,7 +317,7 @@ impl Listed for PacketResponseHeader {
             state: TCP_CLOSE,
             inode: self.inode,
             cookie: self.cookie,
-            local: (Some(self.protocol.into()), interface),
+            local: (Some(self.protocol.into()), packet_interface(found)),
             peer: None,
         }
     }
@@ -421,7 +362,6 @@ impl Listed for XdpResponseHeader {
     }
 
     fn socket(&self, found: &Attributes<'_>) -> OtherSocket {
-        let interface = interface_number(found, XDP_DIAG_INFO);
         OtherSocket {
             family: Family::Xdp,
             kind: self.kind,
@@ -429,8 +369,7 @@ impl Listed for XdpResponseHeader {
             state: TCP_CLOSE,
             inode: self.inode,
             cookie: self.cookie,
-            // The queue is at offset 4 of the attribute, after the interface.
-            local: (interface, u32_in_first(found, Some(XDP_DIAG_INFO), 4)),
+            local: xdp_address(found),
             peer: None,
         }
     }

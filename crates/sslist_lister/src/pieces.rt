@@ -1,21 +1,17 @@
-//! Attributes after the header of a reply. Each is parsed by itself, so that an invalid value does
-//! not hide other attributes. In the contracts, `pieces_in bytes` is each attribute in the bytes,
-//! and then the framing error, if there is one.
+//! Attributes of requests, and nested attributes. In the contracts, `pieces_in bytes` is each
+//! attribute in the bytes, and then the framing error, if there is one.
 
 ghost use Rattle.std.specs.Prelude.{◌≡◌, option_map};
 ghost use Rattle.netlink_core.specs.Walk.{buffered_attribute};
 ghost use Rattle.sock_diag_extras.specs.Pieces.{YieldsFirstPiece, first_of_kind, pieces_in};
-ghost use Rattle.sock_diag_extras.specs.Pieces.{framing_error_of, last_of_kind};
-ghost use Rattle.sslist_lister.specs.Protocol.{first_byte};
+ghost use Rattle.sock_diag_extras.specs.Pieces.{last_of_kind};
 
 use netlink_core::{DecodeError, NlaBuffer, NlasIterator};
 
 /// Returns the next attribute, or the error of the remaining bytes. Returns `None` at the end, and
 /// after an error.
 #[tactic(auto, using(sock_diag_extras::proofs::PieceWalk::iterator_step_rules))]
-pub(crate) fn next_piece<'a>(
-    walk: &mut NlasIterator<'a>,
-) -> Option<Result<NlaBuffer<'a>, DecodeError>>
+fn next_piece<'a>(walk: &mut NlasIterator<'a>) -> Option<Result<NlaBuffer<'a>, DecodeError>>
     ensures { YieldsFirstPiece walk.old result walk.new }
 {
     walk.next()
@@ -37,21 +33,6 @@ pub(crate) fn find_kind<'a>(bytes: &'a [u8], kind: u16) -> Option<NlaBuffer<'a>>
     None
 }
 
-/// Returns the value of the first attribute of this kind whose value is one byte. Returns `None` if
-/// there is none before the end, or before bytes that are not an attribute.
-pub(crate) fn find_byte(bytes: &[u8], kind: u16) -> Option<u8>
-    ensures { result ≡ first_byte kind (pieces_in bytes.now) }
-{
-    let mut walk = NlasIterator::new(bytes);
-    while let Some(piece) = next_piece(&mut walk) {
-        match piece {
-            Ok(nla) if nla.kind() == kind && nla.value().len() == 1 => return Some(nla.value()[0]),
-            _ => {}
-        }
-    }
-    None
-}
-
 /// Returns the last attribute of this kind. Returns `None` if there is none before the end, or
 /// before bytes that are not an attribute.
 pub(crate) fn find_last_of_kind<'a>(bytes: &'a [u8], kind: u16) -> Option<NlaBuffer<'a>>
@@ -67,17 +48,4 @@ pub(crate) fn find_last_of_kind<'a>(bytes: &'a [u8], kind: u16) -> Option<NlaBuf
         }
     }
     last
-}
-
-/// Returns the error of the bytes after the last attribute, or `None` if there are no such bytes.
-pub(crate) fn find_framing_error(bytes: &[u8]) -> Option<DecodeError>
-    ensures { result ≡ framing_error_of (pieces_in bytes.now) }
-{
-    let mut walk = NlasIterator::new(bytes);
-    while let Some(piece) = next_piece(&mut walk) {
-        if let Err(error) = piece {
-            return Some(error);
-        }
-    }
-    None
 }

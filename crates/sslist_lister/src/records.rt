@@ -2,46 +2,29 @@
 //! or to a writer may fail: then an allocation failed, and the content is not specified. The
 //! clauses `prefix` state that the bytes before the first token of the writer are unchanged.
 //!
-//! In the contracts, `records_in T.size T.parsed value.now` are the records in a value.
+//! In the contracts, `records_in T.layout value.now` are the records in a value.
 
-ghost use Rattle.std.specs.Prelude.{◌≡◌, ◌≤◌, ◌<◌, ◌++◌, ℕ, List, OnOk, SomeIff, flat_map, length};
-ghost use Rattle.std.specs.Prelude.{map};
+ghost use Rattle.std.specs.Prelude.{◌≡◌, ◌<◌, ◌++◌, ℕ, List, OnOk, flat_map, map};
 ghost use Rattle.json.specs.Tree.{json_tokens};
 ghost use Rattle.sslist_lister.specs.RecordFacts.{ip_member, ip_or_star, records_in};
-ghost use Rattle.sslist_lister.specs.RecordFacts.{separated_records};
+ghost use Rattle.sslist_lister.specs.Facts.{separated_records};
 ghost use Rattle.sslist_lister.specs.texts.JsonData.{JsonMember, array_member, object_of};
 ghost use Rattle.sslist_lister.specs.texts.JsonWriting.{KeepsPrefix, members_tokens};
 
 use crate::texts::json_writing::write_address;
 use json::Writer;
+use sock_diag_extras::{AttributeRecord, read_attribute_record};
 use std::alloc::{AllocError, Global};
 use std::io::Write;
 use std::net::IpAddr;
 
 /// A record in an array. The table shows it as a text, and JSON as an object.
-pub(crate) trait ShownRecord: Copy {
-    // The size of a record in bytes.
-    ghost size: { ℕ };
-
-    // The record at the start of the bytes.
-    ghost parsed: { List ℕ → Self };
-
+pub(crate) trait ShownRecord: AttributeRecord + Copy {
     // The text of a record.
     ghost record_text: { Self → List ℕ };
 
     // The members of the object of a record.
     ghost record_members: { Self → List JsonMember };
-
-    /// Returns the size of a record in bytes.
-    fn record_size() -> usize
-        ensures size { result ≡ size }
-        // So that fewer bytes remain after each record.
-        ensures positive { 0 < size };
-
-    /// Returns the record at the start of the bytes. Returns `None` if they are fewer than a record
-    /// has.
-    fn read(bytes: &[u8]) -> Option<Self>
-        ensures { SomeIff result (size ≤ length bytes.now) (parsed bytes.now) };
 
     /// Appends the text of the record.
     fn push_text(&self, text: &mut Vec<u8>) -> Result<(), AllocError>
@@ -52,6 +35,9 @@ pub(crate) trait ShownRecord: Copy {
         ensures prefix { KeepsPrefix result writer.old writer.new }
         ensures members { OnOk result (writer.new.tokens ≡ writer.old.tokens
             ++ members_tokens (record_members self.now)) };
+
+    // Proof only: a record has bytes, so that fewer bytes remain after each one.
+    ghost has_bytes: { 0 < Self.AttributeRecord.layout.size };
 }
 
 /// Appends the text of each record in a value: of the first one after the text `before`, and of
@@ -63,15 +49,15 @@ pub(crate) fn push_records<T: ShownRecord>(
     value: &[u8],
 ) -> Result<(), AllocError>
     ensures { OnOk result (text.new.items ≡ text.old.items ++ separated_records T.record_text
-        before.now later.now (records_in T.size T.parsed value.now)) }
+        before.now later.now (records_in T.layout value.now)) }
 {
     let mut separator = before;
     let mut remaining = value;
-    while let Some(record) = T::read(remaining) {
+    while let Some(record) = read_attribute_record::<T>(remaining) {
         text.extend_from_slice(separator)?;
         record.push_text(text)?;
         separator = later;
-        remaining = &remaining[T::record_size()..];
+        remaining = &remaining[T::size()..];
     }
     Ok(())
 }
@@ -86,7 +72,7 @@ pub(crate) fn write_records<T: ShownRecord>(
     ensures prefix { KeepsPrefix result writer.old writer.new }
     ensures members { OnOk result (writer.new.tokens ≡ writer.old.tokens
         ++ members_tokens (array_member member.now
-        (map (λ r. object_of (T.record_members r)) (records_in T.size T.parsed value.now)))) }
+        (map (λ r. object_of (T.record_members r)) (records_in T.layout value.now)))) }
 {
     writer.key(member)?;
     writer.begin_array()?;
@@ -103,12 +89,12 @@ fn write_items<T: ShownRecord>(
     ensures prefix { KeepsPrefix result writer.old writer.new }
     ensures tokens { OnOk result (writer.new.tokens ≡ writer.old.tokens
         ++ flat_map (λ r. json_tokens (object_of (T.record_members r)))
-        (records_in T.size T.parsed value.now)) }
+        (records_in T.layout value.now)) }
 {
     let mut remaining = value;
-    while let Some(record) = T::read(remaining) {
+    while let Some(record) = read_attribute_record::<T>(remaining) {
         write_item(alloc, writer, &record)?;
-        remaining = &remaining[T::record_size()..];
+        remaining = &remaining[T::size()..];
     }
     Ok(())
 }

@@ -6,7 +6,8 @@ ghost use Rattle.std.specs.Prelude.{◌≡◌, ◌≤◌, length, OnOk, option_m
 ghost use Rattle.std.proofs.Common.{rules};
 ghost use Rattle.netlink_core.specs.Walk.{buffered_attribute};
 ghost use Rattle.sslist_lister.specs.Messages.{message_parts};
-ghost use Rattle.sslist_lister.specs.Requests.{is_about_sockets, protocol_by, protocol_of};
+ghost use Rattle.sslist_lister.specs.Requests.{family_numbered, is_about_sockets};
+ghost use Rattle.sslist_lister.specs.Requests.{protocol_by, protocol_of};
 ghost use Rattle.sslist_lister.specs.Requests.{list_with, no_requests, past_requests};
 ghost use Rattle.sslist_lister.specs.Requests.{query_of};
 ghost use Rattle.sslist_lister.specs.Requests.{requested, with_query};
@@ -15,11 +16,14 @@ ghost use Rattle.sslist_lister.specs.Requests.{with_request};
 use crate::command_line::Family;
 use crate::lists::FirstRequest;
 use crate::messages::Message;
-use crate::others::family_numbered;
 use crate::pieces::find_last_of_kind;
 use byteorder::{ByteOrder, LittleEndian};
 use netlink_core::{Exact, NlaBuffer};
-use sock_diag_records::constants::{AF_INET, AF_INET6, AF_UNIX, SOCK_DESTROY, SOCK_DIAG_BY_FAMILY};
+use sock_diag_families::vsock::AF_VSOCK;
+use sock_diag_families::xdp::AF_XDP;
+use sock_diag_records::constants::{
+    AF_INET, AF_INET6, AF_NETLINK, AF_PACKET, AF_UNIX, SOCK_DESTROY, SOCK_DIAG_BY_FAMILY,
+};
 use sock_diag_records::inet::{INET_DIAG_REQ_PROTOCOL, INET_REQUEST_LEN};
 use sock_diag_records::unix::UNIX_REQUEST_LEN;
 use std::alloc::{AllocError, Global};
@@ -171,6 +175,20 @@ pub(crate) fn requested_by(request: &Message<'_>) -> Requested
             Some(family) => Requested::Other(family),
             None => Requested::Unknown,
         },
+    }
+}
+
+/// Returns the netlink, packet, vsock or XDP family of this number. Returns `None` for any other
+/// number.
+fn family_numbered(number: u8) -> Option<Family>
+    ensures { result ≡ family_numbered number }
+{
+    match number {
+        AF_NETLINK => Some(Family::Netlink),
+        AF_PACKET => Some(Family::Packet),
+        AF_VSOCK => Some(Family::Vsock),
+        AF_XDP => Some(Family::Xdp),
+        _ => None,
     }
 }
 

@@ -3,10 +3,11 @@
 //! `enum sctp_state`.
 
 ghost use Rattle.std.specs.Prelude.{◌≡◌};
+ghost use Rattle.sslist_lister.specs.Collected.{collected};
 ghost use Rattle.sslist_lister.specs.Sctp.{association_state_name, association_tcp_state};
 ghost use Rattle.sslist_lister.specs.Sctp.{inet_state_name, inet_tcp_state, is_association};
 
-use crate::pieces::find_kind;
+use crate::collected::Attributes;
 use crate::texts::cells::name_of_state;
 use sock_diag_records::constants::{INET_DIAG_PEERS, IPPROTO_SCTP, TCP_CLOSE, TCP_ESTABLISHED};
 
@@ -14,17 +15,17 @@ use sock_diag_records::constants::{INET_DIAG_PEERS, IPPROTO_SCTP, TCP_CLOSE, TCP
 /// TCP state, so the groups of states that are all except some of these select it.
 const NO_TCP_STATE: u8 = u8::MAX;
 
-/// Returns whether a reply with the attributes in `bytes` is about an association. The kernel sends
+/// Returns whether a reply with the attributes `found` is about an association. The kernel sends
 /// `INET_DIAG_PEERS` about each association, and about nothing else. `protocol` is that of the
 /// socket, if it is known.
-pub(crate) fn is_association(protocol: Option<u32>, bytes: &[u8]) -> bool
-    ensures { result ≡ is_association protocol bytes.now }
+pub(crate) fn is_association(protocol: Option<u32>, found: &Attributes<'_>) -> bool
+    ensures { result ≡ is_association protocol (collected found.now) }
 {
     let may_be_sctp = match protocol {
         Some(number) => number == IPPROTO_SCTP as u32,
         None => true,
     };
-    may_be_sctp && find_kind(bytes, INET_DIAG_PEERS).is_some()
+    may_be_sctp && found.value_of_kind(INET_DIAG_PEERS).is_some()
 }
 
 /// Returns the name of the state of an IPv4 or IPv6 socket, or of an association, as ss(8) prints

@@ -6,14 +6,14 @@
 //! showed before, and `AddsItems` states it of items. `S.content sink.old` and `S.content sink.new`
 //! are what the sink shows before and after the call.
 
-ghost use Rattle.std.specs.Prelude.{◌≡◌, ◌≤◌, OnOk, codes, flat_map, map, option_map};
+ghost use Rattle.std.specs.Prelude.{◌≡◌, ◌≤◌, OnOk, codes, flat_map, map, option_map, true};
 ghost use Rattle.netlink_core.specs.Errors.{map_ok};
-ghost use Rattle.sslist_lister.specs.Facts.{AddsFacts, AddsItems, facts_in, json_group, status_of};
+ghost use Rattle.sslist_lister.specs.Facts.{AddsFacts, AddsItems, json_group};
 ghost use Rattle.sslist_lister.specs.Rows.{text_of};
 ghost use Rattle.sslist_lister.specs.UlpInfo.{has_fields, nested_group, nested_number};
 ghost use Rattle.sslist_lister.specs.UlpInfo.{nested_value, presence_facts, subflow_facts};
 ghost use Rattle.sslist_lister.specs.UlpInfo.{tls_facts, token_facts, ulp_name, ulp_number};
-ghost use Rattle.sslist_lister.specs.UlpInfo.{ulp_outcome, ulp_parts, ulp_row, ulp_row_of};
+ghost use Rattle.sslist_lister.specs.UlpInfo.{ulp_facts, ulp_parts, ulp_row, ulp_row_of};
 ghost use Rattle.sslist_lister.specs.UlpInfo.{ulp_rows};
 
 use crate::facts::{FactSink, Shown, Status};
@@ -109,7 +109,7 @@ static SUBFLOW_ROWS: [UlpRow; 10] = [
 /// Returns the status of an attribute with this value: if it has no valid name, the error of the
 /// name.
 pub(crate) fn status_of_ulp(value: &[u8]) -> Status
-    ensures { result ≡ status_of (ulp_outcome value.now) }
+    ensures { result ≡ map_ok (λ name. true) (ulp_name value.now) }
 {
     match name_of_protocol(value) {
         Ok(_) => Ok(true),
@@ -121,7 +121,7 @@ pub(crate) fn status_of_ulp(value: &[u8]) -> Status
 /// valid name.
 pub(crate) fn show_ulp<S: FactSink>(sink: &mut S, value: &[u8]) -> Result<(), AllocError>
     ensures { OnOk result (AddsFacts (S.content sink.old) (S.content sink.new)
-        (facts_in (ulp_outcome value.now))) }
+        (ulp_facts value.now)) }
 {
     match name_of_protocol(value) {
         Ok(name) => show_ulp_info(sink, name, value),

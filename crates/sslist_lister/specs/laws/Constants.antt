@@ -4,14 +4,10 @@ use Rattle.sock_diag_extras.specs.declared.constants.TheConstants.{INET_DIAG_SOC
 use Rattle.sslist_lister.specs.declared.collected.TheConstants.{KINDS}
 use Rattle.sslist_lister.specs.declared.command_line.options.TheConstants as options
 use Rattle.sslist_lister.specs.declared.family_facts.TheConstants.{GROUP_BITS, MAX_MASK_LENGTH}
-use Rattle.sslist_lister.specs.declared.filter_program.TheConstants.{INSTRUCTION_LENGTH}
 use Rattle.sslist_lister.specs.declared.line.TheConstants.{LOCAL_WIDTH, NO_INTERFACE}
 use Rattle.sslist_lister.specs.declared.list.TheConstants.{EINVAL, ENOENT}
-use Rattle.sslist_lister.specs.declared.md5_keys.TheConstants.{KEY_LENGTH}
-use Rattle.sslist_lister.specs.declared.memberships.TheConstants.{MEMBERSHIP_LENGTH}
 use Rattle.sslist_lister.specs.declared.others.TheConstants.{ANY, NETLINK_CONNECTED}
 use Rattle.sslist_lister.specs.declared.sctp.TheConstants.{NO_TCP_STATE}
-use Rattle.sslist_lister.specs.declared.sctp_addresses.TheConstants.{ADDRESS_LENGTH}
 use Rattle.sslist_lister.specs.declared.texts.cells.TheConstants as cells
 use Rattle.sslist_lister.specs.declared.texts.names.TheConstants as names
 use Rattle.sslist_lister.specs.declared.texts.parts.TheConstants as parts
@@ -21,14 +17,11 @@ pub error_numbers : (ENOENT ≡ 2) × (EINVAL ≡ 22)
 error_numbers = (refl, refl)
 
 -- numbers of the kernel: protocols, the state of a connected netlink socket, VMADDR_CID_ANY and
--- VMADDR_PORT_ANY, the bits of `sk_shutdown`, and the sizes of `struct tcp_diag_md5sig`, `struct
--- sockaddr_storage`, `struct sock_filter` and `struct packet_diag_mclist`
+-- VMADDR_PORT_ANY, and the bits of `sk_shutdown`
 pub kernel_numbers : (options.IPPROTO_TCP ≡ 6) × (options.IPPROTO_UDP ≡ 17)
     × (options.IPPROTO_MPTCP ≡ 262) × (NETLINK_CONNECTED ≡ 1) × (ANY ≡ 0xffffffff)
     × (NO_INTERFACE ≡ 0) × (parts.RCV_SHUTDOWN ≡ 1) × (parts.SEND_SHUTDOWN ≡ 2)
-    × (KEY_LENGTH ≡ 100) × (ADDRESS_LENGTH ≡ 128) × (INSTRUCTION_LENGTH ≡ 8)
-    × (MEMBERSHIP_LENGTH ≡ 44)
-kernel_numbers = (refl, refl, refl, refl, refl, refl, refl, refl, refl, refl, refl, refl)
+kernel_numbers = (refl, refl, refl, refl, refl, refl, refl, refl)
 
 -- the bits of a byte, each with its index
 pub group_bits : GROUP_BITS ≡ (1, 0) ∷ (2, 1) ∷ (4, 2) ∷ (8, 3) ∷ (16, 4) ∷ (32, 5) ∷ (64, 6)

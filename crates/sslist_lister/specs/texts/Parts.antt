@@ -4,11 +4,11 @@ use Rattle.std.specs.Prelude.{ℕ, ◌==◌, if◌then◌else◌, List, [], ◌�
 use Rattle.std.specs.Prelude.{bit_and}
 use Rattle.std.specs.Fmt.{digits}
 use Rattle.byteorder.specs.Endian.{little_number}
+use Rattle.sock_diag_extras.specs.declared.any.header.RawTimer.{RawTimer}
 use Rattle.sslist_lister.specs.command_line.Options.{shows_detail}
 use Rattle.sslist_lister.specs.declared.command_line.options.Detail.TheVariants.{Timer, Extended}
 use Rattle.sslist_lister.specs.declared.command_line.options.Options.{Options}
 use Rattle.sslist_lister.specs.declared.texts.parts.TheConstants.{RCV_SHUTDOWN, SEND_SHUTDOWN}
-use Rattle.sslist_lister.specs.declared.texts.parts.TimerFields.{TimerFields}
 
 -- `hex_detail name number`: a space, the name, a colon, `0x` and a number in hexadecimal digits
 -- (`digits 16 false`: in lowercase, without leading zeros)
@@ -32,26 +32,26 @@ directions state =
 -- the name of a kind of timer (`idiag_timer`, sock_diag(7)), as ss(8) prints it; 5 is the timer of
 -- a delayed acknowledgement (IDIAG_TIMER_DELACK) of Linux 7.2 and later
 abbrev pub timer_name : ℕ → List ℕ
-timer_name class =
-    if class == 1 then codes "on" else if class == 2 then codes "keepalive"
-    else if class == 3 then codes "timewait" else if class == 4 then codes "persist"
-    else if class == 5 then codes "delack" else codes "unknown"
+timer_name kind =
+    if kind == 1 then codes "on" else if kind == 2 then codes "keepalive"
+    else if kind == 3 then codes "timewait" else if kind == 4 then codes "persist"
+    else if kind == 5 then codes "delack" else codes "unknown"
 
 -- The timer: its kind, the time until it expires, in milliseconds, and the number of retransmits.
 -- Nothing if no timer runs. Example: ` timer:(on,200ms,3)`. 44 is the first comma, 41 the closing
 -- parenthesis.
-abbrev pub timer_text : TimerFields → List ℕ
+abbrev pub timer_text : RawTimer → List ℕ
 timer_text timer =
-    if timer.class == 0 then []
-    else codes " timer:(" ++ timer_name timer.class ++ 44 ∷ decimal timer.expires ++ codes "ms,"
+    if timer.kind == 0 then []
+    else codes " timer:(" ++ timer_name timer.kind ++ 44 ∷ decimal timer.expires ++ codes "ms,"
     ++ decimal timer.retransmits ++ 41 ∷ []
 
--- the timer fields of a socket without a timer
-abbrev pub no_timer : TimerFields
-no_timer = record { class = 0; retransmits = 0; expires = 0 }
+-- the timer of a socket that has none
+abbrev pub no_timer : RawTimer
+no_timer = record { kind = 0; retransmits = 0; expires = 0 }
 
 -- `timer_if_shown options timer`: the timer, if its group of details is shown, or else nothing
-abbrev pub timer_if_shown : Options → TimerFields → List ℕ
+abbrev pub timer_if_shown : Options → RawTimer → List ℕ
 timer_if_shown options timer = if shows_detail options Timer then timer_text timer else []
 
 -- `cookie_if_shown options cookie`: ` sk:` and the cookie as a little-endian number of eight bytes,

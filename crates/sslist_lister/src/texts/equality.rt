@@ -5,13 +5,8 @@ ghost use Rattle.std.proofs.Common.{rules};
 ghost use Rattle.sslist_lister.specs.laws.EqualListError.{list_error_equal};
 
 use crate::texts::list_error::ListError;
-use crate::texts::parts::TimerFields;
 use exact_values::Exact;
 
 impl Exact for ListError {
     ghost exact = { (list_error_equal, Prim.search rules, Prim.search rules) };
-}
-
-impl Exact for TimerFields {
-    ghost exact = { Prim.search rules };
 }

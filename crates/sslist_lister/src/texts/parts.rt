@@ -9,6 +9,7 @@ ghost use Rattle.sslist_lister.specs.texts.Parts.{timer_name, timer_text};
 use crate::command_line::{Detail, Options};
 use crate::texts::cells::{push_hex, push_number};
 use byteorder::{ByteOrder, LittleEndian};
+use sock_diag_extras::any::RawTimer;
 use std::alloc::AllocError;
 
 /// Bit of a shutdown state (`sk_shutdown` of the kernel): receiving is shut down.
@@ -17,21 +18,9 @@ const RCV_SHUTDOWN: u64 = 1;
 /// Bit of a shutdown state: sending is shut down.
 const SEND_SHUTDOWN: u64 = 2;
 
-/// The timer fields of `inet_diag_msg`, the header of a reply about an IPv4 or IPv6 socket, as in
-/// the bytes. The parsed header has only those that belong to its kind of timer.
-#[derive(Clone, Copy, PartialEq, Eq)]
-pub(crate) struct TimerFields {
-    /// Kind of the timer (`idiag_timer`). 0 if no timer runs.
-    pub class: u8,
-    /// Number of retransmits (`idiag_retrans`).
-    pub retransmits: u8,
-    /// Time until the timer expires (`idiag_expires`), in milliseconds.
-    pub expires: u32,
-}
-
-/// The fields of a socket without a timer.
-pub(crate) const NO_TIMER: TimerFields = TimerFields {
-    class: 0,
+/// The timer of a socket that has none.
+pub(crate) const NO_TIMER: RawTimer = RawTimer {
+    kind: 0,
     retransmits: 0,
     expires: 0,
 };
@@ -50,7 +39,7 @@ pub(crate) fn separator(options: Options) -> &'static [u8]
 pub(crate) fn push_shown_timer(
     text: &mut Vec<u8>,
     options: Options,
-    timer: &TimerFields,
+    timer: &RawTimer,
 ) -> Result<(), AllocError>
     ensures { OnOk result (text.new.items ≡ text.old.items ++ timer_if_shown options timer.now) }
 {
@@ -62,14 +51,14 @@ pub(crate) fn push_shown_timer(
 
 /// Appends the kind of the timer, the time until it expires, and the number of retransmits. Appends
 /// nothing if no timer runs.
-fn push_timer(text: &mut Vec<u8>, timer: &TimerFields) -> Result<(), AllocError>
+fn push_timer(text: &mut Vec<u8>, timer: &RawTimer) -> Result<(), AllocError>
     ensures { OnOk result (text.new.items ≡ text.old.items ++ timer_text timer.now) }
 {
-    if timer.class == 0 {
+    if timer.kind == 0 {
         return Ok(());
     }
     text.extend_from_slice(b" timer:(")?;
-    text.extend_from_slice(name_of_timer(timer.class))?;
+    text.extend_from_slice(name_of_timer(timer.kind))?;
     text.push(b',')?;
     push_number(text, timer.expires.into())?;
     text.extend_from_slice(b"ms,")?;
@@ -79,10 +68,10 @@ fn push_timer(text: &mut Vec<u8>, timer: &TimerFields) -> Result<(), AllocError>
 
 /// Returns the name of a kind of timer (`idiag_timer`, sock_diag(7)), as ss(8) prints it. 5 is the
 /// timer of a delayed acknowledgement (`IDIAG_TIMER_DELACK`) of Linux 7.2 and later.
-fn name_of_timer(class: u8) -> &'static [u8]
-    ensures { result.now ≡ timer_name class }
+fn name_of_timer(kind: u8) -> &'static [u8]
+    ensures { result.now ≡ timer_name kind }
 {
-    match class {
+    match kind {
         1 => b"on",
         2 => b"keepalive",
         3 => b"timewait",

@@ -1,5 +1,5 @@
 use Rattle.std.proofs.Common.{◌≡◌, ◌++◌, drop, flat_map}
-use Rattle.sslist_lister.specs.Collected.{slot_attribute}
+use Rattle.sslist_lister.specs.Collected.{slot_value}
 use Rattle.sslist_lister.specs.JsonAttributes.{valid_members}
 use Rattle.sslist_lister.specs.texts.JsonWriting.{members_tokens}
 use Rattle.sslist_lister.proofs.json_attributes.write_valid.Given as goal
@@ -9,7 +9,7 @@ use Rattle.sslist_lister.proofs.json_attributes.write_valid.Given as goal
 abbrev pub invariant-loop-slot : goal.invariant-loop-slot
 invariant-loop-slot l =
     (l.writer.before ≡ l.fn.writer.before) × (l.writer.tokens
-    ++ flat_map (λ slot. members_tokens (valid_members l.sockets (slot_attribute slot)))
+    ++ flat_map (λ slot. members_tokens (valid_members l.sockets (slot_value slot)))
     (drop l.slot-index l.slots)
     ≡ l.fn.writer.tokens
-    ++ flat_map (λ slot. members_tokens (valid_members l.sockets (slot_attribute slot))) l.slots)
+    ++ flat_map (λ slot. members_tokens (valid_members l.sockets (slot_value slot))) l.slots)

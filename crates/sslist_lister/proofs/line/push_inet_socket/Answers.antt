@@ -1,13 +1,11 @@
-use Rattle.std.proofs.Common.{sym, ◌∙◌}
+use Rattle.std.proofs.Common.{◌≡◌, arith}
 use Rattle.sslist_lister.proofs.line.push_inet_socket.Goals as goal
 
-pub returns-clause-lines : goal.returns-clause-lines
-returns-clause-lines c =
-    let asked = sym c.lists_inet.ensures ∙ c.if-not-lists_inet.false in
-    rw (
-      asked,
-      ← c.info_of.ensures,
-      ← c.new-found.ensures.sockets,
-      ← c.in_ok-collect.ensures.summary,
-    )
-    c.in_ok-push_inet_lines.ensures
+pub returns-then-are_same : goal.returns-then-are_same
+returns-then-are_same c =
+    let same : c.inet_sockets-sockets.result ≡ c.args.asked =
+    grind (arith, c.are_same.ensures, c.if-are_same.true) in
+    rw (← c.inet_sockets-sockets.ensures, same, ← c.requires) c.push_inet_output.ensures
+
+pub returns : goal.returns
+returns c = rw (← c.inet_sockets-sockets.ensures) c.push_inet_again.ensures

@@ -9,12 +9,13 @@ use Rattle.sslist_lister.proofs.records.write_items.Given as goal
 abbrev pub invariant-loop-record : goal.invariant-loop-record
 invariant-loop-record g l =
     let shown = g.T.ShownRecord in
+    let layout = g.T.AttributeRecord.layout in
     (l.writer.before ≡ l.fn.writer.before) × (l.writer.tokens
     ++ flat_map (λ r. json_tokens (object_of (shown.record_members r)))
-    (records_in shown.size shown.parsed l.remaining)
+    (records_in layout l.remaining)
     ≡ l.fn.writer.tokens
     ++ flat_map (λ r. json_tokens (object_of (shown.record_members r)))
-    (records_in shown.size shown.parsed l.value))
+    (records_in layout l.value))
 
 abbrev pub decreases-loop-record : goal.decreases-loop-record
 decreases-loop-record g l = length l.remaining

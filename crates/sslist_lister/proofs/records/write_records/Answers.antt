@@ -9,8 +9,9 @@ use Rattle.sslist_lister.proofs.records.write_records.Goals as goal
 pub returns-clause-members : goal.returns-clause-members
 returns-clause-members g c =
     let shown = g.T.ShownRecord in
+    let layout = g.T.AttributeRecord.layout in
     let items = items_of_map (λ r. object_of (shown.record_members r))
-    (records_in shown.size shown.parsed c.args.value.now) in
+    (records_in layout c.args.value.now) in
     on_ok_weaker c.end_array.result
     (λ last. joined_array _ _ _ _ _ _ _ c.in_ok-key.ensures.ok c.in_ok-begin_array.ensures.ok
     (c.in_ok-write_items.ensures.tokens

@@ -1,4 +1,4 @@
-use Rattle.sslist_lister.proofs.others.push_socket.Goals as goal
+use Rattle.sslist_lister.proofs.others.push_other.Goals as goal
 
 pub returns-clause-lines : goal.returns-clause-lines
 returns-clause-lines g c =
