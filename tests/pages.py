@@ -546,15 +546,11 @@ class Checker:
             yield f"other lines after the dependency: {lines[2:]}"
 
     def check_names(self, page, number, lines):
-        """Checks that public modules and items have the names in a list of imports."""
+        """Checks that public items have the names in a list of imports."""
         surface = (TOP / "tests/surface.txt").read_text(encoding="utf-8")
-        for line in lines:
-            module, _, rest = line.partition("::{")
-            for name in rest.partition("}")[0].split(", "):
-                if name != ".." and f"::{name}: pub " not in surface:
-                    yield f"no public item {name}"
-            if not re.search(rf"(?m)^{module}(: pub |::)", surface):
-                yield f"no module {module}"
+        for name in re.findall(r"\w+", " ".join(re.findall(r"\{(.*?)\}", "".join(lines)))):
+            if f"::{name}: pub " not in surface:
+                yield f"no public item {name}"
 
     def check_crates(self, page, number, lines):
         """Checks that a picture has the names of crates, and in crates/README.md all of them: each
