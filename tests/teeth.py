@@ -329,7 +329,7 @@ ROWS = [
     Row("python3 tests/programs.py $STAND_INS/program $STAND_INS/program",
         names("tests/programs.py", r"(test_(?!sockdump)\w+)\(program\)"), (), "*"),
     Row("python3 tests/captures.py $STAND_INS/program",
-        names("tests/captures.py", r"(\w+)\(sslist\)"), (), "*"),
+        names("tests/captures.py", r"((?!main)\w+)\(\)"), (), "*"),
     Row("tests/api/must_not_compile.sh", ("a name that outlives its bytes was not rejected",),
         (("tests/over_gate.sh", None, PROGRAM),), ""),
     Row(f"{MEMORY} $STAND_INS/allocations $STAND_INS/program $STAND_INS/program",
