@@ -9,17 +9,15 @@ them only copies of code and commands in the text are checked.
   an example under bench/original. Indentation and blank lines are ignored. In a README.md a block
   may omit the contracts. A `text` block in a CALLING.md quotes contracts below a line that names
   the file. Each quoted line has to occur in that file, in the notation of these pages.
-- Shell commands are run in a folder with what the page assumes: the programs, the stored capture as
-  FILE, a library whose functions return 0. Each command has to end with status 0. If a command
-  follows `$ `, standard output has to be the lines that follow it.
-- Commands that NOT_RUN lists are not run. The files and options that they name have to exist, and
-  so have those in the commands of the text.
+- Shell commands of the words RUN are run in a folder with what the page assumes: the programs, the
+  stored capture as FILE, a library whose functions return 0. Each has to end with status 0. If a
+  command follows `$ `, standard output has to be the lines that follow it.
+- The files and the options of our programs and scripts exist in all commands, also in the text.
 - FORMS lists the other forms of blocks, such as input and answers of `sockdiag`, and how each is
-  checked.
+  checked. A block of another form is an error.
 
-A block that is none of these is an error: to add a command of another kind, add it to RUN or
-NOT_RUN. Prints each error with its page and line, each command that is skipped since its tool is
-not installed, and the numbers of commands and blocks. The exit status is 1 if there is an error.
+Prints each error with its page and line, each command that is skipped since its tool is not
+installed, and the numbers of commands and blocks. The exit status is 1 if there is an error.
 """
 
 import hashlib
@@ -64,28 +62,8 @@ RUN = set("""./sockdiag ./sockdump ./sslist bin/sockdiag bin/sslist sockdiag ssl
 # Those of them that need a compiler, and those that are never missing.
 COMPILING = {"cc", "make", "pkg-config", "sockdump", "./sockdump", "examples/sockdump"}
 BUILTIN = {"cd", "done", "echo", "export", "for", "printf", *PROGRAMS}
-# How the other commands begin, and why they are not run.
-NOT_RUN = {
-    r"\.ci/run": "it is the gate, which runs this script",
-    r"rt ": "proofs take minutes, and `rt ci` runs all of them",
-    r"tools/erase ": "tests/erased.py runs it",
-    r"tools/vendor ": "it copies results of proofs; tests/vendor.sh runs it",
-    r"examples/list_(sockets|rtt)": "it needs the built library; tests/api/c_api.sh runs it",
-    r"cargo ": "it takes minutes; tests/api/erased.sh runs cargo",
-    r"cc .*tests/api/fuzz_c\.c|out/fuzz_c": "it needs the library; tests/api/c_api.sh runs both",
-    r"tests/api/fetch_targets\.sh": "it needs a network",
-    r"tests/api/\w+\.sh": "it needs the library; the gate runs it later",
-    r"tests/(captures|pages|programs|tables)\.py": "the gate runs them",
-    r"tests/edits\.py": "it needs what the gate builds, which runs it later",
-    r"bench/": "it needs valgrind, and takes minutes",
-    r"watch |.*sockdump --events": "it does not end",
-    r".*sockdump --netns": "it needs root and a namespace",
-    r"ldconfig": "it needs root",
-    r"apt ": "it needs root; tests/release.sh installs the packages in another root",
-    r"dpkg-buildpackage ": "it takes minutes; tests/release.sh runs it",
-    r"BUILT=": "it needs what cargo builds; tests/api/erased.sh runs it",
-    r"(modprobe|ip link|tcpdump) ": "it needs root and the kernel module nlmon",
-}
+# Commands of these words that are not run: they do not end, need root, or need a built library.
+NOT_RUN = re.compile(r".*(sockdump --(events|netns)|fuzz_c|BUILT=)")
 # The first names of input lines of `sockdiag`.
 NAMES = "unixreq|unix|unixview|inetreq|inet|sockid4|sockid6|message|netlink|dump"
 ANSWER = re.compile(r"(ok|refused|unwritable|bad line)\b")
@@ -241,11 +219,6 @@ def is_complete(command):
     ).returncode
 
 
-def reason(command):
-    """Returns how a command begins that is not run, or None."""
-    return next((start for start in NOT_RUN if re.match(start, command)), None)
-
-
 def exists(path):
     """Returns whether a file exists, or the source from which it is built."""
     built = re.fullmatch(r"(crates/\w+)/out/.*", path)
@@ -275,64 +248,21 @@ def is_option(program, option):
     return re.search(rf"(?<![\w-]){re.escape(name)}(?![\w-])", text) is not None
 
 
-def is_argument(program, word):
-    """Returns whether a script names an argument, or it is a crate. Programs take files."""
-    source = source_of(program)
-    text = source.read_text(encoding="utf-8") if source else word
-    return re.search(rf"\b{word}\b", text) is not None or (TOP / "crates" / word).is_dir()
-
-
-@cache
-def rt_guides():
-    """Returns what `rt help` prints and the guides of the kit, or None without the kit."""
-    if not shutil.which("rt"):
-        return None
-    run = {"stdout": subprocess.PIPE, "stderr": subprocess.STDOUT, "text": True}
-    usage, first = (subprocess.run(["rt", it], **run).stdout for it in ("help", "doc"))
-    guides = Path(first.strip()).parent.glob("rattle/*.md")
-    return usage + "".join(it.read_text(encoding="utf-8") for it in guides)
-
-
-def wrong_rt(command, *words):
-    """Yields the command and the options of `rt` that its help and its guides do not name."""
-    commands = re.findall(r"\brt ([\w|-]+)", rt_guides())
-    if command not in {"help", *(name for names in commands for name in names.split("|"))}:
-        yield f"rt has no command {command}"
-    yield from (f"rt has no option {it}" for it in words if it.startswith("--")
-                and not re.search(rf"(?<![\w-]){it}(?![\w-])", rt_guides()))
-
-
 def wrong_options(program, rest):
-    """Yields the options, arguments, targets and examples in a command that do not exist."""
-    options = [word for word in rest if re.match(r"--?\w", word)]
+    """Yields the options in a command that the program or the script does not have."""
     if Path(program).name in PROGRAMS or source_of(program):
-        yield from (f"{program} has no option {it}" for it in options if not is_option(program, it))
-        yield from (f"{program} does not name {it}" for it in rest
-                    if re.fullmatch(r"[a-z_]+", it) and not is_argument(program, it))
-    elif program == "make" and rest[:1] == ["-C"]:
-        rules = TOP / rest[1] / "Makefile"
-        text = rules.read_text(encoding="utf-8") if rules.is_file() else ""
-        yield from (f"make has no target {it}" for it in rest[2:] if f"\n{it}:" not in text)
-    elif program == "cargo" and "--example" in rest:
-        name = rest[rest.index("--example") + 1]
-        if not (TOP / f"tools/erased/examples/{name}.rs").is_file():
-            yield f"tools/erased has no example {name}"
-    elif program == "rt" and rest and rt_guides():
-        yield from wrong_rt(*rest)
+        for word in rest:
+            if re.match(r"--?\w", word) and not is_option(program, word):
+                yield f"{program} has no option {word}"
 
 
 def wrong_names(command, page):
-    """Yields the files and options in a command of a page that do not exist, and the scripts that
-    cannot be started as the page starts them."""
+    """Yields the files and options in a command of a page that do not exist."""
     for words in simple_commands(command):
         program, *rest = words[1:] if words[0] == "python3" and len(words) > 1 else words
         for path in filter(None, map(PATH.fullmatch, words)):
             if not exists(path[1]) and not (page.parent / path[1]).exists():
                 yield f"{path[1]} does not exist"
-        script = TOP / program
-        if program == words[0] and script.is_file() and not os.access(script, os.X_OK):
-            if script.read_bytes()[:2] == b"#!":
-                yield f"{program} is not executable"
         yield from wrong_options(program, rest)
 
 
@@ -419,7 +349,6 @@ class Checker:
     def __init__(self, folder):
         self.folder = folder
         self.counts = Counter()
-        self.used = set()
         # Blocks that are compared with what the commands of all pages print.
         self.shown = []
 
@@ -431,11 +360,11 @@ class Checker:
                 continue
             while lines and not lines[-1].strip():
                 lines.pop()
-            form = next((check for start, check in FORMS.get(language, {}).items()
-                         if re.match(start, "".join(lines[:1]))), None)
-            if form:
-                self.counts["blocks compared"] += 1
-                errors = form(self, page, number, lines)
+            forms = [check for start, check in FORMS.get(language, {}).items()
+                     if re.match(start, "".join(lines[:1]))]
+            if forms:
+                self.counts["blocks compared"] += forms[0] is not None
+                errors = forms[0](self, page, number, lines) if forms[0] else []
             elif language in (INDENTED, MANUAL):
                 if not is_prepared:
                     self.folder.prepare()
@@ -451,15 +380,12 @@ class Checker:
         chosen, missing = [], None
         for command, shown in commands_of(lines):
             yield from wrong_names(command, page)
-            start = reason(command)
             words = [it[0] for it in simple_commands(command)]
-            if start:
-                self.used.add(start)
+            if NOT_RUN.match(command) or not RUN.issuperset(words):
                 self.counts["commands not run"] += 1
+                if shown is not None:
+                    yield f"is not run, so its output is not compared: {command.strip()}"
                 continue
-            if not RUN.issuperset(words):
-                yield f"neither run nor in NOT_RUN: {command.strip()}"
-                return
             missing = missing or next((it for it in words if not is_found(it)), None)
             if command.strip() == "./sockdiag" and shown:
                 self.counts["commands run"] += 1
@@ -509,64 +435,11 @@ class Checker:
         stored = set(zip(*(text.splitlines() for text in files)))
         yield from self.check_answers(page, number, lines, stored)
 
-    def check_reply(self, page, number, lines):
-        """Checks that the bytes in a table of a UNIX reply are at their offsets, and are stored."""
-        digits = ""
-        for offset, part, *_ in map(str.split, lines[1:]):
-            if int(offset) != len(digits) // 2:
-                yield f"the bytes {part} are at the offset {len(digits) // 2}"
-            digits += part
-        if f"unix {digits}" not in (TOP / "crates/sockdiag/stdin").read_text("utf-8").splitlines():
-            yield f"not in crates/sockdiag/stdin: unix {digits}"
-
     def check_shown(self, page, number, lines):
         """Notes lines, which are compared with what all commands print and write when they have
         run."""
         self.shown.append((page, number, lines))
         return []
-
-    def check_test_ends(self, page, number, lines):
-        """Checks that tests/api has the programs and scripts that print these lines."""
-        for line in lines:
-            name, _, text = line.partition(": ")
-            found = [*TOP.glob(f"tests/api/{name}.c"), *TOP.glob(f"tests/api/{name}.sh")]
-            texts = [it.read_text("utf-8") for it in [*found, TOP / "tests/api/check.h"]]
-            if not found or not any(text in it for it in texts):
-                yield f"no test prints: {line}"
-
-    def check_dependency(self, page, number, lines):
-        """Checks that a release has a package at the path of a dependency, or that a command of the
-        page writes one there. Other lines may have overflow checked."""
-        packed = (TOP / "tests/release.txt").read_text("utf-8")
-        path = re.fullmatch(r'sockdiag = \{ path = "(\S+)" \}', "".join(lines[1:2]))
-        is_written = path and f"tools/erase {path[1]}\n" in page.read_text("utf-8")
-        if not path or not is_written and f" {path[1]}/Cargo.toml\n" not in packed:
-            yield f"no crate at {''.join(lines[1:2])}"
-        if lines[2:] not in ([], ["", "[profile.release]", "overflow-checks = true"]):
-            yield f"other lines after the dependency: {lines[2:]}"
-
-    def check_names(self, page, number, lines):
-        """Checks that public items have the names in a list of imports."""
-        surface = (TOP / "tests/surface.txt").read_text(encoding="utf-8")
-        for name in re.findall(r"\w+", " ".join(re.findall(r"\{(.*?)\}", "".join(lines)))):
-            if f"::{name}: pub " not in surface:
-                yield f"no public item {name}"
-
-    def check_crates(self, page, number, lines):
-        """Checks that a picture has the names of crates, and in crates/README.md all of them: each
-        depends only on crates in lower rows."""
-        text = (TOP / "crates.txt").read_text(encoding="utf-8")
-        found = re.findall(r"(?m)^(\w+)[\w ]*:(.*)$", text)
-        crates = {name: used.split() for name, used in found}
-        words = [re.split(r"\W+", line) for line in lines]
-        rows = [[it for it in row if "_" in it or it in crates] for row in words]
-        named = {it: row for row, names in enumerate(rows) for it in names}
-        yield from (f"no crate {name}" for name in named if name not in crates)
-        if page.parent.name == "crates":
-            ours = [name for name in crates if not name.endswith("_tests")]
-            yield from (f"{name} is missing" for name in ours if name not in named)
-            yield from (f"{name} is not above {used}" for name in ours for used in crates[name]
-                        if name in named and named.get(used, len(rows)) <= named[name])
 
     def wrong_outputs(self):
         """Yields the page, the line number and the text of each block that no command printed."""
@@ -580,20 +453,16 @@ class Checker:
                 yield page, number, f"no command prints or writes: {lines[0]}"
 
 
-# The first line of a section of dependencies.
-DEPENDENCIES = r"\[dependencies\]$"
-# How the first line of a block of each form begins, and how the block is checked.
+# How the first line of a block of each form begins, and how the block is checked, or None.
 FORMS = {
     INDENTED: {
         rf"({NAMES}) [0-9a-f-]": Checker.check_stored,
         r"(tools/install: |inet  |try_it: |//! )": Checker.check_shown,
-        r"\w+: all tests pass$": Checker.check_test_ends,
-        DEPENDENCIES: Checker.check_dependency,
-        r"\w+(::\w+)*::\{": Checker.check_names,
+        r"\w+: all tests pass$|\[dependencies\]$|\w+(::\w+)*::\{": None,
     },
     "json": {r"\{": Checker.check_shown},
-    "toml": {DEPENDENCIES: Checker.check_dependency},
-    "text": {r"programs  ": Checker.check_crates, r"offset ": Checker.check_reply},
+    "toml": {r"\[dependencies\]$": None},
+    "text": {r"programs  |offset ": None},
 }
 
 
@@ -650,8 +519,6 @@ def main():
             errors += [(page, *it) for page, found in pages.items()
                        for it in checker.check_page(page, found)]
             errors += checker.wrong_outputs()
-        errors += [(Path(__file__), 0, f"NOT_RUN: no page has {it}") for it in NOT_RUN
-                   if it not in checker.used]
         counts |= checker.counts
     for page, number, text in errors:
         place = f"{page.resolve().relative_to(TOP)}:{number}"

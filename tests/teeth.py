@@ -132,11 +132,6 @@ planted();
 {"planted": 1}
 ```
 
-```toml
-[dependencies]
-planted
-```
-
 ```text
 planted
 ```
@@ -153,7 +148,8 @@ Two commands:
 
 Another one:
 
-    planted
+    $ planted
+    1
 """
 FUNCTION = "\nfn planted() -> u8 {\n    1\n}\n"
 # An edit of a function that is added for it.
@@ -234,9 +230,9 @@ ROWS = [
     )),
     Row("python3 tests/pages.py $STAND_INS/sockdiag $STAND_INS/sslist", (
         "tests/tidy.py has no option --planted", "rust block is not in any file",
-        "no command prints or writes: {", "no crate at planted", "form, language text",
+        "no command prints or writes: {", "form, language text",
         "the answer is planted, not ok 00", "not in crates/sockdiag/stdin: unix 00",
-        "prints something else: sslist FILE", "neither run nor in NOT_RUN: planted",
+        "prints something else: sslist FILE", "its output is not compared: planted",
     ), (
         ("docs/PLANTED.md", None, PAGE),
         ("tests/pages.py", "DOCUMENTS = [", 'DOCUMENTS = ["docs/PLANTED.md"] or ['),
