@@ -13,7 +13,6 @@ import struct
 import sys
 
 sys.dont_write_bytecode = True
-import pcapng
 import runs
 from runs import HEADING, PCAP, SOCK_DIAG, attributes, listed, pcap, with_attributes
 
@@ -540,11 +539,19 @@ def columns(netid, line):
     return netid.ljust(6) + line.splitlines()[0][6:]
 
 
+def block(order, kind, body):
+    """Returns a block of a pcapng file. Its body is padded."""
+    body += bytes(-len(body) % 4)
+    length = struct.pack(order + "I", 12 + len(body))
+    return struct.pack(order + "I", kind) + length + body + length
+
+
 def enhanced(order, *parts):
     """Returns an enhanced packet block of the first interface, captured 7.000009 seconds after 1970
     if its timestamps have microseconds."""
     packet = digits(*parts)
-    return pcapng.enhanced(order, 0, 7_000_009, len(packet), packet)
+    fields = struct.pack(order + "5I", 0, 0, 7_000_009, len(packet), len(packet))
+    return block(order, 6, fields + packet)
 
 
 def section(number, *packets):
@@ -991,6 +998,24 @@ def errors():
         *(([STARTS[0], block], f"packet 1: {error}") for block, error in INVALID),
     ):
         yield digits(*parts), "", None, [error]
+
+
+@table
+def other_blocks():
+    """Packets of a pcapng file in the simple form and in an obsolete one, after blocks without a
+    packet: statistics, an interface of another link type, and an unknown type, of 16 MiB at most."""
+    packet = digits(SOCK_DIAG, UNIX)
+    for order, start in zip("<>", map(digits, STARTS)):
+        simple = block(order, 3, struct.pack(order + "I", len(packet)) + packet)
+        fields = struct.pack(order + "2H4I", 0, 7, 0, 7_000_009, len(packet), len(packet))
+        flags = struct.pack(order + "2HI", 2, 4, 0)
+        others = block(order, 5, bytes(12)) + block(order, 1, struct.pack(order + "2HI", 1, 0, 0))
+        yield start + simple + others + block(order, 2, fields + packet + flags), "", UNIX_LINE * 2
+        for size, lines, error in (
+            ((1 << 24) - 12, UNIX_LINE, []),
+            (1 << 24, [], ["packet 1: invalid length of the block at offset 48"]),
+        ):
+            yield start + block(order, 0x80001234, bytes(size)) + simple, "", lines, error
 
 
 @table

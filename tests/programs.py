@@ -20,9 +20,7 @@ import tempfile
 import traceback
 import unicodedata
 from datetime import datetime, timedelta, timezone
-from pathlib import Path
 
-import pcapng
 import runs
 from runs import CAPTURE, TABLE, TOP, attribute, check, message, packet, run
 
@@ -387,32 +385,6 @@ def check_explanations(program, file_header, heading, errno):
         check(program, [], given, status, heading, re.escape(line))
 
 
-def test_pcapng(program):
-    """Lists the stored capture in pcapng format: it has the output of the capture in pcap format.
-    Also lists it with a long block that is skipped."""
-    capture = CAPTURE.read_bytes()
-    # Timestamps of a capture with this magic number have nanoseconds.
-    nanoseconds = b"\x4d\x3c\xb2\xa1" + capture[4:]
-    for given in (capture, nanoseconds):
-        for form in (pcapng.ENHANCED, pcapng.PACKET, pcapng.SIMPLE):
-            for order, sections in [(it, many) for it in "<>" for many in (False, True)]:
-                written = pcapng.pcapng_of(given, order, form, sections)
-                for arguments in [[], ["--requests"]]:
-                    if arguments and form == pcapng.SIMPLE:
-                        continue
-                    status, table, errors = run(program, arguments, given)
-                    check(program, arguments, written, status, table, re.escape(errors))
-    status, table, errors = run(program, [], capture)
-    written = pcapng.pcapng_of(capture)
-    long = pcapng.block("<", pcapng.UNKNOWN, bytes((1 << 24) - 12))
-    start = len(pcapng.section("<"))
-    check(program, [], written[:start] + long + written[start:], status, table, re.escape(errors))
-    over = pcapng.block("<", pcapng.UNKNOWN, bytes(1 << 24))
-    heading = table.splitlines(True)[0]
-    text = b"sslist: packet 1: invalid length of the block at offset %d\n" % start
-    check(program, [], written[:start] + over + written[start:], 1, heading, re.escape(text))
-
-
 def test_long_inputs(program):
     """Lists a reply with long attributes, and a capture with more requests than the program
     retains."""
@@ -691,7 +663,7 @@ if __name__ == "__main__":
     failed = []
     tests = [(test_sockdiag, sockdiag), *((it, sslist) for it in (
         test_sslist, test_options, test_times, test_letters, test_rejections, test_terminal,
-        test_diagnostics, test_pcapng, test_json, test_long_inputs, test_unreadable_file,
+        test_diagnostics, test_json, test_long_inputs, test_unreadable_file,
         *[test_sockdump] * bool(shutil.which("gcc")),
     ))]
     if not is_rust:
