@@ -546,11 +546,11 @@ def block(order, kind, body):
     return struct.pack(order + "I", kind) + length + body + length
 
 
-def enhanced(order, *parts):
-    """Returns an enhanced packet block of the first interface, captured 7.000009 seconds after 1970
-    if its timestamps have microseconds."""
+def enhanced(order, *parts, interface=0):
+    """Returns an enhanced packet block of an interface, captured 7.000009 seconds after 1970 if its
+    timestamps have microseconds."""
     packet = digits(*parts)
-    fields = struct.pack(order + "5I", 0, 0, 7_000_009, len(packet), len(packet))
+    fields = struct.pack(order + "5I", interface, 0, 7_000_009, len(packet), len(packet))
     return block(order, 6, fields + packet)
 
 
@@ -1002,15 +1002,19 @@ def errors():
 
 @table
 def other_blocks():
-    """Packets of a pcapng file in the simple form and in an obsolete one, after blocks without a
-    packet: statistics, an interface of another link type, and an unknown type, of 16 MiB at most."""
+    """Packets of a pcapng file in the simple form, in an obsolete one and of another interface, after
+    blocks without a packet: statistics, an interface of another link type, and an unknown type, of
+    less than 16 MiB."""
     packet = digits(SOCK_DIAG, UNIX)
     for order, start in zip("<>", map(digits, STARTS)):
         simple = block(order, 3, struct.pack(order + "I", len(packet)) + packet)
-        fields = struct.pack(order + "2H4I", 0, 7, 0, 7_000_009, len(packet), len(packet))
-        flags = struct.pack(order + "2HI", 2, 4, 0)
-        others = block(order, 5, bytes(12)) + block(order, 1, struct.pack(order + "2HI", 1, 0, 0))
-        yield start + simple + others + block(order, 2, fields + packet + flags), "", UNIX_LINE * 2
+        ethernet, netlink = (
+            block(order, 1, struct.pack(order + "2HI", it, 0, 0)) for it in (1, 253))
+        fields = struct.pack(order + "2H4I", 2, 7, 0, 7_000_009, len(packet), len(packet))
+        obsolete = block(order, 2, fields + packet + struct.pack(order + "2HI", 2, 4, 0))
+        capture = start + simple + block(order, 5, bytes(12)) + ethernet + netlink + obsolete
+        capture += enhanced(order, SOCK_DIAG, UNIX, interface=2)
+        yield capture, "", UNIX_LINE * 3
         for size, lines, error in (
             ((1 << 24) - 12, UNIX_LINE, []),
             (1 << 24, [], ["packet 1: invalid length of the block at offset 48"]),
