@@ -604,6 +604,38 @@ def each_family():
     yield uid, "", {"uid": 7}
 
 
+def numbers(*values):
+    """Returns the digits of numbers of 32 bits."""
+    return struct.pack(f"<{len(values)}I", *values).hex()
+
+
+@table
+def distinct_numbers():
+    """Each number of a reply has its place: a socket whose numbers differ from each other."""
+    names = ("rmem_alloc", "rcvbuf", "wmem_alloc", "sndbuf", "fwd_alloc", "wmem_queued", "optmem",
+             "backlog", "drops")
+    reply = (INET4[:32] + "02010203" "00010002" "c0000201" + "00" * 12 + "c0000202" + "00" * 12
+             + numbers(4, 5, 6, 7, 8, 9, 10, 11))
+    reply = with_attributes(reply, (7, numbers(*range(21, 30))), (1, numbers(31, 32, 33, 34)),
+                            (4, b"bbr\0".hex()))
+    yield listed(reply), "-oemi", (
+        "inet  ESTAB      8      9      11         10    192.0.2.1%4:1                  192.0.2.2:2"
+        "\n\t timer:(keepalive,7ms,3) sk:600000005 mem:(r31,w32,f33,t34) cong:bbr skmem:(r21,rb22,"
+        "t23,tb24,f25,w26,o27,bl28,d29)\n")
+    yield listed(reply), "", {
+        "state": 1, "timer": 2, "retrans": 3, "sport": 1, "dport": 2, "src": "192.0.2.1",
+        "dst": "192.0.2.2", "if": 4, "cookie": "600000005", "expires": 7, "rqueue": 8, "wqueue": 9,
+        "uid": 10, "inode": 11, "meminfo": {"rmem": 31, "wmem": 32, "fmem": 33, "tmem": 34},
+        "cong": "bbr", "skmeminfo": dict(zip(names, range(21, 30)))}
+    reply = with_attributes(UNIX[:64], (1, numbers(1, 2)), (3, numbers(3, 4)),
+                            (5, numbers(*range(5, 14))))
+    yield listed(reply), "-oem", (
+        "u_str LISTEN     -      -      20238      -     *                              *\n"
+        "\t sk:2a0 vfs:(1,2) pending:3 pending:4 skmem:(r5,rb6,t7,tb8,f9,w10,o11,bl12,d13)\n")
+    yield listed(reply), "", {"vfs": {"ino": 1, "dev": 2}, "icons": [3, 4],
+                              "meminfo": dict(zip(names, range(5, 14)))}
+
+
 @table
 def values_of_other_families():
     """Groups, flags, rings, fanout groups, memory and counters of netlink, packet and XDP sockets.

@@ -248,12 +248,50 @@ def is_option(program, option):
     return re.search(rf"(?<![\w-]){re.escape(name)}(?![\w-])", text) is not None
 
 
+def is_argument(program, word):
+    """Returns whether a script names an argument, or it is a crate. Programs take files."""
+    source = source_of(program)
+    text = source.read_text(encoding="utf-8") if source else word
+    return re.search(rf"\b{word}\b", text) is not None or (TOP / "crates" / word).is_dir()
+
+
+@cache
+def rt_guides():
+    """Returns what `rt help` prints and the guides of the kit, or None without the kit."""
+    if not shutil.which("rt"):
+        return None
+    run = {"stdout": subprocess.PIPE, "stderr": subprocess.STDOUT, "text": True}
+    usage, first = (subprocess.run(["rt", it], **run).stdout for it in ("help", "doc"))
+    guides = Path(first.strip()).parent.glob("rattle/*.md")
+    return usage + "".join(it.read_text(encoding="utf-8") for it in guides)
+
+
+def wrong_rt(command, *words):
+    """Yields the command and the options of `rt` that its help and its guides do not name."""
+    commands = re.findall(r"\brt ([\w|-]+)", rt_guides())
+    if command not in {"help", *(name for names in commands for name in names.split("|"))}:
+        yield f"rt has no command {command}"
+    yield from (f"rt has no option {it}" for it in words if it.startswith("--")
+                and not re.search(rf"(?<![\w-]){it}(?![\w-])", rt_guides()))
+
+
 def wrong_options(program, rest):
-    """Yields the options in a command that the program or the script does not have."""
+    """Yields the options, arguments, targets and examples in a command that do not exist."""
+    options = [word for word in rest if re.match(r"--?\w", word)]
     if Path(program).name in PROGRAMS or source_of(program):
-        for word in rest:
-            if re.match(r"--?\w", word) and not is_option(program, word):
-                yield f"{program} has no option {word}"
+        yield from (f"{program} has no option {it}" for it in options if not is_option(program, it))
+        yield from (f"{program} does not name {it}" for it in rest
+                    if re.fullmatch(r"[a-z_]+", it) and not is_argument(program, it))
+    elif program == "make" and rest[:1] == ["-C"]:
+        rules = TOP / rest[1] / "Makefile"
+        text = rules.read_text(encoding="utf-8") if rules.is_file() else ""
+        yield from (f"make has no target {it}" for it in rest[2:] if f"\n{it}:" not in text)
+    elif program == "cargo" and "--example" in rest:
+        name = rest[rest.index("--example") + 1]
+        if not (TOP / f"tools/erased/examples/{name}.rs").is_file():
+            yield f"tools/erased has no example {name}"
+    elif program == "rt" and rest and rt_guides():
+        yield from wrong_rt(*rest)
 
 
 def wrong_names(command, page):
@@ -360,11 +398,11 @@ class Checker:
                 continue
             while lines and not lines[-1].strip():
                 lines.pop()
-            forms = [check for start, check in FORMS.get(language, {}).items()
-                     if re.match(start, "".join(lines[:1]))]
-            if forms:
-                self.counts["blocks compared"] += forms[0] is not None
-                errors = forms[0](self, page, number, lines) if forms[0] else []
+            form = next((check for start, check in FORMS.get(language, {}).items()
+                         if re.match(start, "".join(lines[:1]))), None)
+            if form:
+                self.counts["blocks compared"] += 1
+                errors = form(self, page, number, lines)
             elif language in (INDENTED, MANUAL):
                 if not is_prepared:
                     self.folder.prepare()
@@ -441,6 +479,59 @@ class Checker:
         self.shown.append((page, number, lines))
         return []
 
+    def check_reply(self, page, number, lines):
+        """Checks that the bytes in a table of a UNIX reply are at their offsets, and are stored."""
+        digits = ""
+        for offset, part, *_ in map(str.split, lines[1:]):
+            if int(offset) != len(digits) // 2:
+                yield f"the bytes {part} are at the offset {len(digits) // 2}"
+            digits += part
+        if f"unix {digits}" not in (TOP / "crates/sockdiag/stdin").read_text("utf-8").splitlines():
+            yield f"not in crates/sockdiag/stdin: unix {digits}"
+
+    def check_test_ends(self, page, number, lines):
+        """Checks that tests/api has the programs and scripts that print these lines."""
+        for line in lines:
+            name, _, text = line.partition(": ")
+            found = [*TOP.glob(f"tests/api/{name}.c"), *TOP.glob(f"tests/api/{name}.sh")]
+            texts = [it.read_text("utf-8") for it in [*found, TOP / "tests/api/check.h"]]
+            if not found or not any(text in it for it in texts):
+                yield f"no test prints: {line}"
+
+    def check_dependency(self, page, number, lines):
+        """Checks that a release has a package at the path of a dependency, or that a command of the
+        page writes one there. Other lines may have overflow checked."""
+        packed = (TOP / "tests/release.txt").read_text("utf-8")
+        path = re.fullmatch(r'sockdiag = \{ path = "(\S+)" \}', "".join(lines[1:2]))
+        is_written = path and f"tools/erase {path[1]}\n" in page.read_text("utf-8")
+        if not path or not is_written and f" {path[1]}/Cargo.toml\n" not in packed:
+            yield f"no crate at {''.join(lines[1:2])}"
+        if lines[2:] not in ([], ["", "[profile.release]", "overflow-checks = true"]):
+            yield f"other lines after the dependency: {lines[2:]}"
+
+    def check_names(self, page, number, lines):
+        """Checks that public items have the names in a list of imports."""
+        surface = (TOP / "tests/surface.txt").read_text(encoding="utf-8")
+        for name in re.findall(r"\w+", " ".join(re.findall(r"\{(.*?)\}", "".join(lines)))):
+            if f"::{name}: pub " not in surface:
+                yield f"no public item {name}"
+
+    def check_crates(self, page, number, lines):
+        """Checks that a picture has the names of crates, and in crates/README.md all of them: each
+        depends only on crates in lower rows."""
+        text = (TOP / "crates.txt").read_text(encoding="utf-8")
+        found = re.findall(r"(?m)^(\w+)[\w ]*:(.*)$", text)
+        crates = {name: used.split() for name, used in found}
+        words = [re.split(r"\W+", line) for line in lines]
+        rows = [[it for it in row if "_" in it or it in crates] for row in words]
+        named = {it: row for row, names in enumerate(rows) for it in names}
+        yield from (f"no crate {name}" for name in named if name not in crates)
+        if page.parent.name == "crates":
+            ours = [name for name in crates if not name.endswith("_tests")]
+            yield from (f"{name} is missing" for name in ours if name not in named)
+            yield from (f"{name} is not above {used}" for name in ours for used in crates[name]
+                        if name in named and named.get(used, len(rows)) <= named[name])
+
     def wrong_outputs(self):
         """Yields the page, the line number and the text of each block that no command printed."""
         for option in ("--json", "--"):
@@ -453,16 +544,20 @@ class Checker:
                 yield page, number, f"no command prints or writes: {lines[0]}"
 
 
-# How the first line of a block of each form begins, and how the block is checked, or None.
+# The first line of a section of dependencies.
+DEPENDENCIES = r"\[dependencies\]$"
+# How the first line of a block of each form begins, and how the block is checked.
 FORMS = {
     INDENTED: {
         rf"({NAMES}) [0-9a-f-]": Checker.check_stored,
         r"(tools/install: |inet  |try_it: |//! )": Checker.check_shown,
-        r"\w+: all tests pass$|\[dependencies\]$|\w+(::\w+)*::\{": None,
+        r"\w+: all tests pass$": Checker.check_test_ends,
+        DEPENDENCIES: Checker.check_dependency,
+        r"\w+(::\w+)*::\{": Checker.check_names,
     },
     "json": {r"\{": Checker.check_shown},
-    "toml": {r"\[dependencies\]$": None},
-    "text": {r"programs  |offset ": None},
+    "toml": {DEPENDENCIES: Checker.check_dependency},
+    "text": {r"programs  ": Checker.check_crates, r"offset ": Checker.check_reply},
 }
 
 

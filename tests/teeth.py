@@ -132,6 +132,11 @@ planted();
 {"planted": 1}
 ```
 
+```toml
+[dependencies]
+planted
+```
+
 ```text
 planted
 ```
@@ -230,7 +235,7 @@ ROWS = [
     )),
     Row("python3 tests/pages.py $STAND_INS/sockdiag $STAND_INS/sslist", (
         "tests/tidy.py has no option --planted", "rust block is not in any file",
-        "no command prints or writes: {", "form, language text",
+        "no command prints or writes: {", "no crate at planted", "form, language text",
         "the answer is planted, not ok 00", "not in crates/sockdiag/stdin: unix 00",
         "prints something else: sslist FILE", "its output is not compared: planted",
     ), (
