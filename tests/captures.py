@@ -1,18 +1,20 @@
 #!/usr/bin/env python3
-"""captures.py SSLIST: runs the program over captures that are made here from hexadecimal digits,
-and compares what it writes on standard output and standard error, and its exit status. The gate
-runs it with the program that it has built. The last line has the number of runs."""
+"""tests/captures.py SSLIST: compares what the program writes for captures that are made here from
+hexadecimal digits. The last line has the number of runs. The status is 1 if something differs.
+
+A table is a function below `@table`. Its rows are what it yields: the capture, the options, what
+is shown, and the lines on standard error without the name of the program. What is shown are the
+lines after the heading, or members of the first object of --json. Then the status is 0 if there are
+no such lines or only notes, and otherwise 1. A further row of a table is a further `yield`.
+"""
 
 import json
 import struct
-import subprocess
 import sys
-from pathlib import Path
 
 sys.dont_write_bytecode = True
-import pcapng
-
-HEADING = (Path(__file__).parent.parent / "crates/sslist/stdout").read_text().splitlines(True)[0]
+import runs
+from runs import HEADING, PCAP, SOCK_DIAG, attributes, listed, pcap, with_attributes
 
 # A reply about an IPv6 socket in TIME-WAIT. Local: [fe80::1], interface 3, port 22. Peer:
 # [2001:db8::ff], port 40000.
@@ -93,14 +95,13 @@ ASSOCIATION_STATES = [
     "SHUTDOWN_RECEIVED", "ACK_SENT", "UNKNOWN",
 ]
 
-# The cooked header of a packet of sock_diag(7), and of one of another protocol.
-SOCK_DIAG = "00040338000000000000000000000004"
+# The cooked header of a packet of another protocol.
 OTHER = "00040338000000000000000000000000"
 
 # File headers in both byte orders, with both magic numbers. One that begins with `a` is
 # big-endian.
 HEADERS = [
-    "d4c3b2a102000400000000000000000000100000fd000000",
+    PCAP,
     "4d3cb2a102000400000000000000000000100000fd000000",
     "a1b23c4d00020004000000000000000000001000000000fd",
     "a1b2c3d400020004000000000000000000001000000000fd",
@@ -484,80 +485,84 @@ INVALID = [
     ),
 ]
 
-
-class Lister:
-    """The program, and the number of its runs."""
-
-    def __init__(self, program):
-        self.program, self.runs = program, 0
-
-    def run(self, capture, options=(), lines=None, errors=(), status=None):
-        """Lists a capture. `lines` are those after the heading. `errors` are the lines on standard
-        error, without the name of the program. The status is 0 unless there is an error, or as
-        given. Without `lines` the table is not compared."""
-        self.runs += 1
-        ended = subprocess.run([self.program, *options], input=capture, capture_output=True)
-        heading = "" if {"--json", "-H"} & set(options) else HEADING
-        table = None if lines is None else (heading + "".join(lines)).encode()
-        wanted = (bool(errors) if status is None else status, table,
-                  "".join(f"sslist: {error}\n" for error in errors).encode())
-        got = (ended.returncode, None if lines is None else ended.stdout, ended.stderr)
-        assert got == wanted, f"{options} {capture.hex()[:400]}: {got}, expected {wanted}"
-
-    def objects(self, capture):
-        """Returns the objects of a capture in JSON."""
-        self.runs += 1
-        ended = subprocess.run([self.program, "--json"], input=capture, capture_output=True)
-        assert (ended.returncode, ended.stderr) == (0, b""), ended
-        return [json.loads(line) for line in ended.stdout.splitlines()]
-
-    def fails(self, *digits, errors, status=1):
-        """Lists the capture with these digits, and compares what is on standard error."""
-        self.run(bytes.fromhex("".join(digits)), errors=errors, status=status)
+# The time of the packets of `pcap` and `enhanced` in microseconds; of those of `enhanced` in
+# nanoseconds.
+SEVEN = "1970-01-01T00:00:07.000009000Z"
+SEVEN_IN_NANOSECONDS = "1970-01-01T00:00:00.007000009Z"
+TABLES = []
 
 
-def pcap(header, *packets):
-    """Returns a capture with this file header. The time of each packet is 7 seconds and 9 units."""
-    order = ">" if header.startswith("a") else "<"
-    capture = bytes.fromhex(header)
-    for packet in packets:
-        packet = bytes.fromhex("".join(packet))
-        capture += struct.pack(f"{order}4I", 7, 9, len(packet), 0) + packet
-    return capture
+class Part(dict):
+    """Some members of an object in JSON, in the object's order. A member that is None is absent."""
 
 
-def enhanced(order, *digits):
-    """Returns an enhanced packet block of the first interface, captured 7.000009 seconds after 1970
-    if its timestamps have microseconds."""
-    packet = bytes.fromhex("".join(digits))
-    return pcapng.enhanced(order, 0, 7_000_009, len(packet), packet)
+def table(rows):
+    """Adds a table of rows."""
+    TABLES.append(rows)
+    return rows
 
 
-def attributes(*pairs):
-    """Returns the digits of these attributes, each a type and the digits of its value."""
-    digits = ""
-    for kind, value in pairs:
-        length = 4 + len(value) // 2
-        digits += struct.pack("<2H", length, kind).hex() + value + "00" * (-length % 4)
-    return digits
+def found_members(found, expected):
+    """Returns those members of an object that are expected, in its order."""
+    return {name: found_members(it, expected[name]) if isinstance(expected[name], Part) else it
+            for name, it in found.items() if name in expected}
 
 
-def with_attributes(reply, *pairs):
-    """Returns a reply with these further attributes."""
-    reply += attributes(*pairs)
-    return struct.pack("<I", len(reply) // 2).hex() + reply[8:]
+def without_none(expected):
+    return {name: without_none(it) if isinstance(it, Part) else it
+            for name, it in expected.items() if it is not None}
 
 
-def list_heading(time):
-    """Returns the lines before a further list of sockets, whose first request has this time."""
-    return f"\n==> {time} <==\n{HEADING}"
+def check(sslist, name, given, options, shown, errors=()):
+    """Compares a run with a row of a table."""
+    words = options.split() + ["--json"] * isinstance(shown, dict)
+    status, output, printed = runs.run(sslist, words, given)
+    what = f"{name}: sslist {' '.join(words)} of {given.hex()[:400]}"
+    expected = "".join(f"sslist: {it}\n" for it in errors)
+    failed = any(": note: " not in it for it in errors)
+    runs.expect(what, (status, printed.decode()), (int(failed), expected))
+    if isinstance(shown, dict):
+        found = json.loads(output.partition(b"\n")[0] or b"{}")
+        runs.expect(what, json.dumps(found_members(found, shown)), json.dumps(without_none(shown)))
+    elif shown is not None:
+        heading = "" if {"--json", "-H"} & set(words) else HEADING
+        runs.expect(what, output.decode(), heading + "".join(shown))
+
+
+def digits(*parts):
+    """Returns the capture with these digits."""
+    return bytes.fromhex("".join(parts))
+
+
+def columns(netid, line):
+    """Returns the columns of a line in the table with another name in the first one."""
+    return netid.ljust(6) + line.splitlines()[0][6:]
+
+
+def block(order, kind, body):
+    """Returns a block of a pcapng file. Its body is padded."""
+    body += bytes(-len(body) % 4)
+    length = struct.pack(order + "I", 12 + len(body))
+    return struct.pack(order + "I", kind) + length + body + length
+
+
+def enhanced(order, *parts, interface=0):
+    """Returns an enhanced packet block of an interface, captured 7.000009 seconds after 1970 if its
+    timestamps have microseconds."""
+    packet = digits(*parts)
+    fields = struct.pack(order + "5I", interface, 0, 7_000_009, len(packet), len(packet))
+    return block(order, 6, fields + packet)
 
 
 def section(number, *packets):
     """Returns a section with an interface and these packets. Section 0 is little-endian, and
     section 1 big-endian."""
-    blocks = [enhanced("<>"[number], *packet) for packet in packets]
-    return bytes.fromhex(STARTS[number]) + b"".join(blocks)
+    return digits(STARTS[number]) + b"".join(enhanced("<>"[number], *it) for it in packets)
+
+
+def list_heading(time):
+    """Returns the lines before a further list of sockets, whose first request has this time."""
+    return f"\n==> {time} <==\n{HEADING}"
 
 
 # Packets of another protocol, with a request, with replies, and with the end of a dump; and the
@@ -567,77 +572,106 @@ MIXED = [
     (SOCK_DIAG, INET6), (SOCK_DIAG, DONE),
 ]
 MIXED_LINES = [UNIX_LINE, INET6_LINE]
-
-# The time of the packets of `pcap` and `enhanced` in microseconds; of those of `enhanced` in
-# nanoseconds.
-SEVEN = "1970-01-01T00:00:07.000009000Z"
-SEVEN_IN_NANOSECONDS = "1970-01-01T00:00:00.007000009Z"
+# The IPv4 socket.
+INET4 = OBJECTS[4][0]
 
 
-def lists_captures_of_both_orders(sslist):
-    """Captures in both byte orders and with both magic numbers."""
+@table
+def captures_of_both_orders():
+    """Captures in both byte orders and with both magic numbers, and in pcapng format, by themselves
+    and as sections of one file."""
     for header in HEADERS:
-        sslist.run(pcap(header, *MIXED), lines=MIXED_LINES)
+        yield pcap(header, *MIXED), "", MIXED_LINES
+    for number in (0, 1):
+        yield section(number, *MIXED), "", MIXED_LINES
+    both = section(0, *MIXED) + section(1, *MIXED)
+    yield both, "", [*MIXED_LINES, list_heading(SEVEN), *MIXED_LINES]
+    yield pcap(WIDE_HEADER, (SOCK_DIAG, UNIX * 1000)), "", UNIX_LINE * 1000
 
 
-def lists_other_families(sslist):
-    """Netlink, packet, vsock and XDP sockets have lines."""
-    for reply, line, _ in FAMILIES:
-        sslist.run(pcap(HEADERS[0], (SOCK_DIAG, reply)), lines=[line])
+@table
+def each_family():
+    """Each family has lines and an object in JSON, with its unknown and its invalid attributes."""
+    for reply, line, shown in FAMILIES:
+        yield listed(reply), "", line
+        yield listed(reply), "--json", shown + "\n"
+    for reply, shown in OBJECTS:
+        yield listed(reply), "--json", shown + "\n"
+    yield listed(*NEWER), "", NEWER_LINES
+    reply, line, _ = FAMILY_VALUES[2]
+    uid = listed(with_attributes(reply, (2, "07000000")))
+    yield uid, "-O", line.replace("-     *:*", "7     *:*") + " uid:7\n"
+    yield uid, "", {"uid": 7}
 
 
-def lists_values_of_other_families(sslist):
+def numbers(*values):
+    """Returns the digits of numbers of 32 bits."""
+    return struct.pack(f"<{len(values)}I", *values).hex()
+
+
+@table
+def distinct_numbers():
+    """Each number of a reply has its place: a socket whose numbers differ from each other."""
+    names = ("rmem_alloc", "rcvbuf", "wmem_alloc", "sndbuf", "fwd_alloc", "wmem_queued", "optmem",
+             "backlog", "drops")
+    reply = (INET4[:32] + "02010203" "00010002" "c0000201" + "00" * 12 + "c0000202" + "00" * 12
+             + numbers(4, 5, 6, 7, 8, 9, 10, 11))
+    reply = with_attributes(reply, (7, numbers(*range(21, 30))), (1, numbers(31, 32, 33, 34)),
+                            (4, b"bbr\0".hex()))
+    yield listed(reply), "-oemi", (
+        "inet  ESTAB      8      9      11         10    192.0.2.1%4:1                  192.0.2.2:2"
+        "\n\t timer:(keepalive,7ms,3) sk:600000005 mem:(r31,w32,f33,t34) cong:bbr skmem:(r21,rb22,"
+        "t23,tb24,f25,w26,o27,bl28,d29)\n")
+    yield listed(reply), "", {
+        "state": 1, "timer": 2, "retrans": 3, "sport": 1, "dport": 2, "src": "192.0.2.1",
+        "dst": "192.0.2.2", "if": 4, "cookie": "600000005", "expires": 7, "rqueue": 8, "wqueue": 9,
+        "uid": 10, "inode": 11, "meminfo": {"rmem": 31, "wmem": 32, "fmem": 33, "tmem": 34},
+        "cong": "bbr", "skmeminfo": dict(zip(names, range(21, 30)))}
+    reply = with_attributes(UNIX[:64], (1, numbers(1, 2)), (3, numbers(3, 4)),
+                            (5, numbers(*range(5, 14))))
+    yield listed(reply), "-oem", (
+        "u_str LISTEN     -      -      20238      -     *                              *\n"
+        "\t sk:2a0 vfs:(1,2) pending:3 pending:4 skmem:(r5,rb6,t7,tb8,f9,w10,o11,bl12,d13)\n")
+    yield listed(reply), "", {"vfs": {"ino": 1, "dev": 2}, "icons": [3, 4],
+                              "meminfo": dict(zip(names, range(5, 14)))}
+
+
+@table
+def values_of_other_families():
     """Groups, flags, rings, fanout groups, memory and counters of netlink, packet and XDP sockets.
-    Of groups only bits that are set count."""
-    for header, columns, values in FAMILY_VALUES:
+    Of groups only bits that are set count. A filter consists of instructions of 8 bytes, and
+    memberships have 44 bytes."""
+    for header, line, values in FAMILY_VALUES:
         for kind, value, detail, member, shown in values:
             capture = pcap(WIDE_HEADER, (SOCK_DIAG, with_attributes(header, (kind, value))))
-            sslist.run(capture, ["-O"], [columns, detail, "\n"])
-            found = sslist.objects(capture)[0]
-            assert list(found)[-2:] == [member, "other_attributes"], found
-            assert list_of(found[member]) == list_of(shown), found
-
-
-def rejects_records_of_other_lengths(sslist):
-    """A filter consists of instructions of 8 bytes, and memberships have 44 bytes."""
-    header, columns, _ = FAMILY_VALUES[1]
+            yield capture, "-O", [line, detail, "\n"]
+            yield capture, "", {member: shown, "other_attributes": []}
+    header, line, _ = FAMILY_VALUES[1]
     for kind, length in ((7, 1), (7, 7), (7, 9), (1, 1), (1, 43), (1, 45)):
-        value = "00" * length
-        capture = pcap(HEADERS[0], (SOCK_DIAG, with_attributes(header, (kind, value))))
-        sslist.run(capture, ["-O"], [columns, f" unread:({kind},{length},wrong-length)\n"])
-        assert sslist.objects(capture)[0]["other_attributes"] == [
-            {"kind": kind, "length": length, "hex": value, "error": "wrong-length"}]
+        capture = listed(with_attributes(header, (kind, "00" * length)))
+        yield capture, "-O", [line, f" unread:({kind},{length},wrong-length)\n"]
+        yield capture, "", {"other_attributes": [
+            {"kind": kind, "length": length, "hex": "00" * length, "error": "wrong-length"}]}
 
 
-def list_of(value):
-    """Returns the members of an object in their order, or another value."""
-    return list(value.items()) if isinstance(value, dict) else value
-
-
-def lists_attributes_of_newer_kernels(sslist):
-    """Attributes that the port leaves undecoded have details, and the user id of a UNIX socket has
-    a column."""
-    packets = [(SOCK_DIAG, reply) for reply in NEWER]
-    sslist.run(pcap(HEADERS[0], *packets), lines=NEWER_LINES)
-
-
-def lists_the_first_valid_attribute(sslist):
+@table
+def the_first_valid_attribute():
     """Of several attributes of a type the first valid one counts. The invalid ones are listed."""
-    capture = pcap(HEADERS[0], (SOCK_DIAG, REPEATED))
-    sslist.run(capture, lines=[REPEATED_LINES])
-    sslist.run(capture, ["--json"], [REPEATED_OBJECT])
+    yield listed(REPEATED), "", REPEATED_LINES
+    yield listed(REPEATED), "--json", REPEATED_OBJECT
 
 
-def lists_short_tcp_info(sslist):
+@table
+def short_tcp_info():
     """The fields of a short struct tcp_info have details if the request was for TCP sockets."""
     details = "ts sack wscale:(7,9) rto:204000 rtt:100 rttvar:50 cwnd:10 retrans:3\n"
-    request, reply = (SOCK_DIAG, TCP_REQUEST), (SOCK_DIAG, SHORT_INFO)
-    sslist.run(pcap(HEADERS[0], request, reply), lines=["tcp   ", SHORT_INFO_COLUMNS, details])
-    details = "unread:(2,104,too-short)\n"
-    sslist.run(pcap(HEADERS[0], reply), lines=["inet6 ", SHORT_INFO_COLUMNS, details])
+    yield listed(TCP_REQUEST, SHORT_INFO), "", ["tcp   ", SHORT_INFO_COLUMNS, details]
+    unread = "unread:(2,104,too-short)\n"
+    yield listed(SHORT_INFO), "", ["inet6 ", SHORT_INFO_COLUMNS, unread]
 
 
-def leaves_out_times_that_were_not_measured(sslist):
+@table
+def times_that_were_not_measured():
     """Of a socket in SYN-SENT the kernel sends the minimum round-trip time 4294967295, and a mean
     deviation without a round-trip time. The table has neither, as that of ss(8), and JSON has the
     numbers."""
@@ -647,59 +681,95 @@ def leaves_out_times_that_were_not_measured(sslist):
         (7, 0, 0, " rtt:7"),
     ):
         info = struct.pack("<68x2I72xI", rtt, deviation, least).hex()
-        capture = pcap(HEADERS[0], (SOCK_DIAG, TCP_REQUEST),
-                       (SOCK_DIAG, with_attributes(OBJECTS[4][0], (2, info))))
-        columns = INET4_LINE.splitlines()[0].replace("inet ", "tcp  ")
-        sslist.run(capture, ["-iO"], [columns, details, "\n"])
-        shown = sslist.objects(capture)[0]["info"]
-        assert [shown[it] for it in ("rtt", "rttvar", "min_rtt")] == [rtt, deviation, least], shown
+        capture = listed(TCP_REQUEST, with_attributes(INET4, (2, info)))
+        yield capture, "-iO", [columns("tcp", INET4_LINE), details, "\n"]
+        yield capture, "", {"info": Part(rtt=rtt, rttvar=deviation, min_rtt=least)}
 
 
-def lists_bit_fields_of_tcp_info(sslist):
+@table
+def bit_fields_of_tcp_info():
     """The last four bytes of a struct tcp_info of 280 bytes are bit fields since Linux 7.0. These
     are the bytes of classic ECN, accurate ECN and accurate ECN in SYN-SENT, and of a failure."""
-    for digits, details, mode, seen, failed in (
+    for value, details, mode, seen, failed in (
         ("00000000", "", 0, 0, 0),
         ("01000000", " ecn_mode:1", 1, 0, 0),
         ("0a000000", " ecn_mode:2 accecn_opt_seen:2", 2, 2, 0),
         ("03000000", " ecn_mode:3", 3, 0, 0),
         ("94000000", " accecn_opt_seen:1 accecn_fail_mode:9", 0, 1, 9),
     ):
-        reply = with_attributes(OBJECTS[4][0], (2, "00" * 276 + digits))
-        capture = pcap(HEADERS[0], (SOCK_DIAG, TCP_REQUEST), (SOCK_DIAG, reply))
-        columns = INET4_LINE.splitlines()[0].replace("inet ", "tcp  ")
-        sslist.run(capture, ["-iO"], [columns, details, "\n"])
-        info = sslist.objects(capture)[0]["info"]
-        last = {"ecn_mode": mode, "accecn_opt_seen": seen, "accecn_fail_mode": failed}
-        assert list(info.items())[-3:] == list(last.items()), info
+        capture = listed(TCP_REQUEST, with_attributes(INET4, (2, "00" * 276 + value)))
+        yield capture, "-iO", [columns("tcp", INET4_LINE), details, "\n"]
+        yield capture, "", {"info": Part(
+            ecn_mode=mode, accecn_opt_seen=seen, accecn_fail_mode=failed)}
 
 
-def lists_the_payload_limit_of_tls(sslist):
+@table
+def the_payload_limit_of_tls():
     """Linux 7.2 sends the limit of the payload of TLS records: attribute 7 in those of TLS. One that
     does not have two bytes is left out."""
-    for value, details, members in (
-        ("0040", " tx_max_payload_len:16384", {"tx_max_payload_len": 16384}),
-        ("00400000", "", {}),
+    for value, details, limit in (
+        ("0040", " tx_max_payload_len:16384", {"tx_max_payload_len": 16384}), ("00400000", "", {}),
     ):
         tls = attributes((1, "0403"), (7, value), (6, ""))
-        ulp = attributes((1, "746c7300"), (2, tls))
-        capture = pcap(HEADERS[0], (SOCK_DIAG, with_attributes(OBJECTS[4][0], (19, ulp))))
-        sslist.run(capture, ["-iO"], [INET4_LINE.splitlines()[0], " tcp-ulp-tls version:1.3",
-                                      details, " no_pad_rx\n"])
-        members = {"version": 772, **members, "zc_ro_tx": False, "rx_no_pad": True}
-        shown = sslist.objects(capture)[0]["ulp_info"]["tls"]
-        assert list(shown.items()) == list(members.items()), shown
+        capture = listed(with_attributes(INET4, (19, attributes((1, "746c7300"), (2, tls)))))
+        yield capture, "-iO", [columns("inet", INET4_LINE), " tcp-ulp-tls version:1.3", details,
+                               " no_pad_rx\n"]
+        tls = {"version": 772, **limit, "zc_ro_tx": False, "rx_no_pad": True}
+        yield capture, "", {"ulp_info": {"name": "tls", "tls": tls}}
 
 
-def lists_the_last_endpoints_of_mptcp_info(sslist):
-    """Linux 7.2 has the number of fullmesh endpoints at 82, between two others."""
-    reply = with_attributes(OBJECTS[4][0], (2, "00" * 81 + "050700" + "00" * 12))
-    capture = pcap(HEADERS[0], (SOCK_DIAG, MPTCP_REQUEST), (SOCK_DIAG, reply))
-    columns = INET4_LINE.splitlines()[0].replace("inet ", "mptcp")
-    sslist.run(capture, ["-iO"], [columns, " endp_laminar_max:5 endp_fullmesh_max:7\n"])
-    info = sslist.objects(capture)[0]["info"]
-    last = {"endp_laminar_max": 5, "endp_fullmesh_max": 7, "last_data_sent": 0}
-    assert list(info.items())[-5:-2] == list(last.items()), info
+@table
+def upper_layer_protocols():
+    """The upper layer protocol of a TCP socket, and its MD5 keys."""
+    tls = attributes((1, "0403"), (2, "3300"), (5, ""), (3, "0200"), (4, "0900"), (6, ""))
+    flow = attributes((8, "41010000"), (1, "c2017f6a"), (2, "d0e4b953"), (9, "00"), (10, "02"),
+                      (4, "3412000000000000"), (5, "11000000"), (7, "ff00"), (6, "01"))
+    key4 = "02180600c0000200" + "00" * 12 + b"a, b=c".hex() + "00" * 74
+    key6 = "0a40030020010db8" + "00" * 11 + "01" + b"xyz".hex() + "00" * 77
+    for pair, detail, members in (
+        ((19, attributes((1, b"tls\0".hex()), (2, tls))),
+            " tcp-ulp-tls version:1.3 cipher:aes-gcm-128 rxconf:9 txconf:sw zc_ro_tx no_pad_rx",
+            {"ulp_info": {"name": "tls", "tls": {"version": 0x304, "cipher": 51, "txconf": 2,
+                                                 "rxconf": 9, "zc_ro_tx": True, "rx_no_pad": True}}}),
+        ((19, attributes((1, b"mptcp\0".hex()), (3, flow))),
+            " tcp-ulp-mptcp flags:Mev token:6a7f01c2(id:0)/53b9e4d0(id:2) seq:1234 sfseq:11 "
+            "maplen:ff",
+            {"ulp_info": {"name": "mptcp", "mptcp": {
+                "token_rem": 0x6A7F01C2, "token_loc": 0x53B9E4D0, "map_seq": 0x1234,
+                "map_sfseq": 17, "map_datalen": 255, "flags": 0x141, "id_rem": 0, "id_loc": 2}}}),
+        ((19, attributes((1, b"x y".hex()))), r" tcp-ulp-x\x20y", {"ulp_info": {"name": "x y"}}),
+        ((19, attributes((1, "ff"))), " unread:(19,8,not-utf8)", {"other_attributes": [
+            {"kind": 19, "length": 8, "hex": "05000100ff000000", "error": "not-utf8"}]}),
+        ((18, key4 + key6 + "00" * 100),
+            r" md5keys:192.0.2.0/24=a\x2c\x20b=c,2001:db8::1/64=xyz,*/0=", {"md5sig": [
+                {"family": 2, "prefixlen": 24, "keylen": 6, "addr": "192.0.2.0",
+                 "key": "612c20623d63"},
+                {"family": 10, "prefixlen": 64, "keylen": 3, "addr": "2001:db8::1",
+                 "key": "78797a"},
+                {"family": 0, "prefixlen": 0, "keylen": 0, "key": ""}]}),
+        ((18, key4 + b"1234".hex()), " unread:(18,104,wrong-length)", {"other_attributes": [
+            {"kind": 18, "length": 104, "hex": key4 + b"1234".hex(), "error": "wrong-length"}]}),
+    ):
+        capture = listed(with_attributes(INET4, pair))
+        yield capture, "-iO", [columns("inet", INET4_LINE), detail, "\n"]
+        yield capture, "", members
+
+
+@table
+def mptcp_info():
+    """A struct mptcp_info ends before, in or after `mptcpi_flags`, at 8. Linux 7.2 has the number of
+    fullmesh endpoints at 82, between two others."""
+    for value, details, members in (
+        ("00" * 8, "", {"flags": None}), ("00" * 8 + "020000", "", {"flags": None}),
+        ("00" * 8 + "02000000", " remote_key", {"flags": 2, "token": None}),
+        ("00" * 8 + "02000000ab0000", " remote_key", {"token": None}),
+        ("00" * 8 + "02000000ab000000", " remote_key token:ab", {"token": 0xAB}),
+        ("00" * 81 + "050700" + "00" * 12, " endp_laminar_max:5 endp_fullmesh_max:7",
+            {"endp_laminar_max": 5, "endp_fullmesh_max": 7, "last_data_sent": 0}),
+    ):
+        capture = listed(MPTCP_REQUEST, with_attributes(INET4, (2, value)))
+        yield capture, "-iO", [columns("mptcp", INET4_LINE), details, "\n"]
+        yield capture, "", {"info": Part(members)}
 
 
 def association(state, *pairs):
@@ -713,23 +783,23 @@ def association_columns(netid, state):
             "127.0.0.1:6000")
 
 
-def lists_sctp_associations(sslist):
+@table
+def sctp_associations():
     """The kernel lists an SCTP socket, and then each of its associations with INET_DIAG_PEERS and
     SCTP's own states. Without the request it may also be one. INET_DIAG_INFO is not a tcp_info."""
-    others = [{"kind": 2, "length": 368, "hex": "01" * 368}]
-    for packets, netid in (([(SOCK_DIAG, SCTP_REQUEST)], "sctp"), ([], "inet")):
+    details = " cong:reno locals:10.0.0.1 peers:10.0.0.1,fe80::1,* unknown:(2,368)\n"
+    for requests, netid in ([SCTP_REQUEST], "sctp"), ([], "inet"):
         for state, name in enumerate(ASSOCIATION_STATES):
-            reply = association(state, *ASSOCIATION_ATTRIBUTES)
-            capture = pcap(HEADERS[0], *packets, (SOCK_DIAG, reply))
-            details = " cong:reno locals:10.0.0.1 peers:10.0.0.1,fe80::1,* unknown:(2,368)\n"
-            sslist.run(capture, ["-iO"], [association_columns(netid, name), details])
-            shown = sslist.objects(capture)[0]
-            assert (shown["netid"], shown["state_name"], shown["state"]) == (netid, name, state)
-            assert "info" not in shown and shown["other_attributes"] == others, shown
-            assert (shown["locals"], shown["peers"]) == (LOCALS, PEERS), shown
+            capture = listed(*requests, association(state, *ASSOCIATION_ATTRIBUTES))
+            yield capture, "-iO", [association_columns(netid, name), details]
+            yield capture, "", {
+                "netid": netid, "state_name": name, "state": state, "info": None, "locals": LOCALS,
+                "peers": PEERS,
+                "other_attributes": [{"kind": 2, "length": 368, "hex": "01" * 368}]}
 
 
-def lists_sctp_sockets(sslist):
+@table
+def sctp_sockets():
     """A reply without INET_DIAG_PEERS is about a socket, and has a TCP state. So has a reply that
     has this attribute and answers a request for TCP sockets."""
     for request, netid, pairs, details in (
@@ -739,13 +809,13 @@ def lists_sctp_sockets(sslist):
         (SCTP_REQUEST, "sctp", [(12, ADDRESSES[0] + "00")], " unread:(12,129,wrong-length)"),
     ):
         for state, name in ((1, "ESTAB"), (3, "SYN-RECV"), (7, "UNCONN"), (10, "LISTEN")):
-            reply = association(state, *pairs)
-            capture = pcap(HEADERS[0], (SOCK_DIAG, request), (SOCK_DIAG, reply))
-            sslist.run(capture, ["-iO"], [association_columns(netid, name), details, "\n"])
-            assert sslist.objects(capture)[0]["state_name"] == name
+            capture = listed(request, association(state, *pairs))
+            yield capture, "-iO", [association_columns(netid, name), details, "\n"]
+            yield capture, "", {"state_name": name}
 
 
-def selects_associations_by_state(sslist):
+@table
+def associations_by_state():
     """An association is closed, established, or in a state that TCP does not have. Such a state is
     in each group except bucket."""
     single = ("established", "syn-sent", "syn-recv", "fin-wait-1", "fin-wait-2", "time-wait",
@@ -753,42 +823,44 @@ def selects_associations_by_state(sslist):
     selecting = {0: {"closed", "all", "big"},
                  3: {"established", "all", "connected", "synchronized", "big"}}
     for state, name in enumerate(ASSOCIATION_STATES):
-        reply = association(state, *ASSOCIATION_ATTRIBUTES)
-        capture = pcap(HEADERS[0], (SOCK_DIAG, SCTP_REQUEST), (SOCK_DIAG, reply))
+        capture = listed(SCTP_REQUEST, association(state, *ASSOCIATION_ATTRIBUTES))
         lines = [association_columns("sctp", name), "\n"]
         groups = selecting.get(state, {"all", "connected", "synchronized", "big"})
-        for option in (*single, "all", "connected", "synchronized", "bucket", "big"):
-            shown = lines if option in groups else []
-            sslist.run(capture, ["-oO", f"--state={option}"], shown)
-        sslist.run(capture, ["-oOl"], lines if state == 0 else [])
+        for group in (*single, "all", "connected", "synchronized", "bucket", "big"):
+            yield capture, f"-oO --state={group}", lines if group in groups else []
+        yield capture, "-oOl", lines if state == 0 else []
 
 
-def names_timers(sslist):
+@table
+def states_without_a_name():
+    """States above 11 are in each group except bucket."""
+    for state in ("0c", "1f", "20", "ff"):
+        capture = listed(UNIX[:36] + state + UNIX[38:])
+        for group in ("all", "connected", "synchronized", "big"):
+            yield capture, f"--state={group}", UNIX_LINE.replace("LISTEN ", "UNKNOWN")
+        yield capture, "--state=bucket", []
+
+
+@table
+def timers():
     """Each kind of timer has a name, and one above 5 is unknown. Linux 7.2 has the kind 5. The
     timers expire in 36 milliseconds."""
     names = ("on", "keepalive", "timewait", "persist", "delack", "unknown")
     for kind, name in enumerate(names, 1):
-        reply = OBJECTS[4][0]
-        reply = f"{reply[:36]}{kind:02x}{reply[38:136]}24000000{reply[144:]}"
-        lines = [INET4_LINE.splitlines()[0], f" timer:({name},36ms,0)\n"]
-        sslist.run(pcap(HEADERS[0], (SOCK_DIAG, reply)), ["-oO"], lines)
+        reply = f"{INET4[:36]}{kind:02x}{INET4[38:136]}24000000{INET4[144:]}"
+        yield listed(reply), "-oO", [columns("inet", INET4_LINE), f" timer:({name},36ms,0)\n"]
 
 
-def shows_names_in_utf8(sslist):
+@table
+def names_in_utf8():
     """A name that is valid UTF-8 shows letters only with --utf8. It never shows a space or a
     character that changes the direction of writing. A Chinese letter takes two columns."""
-    capture = pcap(HEADERS[0], (SOCK_DIAG, LETTERS), (SOCK_DIAG, NO_UTF8))
-    for options, name in ((["--utf8"], LETTERS_LINE), ([], LETTERS_ESCAPED)):
-        sslist.run(capture, options, [name, NO_UTF8_LINE])
+    yield listed(LETTERS, NO_UTF8), "--utf8", [LETTERS_LINE, NO_UTF8_LINE]
+    yield listed(LETTERS, NO_UTF8), "", [LETTERS_ESCAPED, NO_UTF8_LINE]
 
 
-def lists_objects(sslist):
-    """Each family has an object in JSON, with its unknown and its invalid attributes."""
-    for reply, shown in OBJECTS + [(reply, shown) for reply, _, shown in FAMILIES]:
-        sslist.run(pcap(HEADERS[0], (SOCK_DIAG, reply)), ["--json"], [shown, "\n"])
-
-
-def selects_by_address(sslist):
+@table
+def sockets_by_address():
     """Options select the sockets whose addresses begin with these bits, of the same IP version. An
     IPv4-mapped address is an IPv6 address. fe80 is 1111 1110 1000 0000."""
     mapped = INET6.replace("fe800000000000000000000000000001", "00000000000000000000ffffc0000201")
@@ -802,250 +874,206 @@ def selects_by_address(sslist):
         (mapped, mapped_line,
             "--src=::ffff:192.0.2.1 --src=::ffff:c000:201 --src=::ffff:0:0/96 --src=::/80",
             "--src=192.0.2.1 --src=0.0.0.0/0 --src=::192.0.2.1 --src=::/81"),
-        (OBJECTS[4][0], INET4_LINE,
+        (INET4, INET4_LINE,
             "--src=192.0.2.1 --src=192.0.2.1/32 --src=192.0.2.0/31 --src=192.0.2.255/24 "
             "--src=255.0.0.0/2 --dst=192.0.2.3/31 --dst=10.0.0.0/0",
             "--src=192.0.2.0 --src=192.0.2.2/31 --src=255.0.0.0/3 --dst=192.0.2.1 --src=::/0 "
             "--src=::ffff:192.0.2.1 --dst=192.0.2.3"),
         (UNIX, UNIX_LINE, "-x", "--src=0.0.0.0/0 --dst=::/0 --sport=0-65535"),
     ]:
-        capture = pcap(HEADERS[0], (SOCK_DIAG, reply))
         for option in meeting.split():
-            sslist.run(capture, [option], [line])
+            yield listed(reply), option, line
         for option in others.split():
-            sslist.run(capture, [option], [])
-    both = pcap(HEADERS[0], (SOCK_DIAG, INET6), (SOCK_DIAG, mapped), (SOCK_DIAG, UNIX))
-    sslist.run(both, ["--src=::/0", "--dst=2001::/16", "--src=::/64"], [mapped_line])
+            yield listed(reply), option, []
+    yield listed(INET6, mapped, UNIX), "--src=::/0 --dst=2001::/16 --src=::/64", mapped_line
 
 
-def selects_states_without_a_name(sslist):
-    """States above 11 are in each group except bucket."""
-    line = UNIX_LINE.replace("LISTEN ", "UNKNOWN")
-    for state in ("0c", "1f", "20", "ff"):
-        capture = pcap(HEADERS[0], (SOCK_DIAG, UNIX[:36] + state + UNIX[38:]))
-        for group in ("all", "connected", "synchronized", "big"):
-            sslist.run(capture, [f"--state={group}"], [line])
-        sslist.run(capture, ["--state=bucket"], [])
-
-
-def lists_requests(sslist):
-    """Lines of requests, with times in microseconds and nanoseconds."""
+@table
+def requests():
+    """Lines of requests, with times in microseconds and nanoseconds, and none in a simple packet. A
+    block of an unknown type is skipped."""
     packets = [(SOCK_DIAG, it) for it in (REQUEST, UNIX, MPTCP_REQUEST, OTHER_REQUEST)]
     for header, fraction in ((HEADERS[0], "000009000"), (HEADERS[2], "000000009")):
         time = f"-- 1970-01-01T00:00:07.{fraction}Z "
-        lines = [time, "unix states:0xffffffff\n", UNIX_LINE,
-                 time, "mptcp family:inet states:0x480\n", time, "netlink\n"]
-        sslist.run(pcap(header, *packets), ["--requests"], lines)
+        yield pcap(header, *packets), "--requests", [
+            time, "unix states:0xffffffff\n", UNIX_LINE,
+            time, "mptcp family:inet states:0x480\n", time, "netlink\n"]
+    capture = section(1, (SOCK_DIAG, REQUEST)) + digits(SECTION, NANOSECONDS, UNKNOWN, SIMPLE)
+    yield capture + enhanced("<", SOCK_DIAG, REQUEST), "--requests", [
+        f"-- {SEVEN} unix states:0xffffffff\n", list_heading(SEVEN_IN_NANOSECONDS),
+        f"-- {SEVEN_IN_NANOSECONDS} unix states:0xffffffff\n"]
 
 
-def lists_by_the_last_protocol_of_a_request(sslist):
-    """Of several INET_DIAG_REQ_PROTOCOL in a request the last one counts, as in Linux."""
-    for first, last, name, option in (("06", "11", "udp  ", "-u"), ("11", "06", "tcp  ", "-t")):
-        request = f"58{TCP_REQUEST[2:]}08000300{first}00000008000300{last}000000"
-        capture = pcap(HEADERS[0], (SOCK_DIAG, request), (SOCK_DIAG, OBJECTS[4][0]))
-        sslist.run(capture, lines=[INET4_LINE.replace("inet ", name)])
-        sslist.run(capture, [option], [INET4_LINE.replace("inet ", name)])
-        sslist.run(capture, ["-u" if option == "-t" else "-t"], [])
-
-
-def lists_replies_of_older_types(sslist):
-    """Before SOCK_DIAG_BY_FAMILY, requests for TCP and DCCP sockets and their replies had the types
-    18 and 19. The type is the protocol, whatever was requested. Such a reply is about an IPv4 or
-    IPv6 socket, so one of another family is invalid."""
-    for kind, name, option in (("12", "tcp  ", "-t"), ("13", "dccp ", "-4")):
-        reply = OBJECTS[4][0][:8] + kind + OBJECTS[4][0][10:]
-        for requests in ((), ((SOCK_DIAG, SCTP_REQUEST),)):
-            capture = pcap(HEADERS[0], *requests, (SOCK_DIAG, reply))
-            sslist.run(capture, [option], [INET4_LINE.replace("inet ", name)])
-            sslist.run(capture, ["-u"], [])
-        capture = pcap(WIDE_HEADER, (SOCK_DIAG, UNIX[:8] + kind + UNIX[10:]))
-        sslist.run(capture, lines=[], errors=["packet 1, message 1: InetResponseHeader: buffer of "
-                                              "40 bytes, at least 72 needed"])
-        capture = pcap(HEADERS[0], (SOCK_DIAG, reply[:32] + "10" + reply[34:]))
-        sslist.run(capture, lines=[], errors=["packet 1, message 1: unsupported address family 16: "
-                                              "expected AF_INET (2) or AF_INET6 (10)"])
-        capture = pcap(HEADERS[0], (SOCK_DIAG, f"11000000{kind}000200070000000000000002000000"))
-        sslist.run(capture, lines=[], errors=["packet 1, message 1: invalid buffer: length is 1 "
-                                              "but packets are at least 2 bytes"])
-
-
-def lists_by_the_protocol_of_a_reply(sslist):
-    """INET_DIAG_PROTOCOL, which events about closed sockets have, is the protocol of the socket,
-    whatever was requested. Replies about raw sockets have the protocol of their packets there."""
+@table
+def protocols():
+    """The protocol of a socket. INET_DIAG_PROTOCOL, which events about closed sockets have, decides
+    it whatever was requested, except of raw sockets, whose replies have the protocol of their
+    packets there. Of several INET_DIAG_REQ_PROTOCOL in a request the last one counts, as in Linux.
+    Before SOCK_DIAG_BY_FAMILY, requests for TCP and DCCP sockets and their replies had the types 18
+    and 19, which are the protocol."""
     raw = TCP_REQUEST[:34] + "ff" + TCP_REQUEST[36:]
-    for requests, values, name, option in (
-        ((), ("11",), "udp  ", "-u"), ((), ("06",), "tcp  ", "-t"),
-        ((TCP_REQUEST,), ("11",), "udp  ", "-u"), ((SCTP_REQUEST,), ("06",), "tcp  ", "-t"),
-        ((TCP_REQUEST,), (), "tcp  ", "-t"), ((TCP_REQUEST,), ("1100",), "tcp  ", "-t"),
-        ((), ("1100", "11", "06"), "udp  ", "-u"), ((TCP_REQUEST,), ("01",), "inet ", "-4"),
-        ((raw,), ("06",), "raw  ", "-4"), ((raw,), ("01",), "raw  ", "-4"),
-        ((raw,), (), "raw  ", "-4"),
+    last_udp, last_tcp = (f"58{TCP_REQUEST[2:]}08000300{first}00000008000300{last}000000"
+                          for first, last in (("06", "11"), ("11", "06")))
+    older = {kind: INET4[:8] + kind + INET4[10:] for kind in ("12", "13")}
+    for requests, reply, values, netid, option in (
+        ([], INET4, ["11"], "udp", "-u"), ([], INET4, ["06"], "tcp", "-t"),
+        ([TCP_REQUEST], INET4, ["11"], "udp", "-u"), ([SCTP_REQUEST], INET4, ["06"], "tcp", "-t"),
+        ([TCP_REQUEST], INET4, [], "tcp", "-t"), ([TCP_REQUEST], INET4, ["1100"], "tcp", "-t"),
+        ([], INET4, ["1100", "11", "06"], "udp", "-u"),
+        ([TCP_REQUEST], INET4, ["01"], "inet", "-4"),
+        ([raw], INET4, ["06"], "raw", "-4"), ([raw], INET4, ["01"], "raw", "-4"),
+        ([raw], INET4, [], "raw", "-4"),
+        ([last_udp], INET4, [], "udp", "-u"), ([last_tcp], INET4, [], "tcp", "-t"),
+        ([], older["12"], [], "tcp", "-t"), ([SCTP_REQUEST], older["12"], [], "tcp", "-t"),
+        ([], older["13"], [], "dccp", "-4"), ([SCTP_REQUEST], older["13"], [], "dccp", "-4"),
     ):
-        reply = with_attributes(OBJECTS[4][0], *((10, value) for value in values))
-        capture = pcap(HEADERS[0], *((SOCK_DIAG, it) for it in requests), (SOCK_DIAG, reply))
-        columns = INET4_LINE.splitlines()[0].replace("inet ", name) + "\n"
-        sslist.run(capture, ["-oO", option], [columns])
+        reply = with_attributes(reply, *((10, value) for value in values))
+        capture = listed(*requests, reply)
+        yield capture, f"-oO {option}", [columns(netid, INET4_LINE), "\n"]
         for other in {"-t", "-u"} - {option}:
-            sslist.run(capture, ["-oO", other], [])
-        assert sslist.objects(capture)[0]["netid"] == name.strip()
+            yield capture, f"-oO {other}", []
+        yield capture, "", {"netid": netid}
     reply = with_attributes(SHORT_INFO, (10, "06"))
-    sslist.run(pcap(HEADERS[0], (SOCK_DIAG, reply)), ["-tiO"], [
+    yield listed(reply), "-tiO", [
         "tcp   ", SHORT_INFO_COLUMNS.splitlines()[0],
-        " ts sack wscale:(7,9) rto:204000 rtt:100 rttvar:50 cwnd:10 retrans:3\n"])
+        " ts sack wscale:(7,9) rto:204000 rtt:100 rttvar:50 cwnd:10 retrans:3\n"]
 
 
-def separates_lists(sslist):
+@table
+def invalid_replies_of_older_types():
+    """A reply of the type 18 or 19 is about an IPv4 or IPv6 socket, so one of another family is
+    invalid."""
+    for kind in ("12", "13"):
+        other = INET4[:8] + kind + INET4[10:32] + "10" + INET4[34:]
+        for reply, error in (
+            (UNIX[:8] + kind + UNIX[10:],
+                "InetResponseHeader: buffer of 40 bytes, at least 72 needed"),
+            (other, "unsupported address family 16: expected AF_INET (2) or AF_INET6 (10)"),
+            (f"11000000{kind}000200070000000000000002000000",
+                "invalid buffer: length is 1 but packets are at least 2 bytes"),
+        ):
+            yield pcap(WIDE_HEADER, (SOCK_DIAG, reply)), "", [], [f"packet 1, message 1: {error}"]
+
+
+@table
+def several_lists():
     """A request with the type and the bytes of the first one begins another list, whatever its flags
     and numbers are. Other requests do not, also if they are repeated. -H omits the heading, and
     JSON has the number of the list."""
     again = REQUEST[:12] + "0503" + "22222222" * 2 + REQUEST[32:]
     destroy = REQUEST[:8] + "1500" + REQUEST[12:]
-    packets = [(SOCK_DIAG, it) for it in (
-        REQUEST, UNIX, TCP_REQUEST, destroy, UNIX, again, UNIX, TCP_REQUEST, destroy, REQUEST)]
-    capture, heading = pcap(HEADERS[0], *packets), list_heading(SEVEN)
-    sslist.run(capture, lines=[UNIX_LINE, UNIX_LINE, heading, UNIX_LINE, heading])
-    sslist.run(capture, ["-H"], [UNIX_LINE] * 3)
+    capture = listed(REQUEST, UNIX, TCP_REQUEST, destroy, UNIX, again, UNIX, TCP_REQUEST, destroy,
+                     REQUEST)
+    heading = list_heading(SEVEN)
+    yield capture, "", [UNIX_LINE, UNIX_LINE, heading, UNIX_LINE, heading]
+    yield capture, "-H", UNIX_LINE * 3
     first, second = OBJECTS[0][1] + "\n", OBJECTS[0][1][:-1] + ',"list":2}\n'
-    sslist.run(capture, ["--json"], [first, first, second])
+    yield capture, "--json", [first, first, second]
     unix, tcp, closed = (f"-- {SEVEN} {it}\n" for it in (
         "unix states:0xffffffff", "tcp family:inet states:0xffffffff",
         "destroy unix states:0xffffffff"))
-    sslist.run(capture, ["--requests"], [unix, UNIX_LINE, tcp, closed, UNIX_LINE, heading, unix,
-                                         UNIX_LINE, tcp, closed, heading, unix])
+    yield capture, "--requests", [unix, UNIX_LINE, tcp, closed, UNIX_LINE, heading, unix,
+                                  UNIX_LINE, tcp, closed, heading, unix]
 
 
-def lists_a_long_datagram(sslist):
-    """A packet with a thousand messages."""
-    sslist.run(pcap(WIDE_HEADER, (SOCK_DIAG, UNIX * 1000)), lines=[UNIX_LINE] * 1000)
-
-
-def reports_where_a_capture_is_truncated(sslist):
+@table
+def truncated_captures():
     """A capture that is truncated at any byte has the lines of its complete packets, and an error
     with the position."""
-    capture = pcap(HEADERS[3], (SOCK_DIAG, UNIX), (SOCK_DIAG, INET6))
-    whole = len(pcap(HEADERS[3], (SOCK_DIAG, UNIX)))
-    for length in range(len(capture)):
-        errors, lines = truncation_errors(length, 24, {24, whole}, whole), [UNIX_LINE]
-        sslist.run(capture[:length], lines=lines if length >= whole else None, errors=errors)
+    for first, capture, header, ends in (
+        (pcap(HEADERS[3], (SOCK_DIAG, UNIX)),
+            pcap(HEADERS[3], (SOCK_DIAG, UNIX), (SOCK_DIAG, INET6)), 24, {0}),
+        (section(1, (SOCK_DIAG, UNIX)),
+            section(1, (SOCK_DIAG, UNIX)) + section(0, (SOCK_DIAG, INET6)), 28, {0, 28, 48}),
+    ):
+        whole = len(first)
+        ends = {header, header + 20 * (header == 28), whole, *(whole + it for it in ends)}
+        for length in range(len(capture)):
+            packet = "" if length < header else f"packet {1 if length < whole else 2}: "
+            error = packet + TRUNCATED
+            if length < 4:
+                error = TOO_SHORT if length else EMPTY
+            lines = UNIX_LINE if length >= whole else None
+            yield capture[:length], "", lines, [error] * (length not in ends)
 
 
-def truncation_errors(length, header, ends, whole):
-    """Returns the errors of a capture that is truncated to this length. `header` is the length of
-    its header, `ends` are the ends of its header, blocks and packets, and `whole` is the end of its
-    first packet."""
-    if length < 4:
-        return [TOO_SHORT if length else EMPTY]
-    if length in ends:
-        return []
-    packet = "" if length < header else f"packet {1 if length < whole else 2}: "
-    return [packet + TRUNCATED]
-
-
-def reports_why(sslist):
+@table
+def errors():
     """The diagnostics and failures on standard error, with their numbers."""
     short = "UnixResponseHeader: buffer of 12 bytes, at least 16 needed"
-    sslist.fails(FRONT, OF_100, OF_SOCK_DIAG, SHORT, SHORT, SHORT,
-                 errors=[f"packet 1, message {number}: {short}" for number in (1, 2, 3)])
-    sslist.fails(FRONT, OF_100, OTHER_AND_SHORT, LOST, FAILED, CUT, "00", errors=[
+    yield digits(FRONT, OF_100, OF_SOCK_DIAG, SHORT, SHORT, SHORT), "", None, [
+        f"packet 1, message {number}: {short}" for number in (1, 2, 3)]
+    yield digits(FRONT, OF_100, OTHER_AND_SHORT, LOST, FAILED, CUT, "00"), "", None, [
         "packet 2: fewer than 16 bytes",
         "packet 3, message 1: dump interrupted (NLM_F_DUMP_INTR)",
         "packet 3, message 1: the kernel lost data",
         "packet 4, message 1: note: the kernel returned ENOENT (request: in an earlier packet)",
         "packet 5: truncated to 16 of 101 bytes",
         f"packet 6: {TRUNCATED}",
-    ])
-    sslist.fails(FRONT, OF_100, NO_ENTRY, MPTCP_REQUEST, CUT_MESSAGE, errors=[
+    ]
+    yield digits(FRONT, OF_100, NO_ENTRY, MPTCP_REQUEST, CUT_MESSAGE), "", None, [
         "packet 1, message 1: note: the kernel returned ENOENT"
         " (request: mptcp family:inet states:0x480)",
         "packet 2: truncated to 32 of 72 bytes",
-    ])
-    sslist.fails("", errors=[EMPTY])
-    sslist.fails(FRONT, "48", errors=[TRUNCATED])
-    sslist.fails(FRONT, "4800000001000000",
-                 errors=["unsupported link type 1, expected 253 (netlink), as of nlmon0"])
-    sslist.fails("d4c3b2a10300", FRONT, OF_100, errors=["unsupported pcap version 3, expected 2"])
-    sslist.fails("1f8b0800", FRONT, OF_100,
-                 errors=["compressed by gzip; decompress it first, with gzip -dc"])
-    sslist.fails(FRONT, OF_100, "07000000090000000100040001000400",
-                 errors=["packet 1: packet length 262145 exceeds the maximum of 262144"])
+    ]
+    for parts, error in (
+        ([""], EMPTY), ([FRONT, "48"], TRUNCATED),
+        ([FRONT, "4800000001000000"],
+            "unsupported link type 1, expected 253 (netlink), as of nlmon0"),
+        (["d4c3b2a10300", FRONT, OF_100], "unsupported pcap version 3, expected 2"),
+        (["1f8b0800", FRONT, OF_100],
+            "compressed by gzip; decompress it first, with gzip -dc"),
+        ([FRONT, OF_100, "07000000090000000100040001000400"],
+            "packet 1: packet length 262145 exceeds the maximum of 262144"),
+        (["0a0d0d0a1c000000000000000000"], "unknown byte order of the section at offset 0"),
+        ([SECTION, SIMPLE], "packet 1: unknown interface of the packet at offset 28"),
+        *(([STARTS[0], block], f"packet 1: {error}") for block, error in INVALID),
+    ):
+        yield digits(*parts), "", None, [error]
 
 
-def reports_another_capture(sslist):
+@table
+def other_blocks():
+    """Packets of a pcapng file in the simple form, in an obsolete one and of another interface, after
+    blocks without a packet: statistics, an interface of another link type, and an unknown type, of
+    less than 16 MiB."""
+    packet = digits(SOCK_DIAG, UNIX)
+    for order, start in zip("<>", map(digits, STARTS)):
+        simple = block(order, 3, struct.pack(order + "I", len(packet)) + packet)
+        ethernet, netlink = (
+            block(order, 1, struct.pack(order + "2HI", it, 0, 0)) for it in (1, 253))
+        fields = struct.pack(order + "2H4I", 2, 7, 0, 7_000_009, len(packet), len(packet))
+        obsolete = block(order, 2, fields + packet + struct.pack(order + "2HI", 2, 4, 0))
+        capture = start + simple + block(order, 5, bytes(12)) + ethernet + netlink + obsolete
+        capture += enhanced(order, SOCK_DIAG, UNIX, interface=2)
+        yield capture, "", UNIX_LINE * 3
+        for size, lines, error in (
+            ((1 << 24) - 12, UNIX_LINE, []),
+            (1 << 24, [], ["packet 1: invalid length of the block at offset 48"]),
+        ):
+            yield start + block(order, 0x80001234, bytes(size)) + simple, "", lines, error
+
+
+@table
+def another_capture():
     """A pcap file that follows a pcap file has an error, in each byte order and with each magic
     number. A packet that was captured in the second with such a number is listed."""
     unix = (SOCK_DIAG, UNIX)
     for header in HEADERS:
-        sslist.run(pcap(HEADERS[0], unix) + pcap(header, unix), lines=[UNIX_LINE], errors=[
-            "packet 2: another capture begins here; list the files separately"])
-        packet = pcap(HEADERS[0], unix)[24:]
-        sslist.run(bytes.fromhex(HEADERS[0] + header[:8]) + packet[4:], lines=[UNIX_LINE])
-
-
-def lists_sections_of_both_orders(sslist):
-    """Captures in pcapng format in both byte orders, by themselves and as sections of one file."""
-    for number in (0, 1):
-        sslist.run(section(number, *MIXED), lines=MIXED_LINES)
-    lines = [*MIXED_LINES, list_heading(SEVEN), *MIXED_LINES]
-    sslist.run(section(0, *MIXED) + section(1, *MIXED), lines=lines)
-
-
-def lists_times_of_requests(sslist):
-    """Times in microseconds and nanoseconds, and none in a simple packet. A block of an unknown
-    type is skipped."""
-    capture = section(1, (SOCK_DIAG, REQUEST))
-    capture += bytes.fromhex(SECTION + NANOSECONDS + UNKNOWN + SIMPLE)
-    capture += enhanced("<", SOCK_DIAG, REQUEST)
-    times = (SEVEN, SEVEN_IN_NANOSECONDS)
-    first, second = (f"-- {time} unix states:0xffffffff\n" for time in times)
-    sslist.run(capture, ["--requests"], [first, list_heading(SEVEN_IN_NANOSECONDS), second])
-
-
-def reports_where_a_file_is_truncated(sslist):
-    """A pcapng file that is truncated at any byte has the lines of its complete packets, and an
-    error with the position."""
-    first = section(1, (SOCK_DIAG, UNIX))
-    capture, whole = first + section(0, (SOCK_DIAG, INET6)), len(first)
-    ends = {28, 48, whole, whole + 28, whole + 48}
-    for length in range(len(capture)):
-        errors, lines = truncation_errors(length, 28, ends, whole), [UNIX_LINE]
-        sslist.run(capture[:length], lines=lines if length >= whole else None, errors=errors)
-
-
-def reports_invalid_blocks(sslist):
-    """The texts of errors about blocks, with their offsets."""
-    for block, error in INVALID:
-        sslist.fails(STARTS[0], block, errors=[f"packet 1: {error}"])
-    sslist.fails("0a0d0d0a1c000000000000000000",
-                 errors=["unknown byte order of the section at offset 0"])
-    sslist.fails(SECTION, SIMPLE, errors=["packet 1: unknown interface of the packet at offset 28"])
+        yield pcap(PCAP, unix) + pcap(header, unix), "", UNIX_LINE, [
+            "packet 2: another capture begins here; list the files separately"]
+        yield digits(PCAP, header[:8]) + pcap(PCAP, unix)[28:], "", UNIX_LINE
 
 
 def main():
-    sslist, failed = Lister(sys.argv[1]), 0
-    for check in (
-        lists_captures_of_both_orders, lists_other_families, lists_values_of_other_families,
-        rejects_records_of_other_lengths,
-        lists_attributes_of_newer_kernels,
-        lists_the_first_valid_attribute,
-        lists_short_tcp_info, leaves_out_times_that_were_not_measured,
-        lists_bit_fields_of_tcp_info, lists_the_payload_limit_of_tls,
-        lists_the_last_endpoints_of_mptcp_info, lists_sctp_associations, lists_sctp_sockets,
-        selects_associations_by_state, names_timers, shows_names_in_utf8, lists_objects,
-        selects_by_address,
-        selects_states_without_a_name, lists_requests, lists_by_the_last_protocol_of_a_request,
-        lists_replies_of_older_types, lists_by_the_protocol_of_a_reply, separates_lists,
-        lists_a_long_datagram,
-        reports_where_a_capture_is_truncated, reports_why, reports_another_capture,
-        lists_sections_of_both_orders, lists_times_of_requests, reports_where_a_file_is_truncated,
-        reports_invalid_blocks,
-    ):
-        try:
-            check(sslist)
-        except AssertionError as error:
-            print(f"{check.__name__}: {error}")
-            failed += 1
-    print(f"tests/captures.py: {sslist.runs} runs, {failed} functions failed")
-    return 1 if failed else 0
+    if len(sys.argv) != 2:
+        sys.exit("usage: tests/captures.py SSLIST")
+    for rows in TABLES:
+        for row in rows():
+            check(sys.argv[1], rows.__name__, *row)
+    print(*runs.failures, sep="\n", end="\n" * bool(runs.failures))
+    print(f"tests/captures.py: {runs.count} runs, {len(runs.failures)} errors")
+    return 1 if runs.failures else 0
 
 
 if __name__ == "__main__":

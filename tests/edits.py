@@ -31,7 +31,7 @@ from concurrent.futures import ThreadPoolExecutor
 from itertools import chain
 from pathlib import Path
 
-from functions import changed_names
+from surface import changed_names
 from tidy import TOP, edited_files, text_files
 
 PARTS = ("src", "specs", "proofs")

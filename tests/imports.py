@@ -3,9 +3,10 @@
 
 - an import that gives an item the name of another one. `use a::{X as Y, Y as X}` exchanges two
   constants in a body and in its clauses at once, so it is proved;
-- a private constant with the name of a public item of its crate or of a crate that it uses. In
-  place of an import it changes a body and its clauses at once, so it is proved. It is allowed if
-  `specs/laws/Constants.antt` of its crate states its number;
+- a constant with the name of a public item of a crate that its crate uses, or a private one with
+  that of a public item of its own crate. In place of an import it changes a body and its clauses at
+  once, so it is proved. It is allowed if `specs/laws/Constants.antt` of its crate states its
+  number;
 - in crates.txt a dependency that is neither a crate above it nor in the lines `# kit:` there. No
   clause excludes a side effect, such as a call of `libc::write`.
 """
@@ -14,8 +15,6 @@ import re
 import sys
 from collections import defaultdict
 from pathlib import Path
-
-from surface import Item, Surface, libraries
 
 TOP = Path(__file__).resolve().parent.parent
 COMMENT = re.compile(r"//.*|^\s*--.*", re.M)
@@ -33,6 +32,10 @@ DECLARED = re.compile(
     r"|union|trait|type) )+(\w+)", re.M
 )
 VARIANT = re.compile(r"^    ([A-Z]\w*)(?=,| \{|\()", re.M)
+# An item of a module: its visibility, its kind and its name.
+ITEM = re.compile(
+    r"^(pub )?(?:pub\(\w+\) )?(?:unsafe )?(const|static|fn|struct|enum|trait|type) (\w+)", re.M
+)
 
 
 def source_files(crate):
@@ -81,19 +84,21 @@ def stated(crate):
 
 
 def shadowing(crates):
-    """Yields the constants that no user reaches, with the name of an item that users of their crate
-    reach, or users of a crate that it uses."""
-    surfaces = {crate: Surface(TOP / "crates" / crate) for crate in libraries()}
-    reached = {crate: {it.name for it in surface.paths if isinstance(it, Item)}
-        for crate, surface in surfaces.items()}
-    for crate, surface in surfaces.items():
-        numbers = stated(crate)
-        names = reached[crate].union(*(reached.get(used, ()) for used in crates[crate]))
-        for module in surface.root.all():
-            own = {(module.path.replace("::", "."), name) for name, item in module.items.items()
-                if item.kind in ("const", "static") and item not in surface.paths}
-            yield from (f"{path}: {name} is the name of a public item, and no law states its number"
-                for path, name in sorted(own - numbers) if name in names)
+    """Yields the constants with the name of a public item of another module of their crate, or of a
+    crate that it uses, unless a law states their number."""
+    public, constants = defaultdict(set), []
+    for crate in crates:
+        for path, text in source_files(crate):
+            parts = path.relative_to(TOP / "crates" / crate).with_suffix("").parts
+            module = ".".join([crate, *(it for it in parts[1:] if it not in ("lib", "mod"))])
+            for is_public, kind, name in ITEM.findall(text) if parts[0] == "src" else ():
+                public[crate].update({name} if is_public else ())
+                if kind in ("const", "static"):
+                    constants.append((crate, module, name, is_public))
+    for crate, module, name, is_public in constants:
+        others = set().union(*(public[it] for it in [*crates[crate], *[crate] * (not is_public)]))
+        if name in others and (module, name) not in stated(crate):
+            yield f"{module}: {name} is the name of a public item, and no law states its number"
 
 
 def unlisted(crates, kit):

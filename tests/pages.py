@@ -9,17 +9,15 @@ them only copies of code and commands in the text are checked.
   an example under bench/original. Indentation and blank lines are ignored. In a README.md a block
   may omit the contracts. A `text` block in a CALLING.md quotes contracts below a line that names
   the file. Each quoted line has to occur in that file, in the notation of these pages.
-- Shell commands are run in a folder with what the page assumes: the programs, the stored capture as
-  FILE, a library whose functions return 0. Each command has to end with status 0. If a command
-  follows `$ `, standard output has to be the lines that follow it.
-- Commands that NOT_RUN lists are not run. The files and options that they name have to exist, and
-  so have those in the commands of the text.
+- Shell commands of the words RUN are run in a folder with what the page assumes: the programs, the
+  stored capture as FILE, a library whose functions return 0. Each has to end with status 0. If a
+  command follows `$ `, standard output has to be the lines that follow it.
+- The files and the options of our programs and scripts exist in all commands, also in the text.
 - FORMS lists the other forms of blocks, such as input and answers of `sockdiag`, and how each is
-  checked.
+  checked. A block of another form is an error.
 
-A block that is none of these is an error: to add a command of another kind, add it to RUN or
-NOT_RUN. Prints each error with its page and line, each command that is skipped since its tool is
-not installed, and the numbers of commands and blocks. The exit status is 1 if there is an error.
+Prints each error with its page and line, each command that is skipped since its tool is not
+installed, and the numbers of commands and blocks. The exit status is 1 if there is an error.
 """
 
 import hashlib
@@ -64,28 +62,8 @@ RUN = set("""./sockdiag ./sockdump ./sslist bin/sockdiag bin/sslist sockdiag ssl
 # Those of them that need a compiler, and those that are never missing.
 COMPILING = {"cc", "make", "pkg-config", "sockdump", "./sockdump", "examples/sockdump"}
 BUILTIN = {"cd", "done", "echo", "export", "for", "printf", *PROGRAMS}
-# How the other commands begin, and why they are not run.
-NOT_RUN = {
-    r"\.ci/run": "it is the gate, which runs this script",
-    r"rt ": "proofs take minutes, and `rt ci` runs all of them",
-    r"tools/erase ": "tests/erased.py runs it",
-    r"tools/vendor ": "it copies results of proofs; tests/vendor.sh runs it",
-    r"examples/list_(sockets|rtt)": "it needs the built library; tests/api/c_api.sh runs it",
-    r"cargo ": "it takes minutes; tests/api/erased.sh runs cargo",
-    r"cc .*tests/api/fuzz_c\.c|out/fuzz_c": "it needs the library; tests/api/c_api.sh runs both",
-    r"tests/api/fetch_targets\.sh": "it needs a network",
-    r"tests/api/\w+\.sh": "it needs the library; the gate runs it later",
-    r"tests/(captures|pages|programs|tables)\.py": "the gate runs them",
-    r"tests/edits\.py": "it needs what the gate builds, which runs it later",
-    r"bench/": "it needs valgrind, and takes minutes",
-    r"watch |.*sockdump --events": "it does not end",
-    r".*sockdump --netns": "it needs root and a namespace",
-    r"ldconfig": "it needs root",
-    r"apt ": "it needs root; tests/release.sh installs the packages in another root",
-    r"dpkg-buildpackage ": "it takes minutes; tests/release.sh runs it",
-    r"BUILT=": "it needs what cargo builds; tests/api/erased.sh runs it",
-    r"(modprobe|ip link|tcpdump) ": "it needs root and the kernel module nlmon",
-}
+# Commands of these words that are not run: they do not end, need root, or need a built library.
+NOT_RUN = re.compile(r".*(sockdump --(events|netns)|fuzz_c|BUILT=)")
 # The first names of input lines of `sockdiag`.
 NAMES = "unixreq|unix|unixview|inetreq|inet|sockid4|sockid6|message|netlink|dump"
 ANSWER = re.compile(r"(ok|refused|unwritable|bad line)\b")
@@ -241,11 +219,6 @@ def is_complete(command):
     ).returncode
 
 
-def reason(command):
-    """Returns how a command begins that is not run, or None."""
-    return next((start for start in NOT_RUN if re.match(start, command)), None)
-
-
 def exists(path):
     """Returns whether a file exists, or the source from which it is built."""
     built = re.fullmatch(r"(crates/\w+)/out/.*", path)
@@ -322,17 +295,12 @@ def wrong_options(program, rest):
 
 
 def wrong_names(command, page):
-    """Yields the files and options in a command of a page that do not exist, and the scripts that
-    cannot be started as the page starts them."""
+    """Yields the files and options in a command of a page that do not exist."""
     for words in simple_commands(command):
         program, *rest = words[1:] if words[0] == "python3" and len(words) > 1 else words
         for path in filter(None, map(PATH.fullmatch, words)):
             if not exists(path[1]) and not (page.parent / path[1]).exists():
                 yield f"{path[1]} does not exist"
-        script = TOP / program
-        if program == words[0] and script.is_file() and not os.access(script, os.X_OK):
-            if script.read_bytes()[:2] == b"#!":
-                yield f"{program} is not executable"
         yield from wrong_options(program, rest)
 
 
@@ -419,7 +387,6 @@ class Checker:
     def __init__(self, folder):
         self.folder = folder
         self.counts = Counter()
-        self.used = set()
         # Blocks that are compared with what the commands of all pages print.
         self.shown = []
 
@@ -451,15 +418,12 @@ class Checker:
         chosen, missing = [], None
         for command, shown in commands_of(lines):
             yield from wrong_names(command, page)
-            start = reason(command)
             words = [it[0] for it in simple_commands(command)]
-            if start:
-                self.used.add(start)
+            if NOT_RUN.match(command) or not RUN.issuperset(words):
                 self.counts["commands not run"] += 1
+                if shown is not None:
+                    yield f"is not run, so its output is not compared: {command.strip()}"
                 continue
-            if not RUN.issuperset(words):
-                yield f"neither run nor in NOT_RUN: {command.strip()}"
-                return
             missing = missing or next((it for it in words if not is_found(it)), None)
             if command.strip() == "./sockdiag" and shown:
                 self.counts["commands run"] += 1
@@ -509,6 +473,12 @@ class Checker:
         stored = set(zip(*(text.splitlines() for text in files)))
         yield from self.check_answers(page, number, lines, stored)
 
+    def check_shown(self, page, number, lines):
+        """Notes lines, which are compared with what all commands print and write when they have
+        run."""
+        self.shown.append((page, number, lines))
+        return []
+
     def check_reply(self, page, number, lines):
         """Checks that the bytes in a table of a UNIX reply are at their offsets, and are stored."""
         digits = ""
@@ -518,12 +488,6 @@ class Checker:
             digits += part
         if f"unix {digits}" not in (TOP / "crates/sockdiag/stdin").read_text("utf-8").splitlines():
             yield f"not in crates/sockdiag/stdin: unix {digits}"
-
-    def check_shown(self, page, number, lines):
-        """Notes lines, which are compared with what all commands print and write when they have
-        run."""
-        self.shown.append((page, number, lines))
-        return []
 
     def check_test_ends(self, page, number, lines):
         """Checks that tests/api has the programs and scripts that print these lines."""
@@ -546,15 +510,11 @@ class Checker:
             yield f"other lines after the dependency: {lines[2:]}"
 
     def check_names(self, page, number, lines):
-        """Checks that public modules and items have the names in a list of imports."""
+        """Checks that public items have the names in a list of imports."""
         surface = (TOP / "tests/surface.txt").read_text(encoding="utf-8")
-        for line in lines:
-            module, _, rest = line.partition("::{")
-            for name in rest.partition("}")[0].split(", "):
-                if name != ".." and f"::{name}: pub " not in surface:
-                    yield f"no public item {name}"
-            if not re.search(rf"(?m)^{module}(: pub |::)", surface):
-                yield f"no module {module}"
+        for name in re.findall(r"\w+", " ".join(re.findall(r"\{(.*?)\}", "".join(lines)))):
+            if f"::{name}: pub " not in surface:
+                yield f"no public item {name}"
 
     def check_crates(self, page, number, lines):
         """Checks that a picture has the names of crates, and in crates/README.md all of them: each
@@ -654,8 +614,6 @@ def main():
             errors += [(page, *it) for page, found in pages.items()
                        for it in checker.check_page(page, found)]
             errors += checker.wrong_outputs()
-        errors += [(Path(__file__), 0, f"NOT_RUN: no page has {it}") for it in NOT_RUN
-                   if it not in checker.used]
         counts |= checker.counts
     for page, number, text in errors:
         place = f"{page.resolve().relative_to(TOP)}:{number}"

@@ -1,477 +1,305 @@
 #!/usr/bin/env python3
-"""Compares the public items with two lists in tests/:
-
-    surface.txt         the libraries of crates.txt, for users of Rattle, and of the package that
-                        tools/erase makes of them
-    surface_c.txt       include/sockdiag.h
+"""Compares what is public in the libraries of crates.txt with the list tests/surface.txt.
 
     tests/surface.py             prints the differences, and exits with status 1 if there are any
-    tests/surface.py --write     writes new lists
+    tests/surface.py --write     writes the list
 
-A line has the shortest path by which a user reaches an item, and its declaration. Further paths of
-the same crate follow `also`; each path to an item of another crate has a line `pub use`. Items that
-no path reaches are not listed. A type that only aliases reach is at the path of the first alias.
-The lists have
+Each line is about one declaration. It has the crate, the module and the name, and then
 
-- functions and methods, and members of traits, by their signatures;
-- types with their public fields, or their variants in order, and their attributes;
-- impls with their associated types and constants, except impls for a type, or of a trait, that the
-  crate declares and no path reaches;
-- constants with their values, and modules;
-- macro calls that declare items, and these macros, with their full text;
-- each `cfg` with the item that it applies to;
-- of the header also the position of each field in its struct.
+- the declaration, of a struct without its private fields, of a trait without its members;
+- the names of its clauses, ghost members and invariants, and a sum of their text, so that a changed
+  contract is a difference;
+- of a definition in specs/ that a promise reaches, by the rules of believed.py, and of a constant
+  or a macro that one may depend on, a sum of its text.
 
-A line ends with the names of the clauses, ghost members and invariants, and with a sum of their
-text, without comments, and of the imports that rename by `as` what the text names. So a contract
-that changes is a difference. Each definition that a promise reaches, by the rules of believed.py,
-has a line too, with its module, its name and a sum of its text and of what its names refer to. So a
-definition that becomes weaker is a difference, if no contract that names it changes. So has each
-constant that such a definition names, if no path reaches it: a sum of its declaration, and of the
-macros of its module if it calls one.
+Names are those of the declaring module: `pub mod` and `pub use` have lines too, and the path of a
+user follows from these.
+
+It expects sources that `rt fmt` has formatted. tests/edits.py finds functions by the same rules.
 """
 
 import difflib
 import hashlib
 import re
 import sys
-from itertools import accumulate, islice
 from pathlib import Path
 
 import believed
 
 TOP = Path(__file__).resolve().parent.parent
-# Comments, string literals, character literals, words, blanks, and other single characters.
-TOKEN = r"""//[^\n]*|/\*.*?\*/|b?"(?:\\.|[^"\\])*"|b?'(?:\\[^']+|[^\\'\s])'|[\w']+|\s+|."""
-# Placeholder for a blank inside a string literal, so that `text_of` keeps it.
-BLANK = "\0"
-# The start of an item: its visibility, its kind, its name.
+LIST = TOP / "tests/surface.txt"
+# Comments, and literals, whose brackets do not count.
+COMMENT = r"//[^\n]*"
+UNREAD = re.compile(rf"{COMMENT}|\"(?:\\.|[^\"\\])*\"|b?'(?:\\[^'\n]+|[^'\\\n])'", re.S)
+# The first line of an item after its attributes: its visibility, its kind and its name.
 ITEM = re.compile(
-    r"(pub(?:\([^)]*\))? )?(?:(?:async|unsafe|const(?= (?:unsafe )?fn\b)|extern \"\w+\") )*"
-    r"(mod|use|fn|struct|enum|union|trait|type|const|static|impl|ghost|extern|[\w:]+!)\s*(\w*)"
+    r"(pub(?:\(\w+\))? )?(?:(?:unsafe|const(?= (?:unsafe )?(?:extern )?fn\b)|extern \"C\") )*"
+    r"(mod|use|fn|struct|enum|union|trait|type|const|static|impl|ghost use|ghost|[\w:]+!)\s*(\w*)"
 )
-# The trait and the type of an impl, and the path in one of these.
-GENERICS = r"<(?:[^<>]|<(?:[^<>]|<[^<>]*>)*>)*>"
-IMPL = re.compile(rf"(?:unsafe )?impl(?:{GENERICS})? (?:(\S.*) for )?(.*)")
-PATH = re.compile(r"(?:&|'\w+ |mut )*((?:\w+::)*\w+)?")
-# A clause, with its kind and its name, and an item that ends with a semicolon, not with a body.
-CLAUSE = r" (ghost|requires|ensures)\*?(?: (\w+))? \{"
-PUB = r"(?:pub(?:\(.*?\))? )?"
-GOES_ON = re.compile(
-    rf" (?:ghost|requires|ensures)\*?(?: \w+)?$"
-    rf"|^{PUB}(?:use|type|static|ghost|const(?! (?:unsafe )?fn\b))\b"
-)
-# An import, also one in an impl.
-USE = re.compile(r"\buse ([^;]*);")
-# A macro cfg, or an attribute cfg and the item that it applies to.
-OVER = rf"(?: ?#\[.*?\])* (?:{PUB}use [^;]*|[^{{;,=]*)"
-CFG = re.compile(rf"\bcfg!\([^{{;]*|#!?\[cfg(?:_attr)?\b.*?\]{OVER}")
-# Attributes that do not concern a caller, or are listed in another way.
-QUIET = re.compile(r"#!?\[(?:tactic|inline|cold|doc|allow|expect|cfg|derive)\b.*")
-# An attribute that exports a function under its name.
+ATTRIBUTE = re.compile(r"\s*#!?\[[^\n]*?\]\s*?(?=\n|$)|\s*#!?\[.*?\)\]", re.S)
+# Attributes that concern a user.
+USED = re.compile(r"#\[(?:derive|repr|unsafe|must_use|non_exhaustive|error|cfg)\b.*?\]", re.S)
+GENERICS = re.compile(r"<(?:[^<>]|<[^<>]*>)*>")
+CLAUSE = re.compile(r"\s(ghost|requires|ensures)\*?(?: (\w+))?(?::| =|) \{")
 EXPORTED = "#[unsafe(no_mangle)]"
 
 
 def libraries():
     """Returns the crates of crates.txt, except programs and crates of tests."""
-    crates = re.findall(r"^\w+", (TOP / "crates.txt").read_text(encoding="utf-8"), re.M)
-    others = [it for it in crates if not it.endswith("_tests")]
-    return [it for it in others if (TOP / "crates" / it / "src" / "lib.rt").exists()]
+    crates = re.findall(r"(?m)^\w+", (TOP / "crates.txt").read_text("utf-8"))
+    return [it for it in crates if not it.endswith("_tests")
+            and (TOP / "crates" / it / "src/lib.rt").exists()]
 
 
-def tokens_of(path):
-    """Returns the tokens of a file. A comment or a run of blanks is one blank."""
-    for it in re.findall(TOKEN, path.read_text(encoding="utf-8"), re.S):
-        if it.startswith(('"', 'b"')):
-            text = re.sub(r"\\\n\s*", "", it).replace("\n", r"\n")
-            yield text.replace(" ", BLANK)
-        else:
-            yield " " if it.isspace() or it.startswith(("//", "/*")) else it
+def blank(found):
+    """Returns blanks in place of a comment or a literal, with its line breaks."""
+    return re.sub(r"[^\n]", " ", found[0])
 
 
-def text_of(tokens):
-    """Returns the tokens as one line, which does not depend on line breaks."""
-    text = re.sub(r"([(\[<]) ", r"\1", " ".join("".join(tokens).split()))
-    text = re.sub(r",? ([)\]>])", r"\1", text.replace(", }", " }")).rstrip(",")
-    return text.replace(BLANK, " ")
-
-
-def closing(tokens, at):
-    """Returns the index of the bracket that closes the one at `at`."""
-    signs = ((it in set("([{")) - (it in set(")]}")) for it in islice(tokens, at, None))
-    return at + next(index for index, depth in enumerate(accumulate(signs)) if depth == 0)
-
-
-def without_attributes(tokens):
-    """Returns the leading attributes, as strings, and the tokens after them."""
-    attributes, at = [], 0
-    while at < len(tokens) and tokens[at] in " #":
-        if tokens[at] == "#":
-            end = closing(tokens, tokens.index("[", at))
-            attributes.append(text_of(tokens[at : end + 1]))
-            at = end
-        at += 1
-    return attributes, tokens[at:]
-
-
-def parts(tokens):
-    """Yields the attributes and the tokens between commas that are outside of brackets."""
-    start = at = depth = 0
-    while at <= len(tokens):
-        sign = tokens[at] if at < len(tokens) else ","
-        depth += (sign == "<") - (sign == ">" and tokens[at - 1] not in "-=")
-        if sign in set("([{"):
-            at = closing(tokens, at)
-        elif sign == "," and (depth == 0 or at == len(tokens)):
-            if text_of(tokens[start:at]):
-                yield without_attributes(tokens[start:at])
-            start = at + 1
-        at += 1
-
-
-def names_of_use(tokens, before=""):
-    """Yields each name that a `use` declares, and its path."""
-    head = before + text_of(tokens).partition("{")[0].strip()
-    if "{" not in tokens:
-        path, _, name = head.removesuffix("::self").partition(" as ")
-        yield name or path.rpartition("::")[2], path.removesuffix("::self")
-    else:
-        for _, part in parts(tokens[tokens.index("{") + 1 : closing(tokens, tokens.index("{"))]):
-            yield from names_of_use(part, head)
-
-
-class Item:
-    """A declaration, with its tokens before its body, and the tokens of its body or None."""
-
-    def __init__(self, attributes, head, body, module):
-        self.attributes, self.head, self.text = attributes, head, text_of(head)
-        self.body, self.module = body, module
-        found = ITEM.match(self.text)
-        if not found:
-            sys.exit(f"tests/surface.py: unknown item {self.text[:80]}")
-        self.public, self.kind, self.name = found[1] == "pub ", found[2], found[3]
-        if body and self.kind.endswith("!") and not self.name:
-            # The first word of a macro call is taken as the item that it declares.
-            self.public, self.name = True, re.search(r"\w+", text_of(body))[0]
-
-    def declaration(self):
-        """Returns the text before the clauses."""
-        return re.split(CLAUSE, self.text, maxsplit=1)[0]
-
-    def contract(self):
-        """Yields the kind, the name and the text of each clause, or of a ghost member."""
-        if self.kind == "ghost":
-            if self.name != "use":
-                yield "ghost", self.name, self.text
-        else:
-            found = [*re.finditer(CLAUSE, self.text)]
-            ends = [it.start() for it in found[1:]] + [len(self.text)]
-            yield from ((it[1], it[2] or "_", self.text[it.start():end])
-                for it, end in zip(found, ends))
-
-
-def items(tokens, module):
-    """Yields each item."""
-    start = at = 0
-    while at < len(tokens):
-        end = closing(tokens, at) if tokens[at] in set("([{") else at
-        if tokens[at] in set(";{"):
-            attributes, head = without_attributes(tokens[start:at])
-            if end == at or not GOES_ON.search(text_of(head)):
-                body = tokens[at + 1 : end] if end > at else None
-                yield Item(attributes, head, body, module)
-                start = end + 1
-        at = end + 1
+def one_line(text):
+    """Returns a text as one line without comments, which does not depend on line breaks."""
+    text = UNREAD.sub(lambda it: "" if it[0].startswith("//") else it[0], text)
+    text = re.sub(r"([(\[<]) ", r"\1", " ".join(text.split()))
+    return re.sub(r",? ([)\]>])", r"\1", text.replace(", }", " }")).rstrip(",")
 
 
 def short_sum(text):
-    """Returns the sum of a text as a list has it."""
     return hashlib.sha256(text.encode()).hexdigest()[:8]
 
 
-def sum_of(contract, module):
-    """Returns the names in a contract and the sum of its text, to be appended to a line."""
-    names, whole = {}, " ".join(text for _, _, text in contract)
-    for kind, name, _ in contract:
-        names.setdefault(kind, []).append(name)
-    text = "".join(f"; {kind} {', '.join(them)}" for kind, them in names.items())
-    words = {*re.findall(r"\w+", whole)}
-    whole += "".join(f"{name} {path}" for name, path in sorted(module.given) if name in words)
-    return text + f"; {short_sum(whole)}" if contract else ""
+class Item:
+    """A declaration: its attributes, its text from its first line on, and where its body begins."""
+
+    def __init__(self, lines, indent):
+        text = "\n".join(lines)
+        end = 0
+        while found := ATTRIBUTE.match(text, end):
+            end = found.end()
+        self.attributes, self.text = text[:end], text[end:].lstrip("\n")
+        found = ITEM.match(self.text.strip())
+        if not found:
+            sys.exit(f"tests/surface.py: unknown item {self.text[:80]}")
+        self.public, self.kind, self.name = found[1] == "pub ", found[2], found[3]
+        bare = UNREAD.sub(blank, self.text)
+        body = re.search(rf"(?m)^ {{{indent}}}\{{$|^ {{{indent}}}\S.* \{{$|^ {{{indent}}}.*\{{\}}$",
+                         bare)
+        self.start = body.end() if body else len(self.text)
+        self.head = self.text[: body.start() if body and body[0].strip() in "{}" else self.start]
+
+    def members(self):
+        """Returns the items in the body of an impl or a trait."""
+        return [*items(self.text[self.start:].rpartition("\n}")[0], 4)]
+
+    def contract(self, names):
+        """Returns the names of the clauses or ghost members, and the sum of their text and of the
+        imports that rename by `as` what they name, to be appended to a line."""
+        text = self.head if self.kind == "fn" else self.text
+        found = [*CLAUSE.finditer(text)]
+        if not found:
+            return ""
+        whole = one_line(text[found[0].start():])
+        words = {*re.findall(r"\w+", whole)}
+        whole += "".join(f"{new} {path} {old}" for new, (path, old) in sorted(names.items())
+            if new in words and old not in (None, new))
+        kinds = {}
+        for it in found:
+            kinds.setdefault(it[1], []).append(it[2] or "_")
+        shown = "".join(f"; {kind} {', '.join(them)}" for kind, them in kinds.items())
+        return f"{shown}; {short_sum(whole)}"
 
 
-class Module:
-    """A module: its items and imports by name, the modules in it, and its impls."""
-
-    def __init__(self, path, folder, tokens, parent=None):
-        self.path, self.parent = path, parent
-        self.root = parent.root if parent else self
-        self.items, self.uses, self.globs, self.modules = {}, {}, [], {}
-        self.impls, self.macros = [], []
-        text = text_of(tokens)
-        self.cfgs = CFG.findall(text)
-        # The names that imports give by `as`, each with the path of what has the name.
-        self.given = [(name, whole.partition("{")[0] + path) for whole in USE.findall(text)
-            for path, name in re.findall(r"([^\s,{}]+) as (\w+)", whole)]
-        for item in items(tokens, self):
-            if item.kind == "mod":
-                inner, file = folder / item.name, folder / f"{item.name}.rt"
-                file = file if file.exists() else inner / "mod.rt"
-                body = [*tokens_of(file)] if item.body is None else item.body
-                child = Module(f"{path}::{item.name}", inner, body, self)
-                self.modules[item.name] = item.public, child
-            elif item.kind == "use":
-                for name, whole in names_of_use(item.head[item.head.index("use") + 1 :]):
-                    if name == "*":
-                        self.globs.append((item.public, whole.removesuffix("::*")))
-                    elif name != whole:
-                        self.uses[name] = item.public, whole
-            elif item.kind == "impl":
-                self.impls.append(item)
-            elif item.kind == "macro_rules!":
-                self.macros.append(item)
-            elif item.kind not in ("extern", "ghost"):
-                self.items[item.name] = item
-
-    def all(self):
-        """Yields this module and the modules in it."""
-        yield self
-        for _, child in self.modules.values():
-            yield from child.all()
-
-    def find(self, path):
-        """Returns the item or the module at a path, or the path if it is one of another crate."""
-        first, _, rest = path.partition("::")
-        own = {"crate": self.root, "self": self, "super": self.parent}.get(first)
-        found = own or self.member(first, bool(rest))
-        if isinstance(found, Module) and rest:
-            return found.find(rest)
-        if isinstance(found, str) and rest:
-            return f"{found}::{rest}"
-        return found or path
-
-    def member(self, name, is_prefix):
-        """Returns what a name of this module means, or None. Before `::` it is a module."""
-        if name in self.modules and (is_prefix or name not in {**self.items, **self.uses}):
-            return self.modules[name][1]
-        if name in self.items:
-            return self.items[name]
-        whole = self.uses.get(name, (False, f"{name}::"))[1]
-        if name in self.modules or not whole.startswith(f"{name}::"):
-            return self.find(whole)
-        found = [self.find(it) for _, it in self.globs if not it.startswith(f"{name}::")]
-        return next((it.items[name] for it in found if isinstance(it, Module) and name in it.items),
-            None)
-
-    def reached(self, path):
-        """Yields each path by which a user of this module reaches something, and what it is."""
-        for name, item in self.items.items():
-            if item.public:
-                yield f"{path}::{name}", item
-        modules = [(name, public, child) for name, (public, child) in self.modules.items()]
-        modules += [(name, public, self.find(it)) for name, (public, it) in self.uses.items()]
-        for name, public, found in modules:
-            if public:
-                yield f"{path}::{name}", found
-                if isinstance(found, Module):
-                    yield from found.reached(f"{path}::{name}")
-        for public, whole in self.globs:
-            if public:
-                yield from self.find(whole).reached(path)
+def items(text, indent=0):
+    """Yields each item of a module, or of the body of an impl or a trait."""
+    lines, found, depth = text.splitlines(), [], 0
+    for line, bare in zip(lines, UNREAD.sub(blank, text).splitlines()):
+        if not found and not bare.strip():
+            continue
+        found.append(line)
+        depth += sum(map(bare.count, "([{")) - sum(map(bare.count, ")]}"))
+        is_outer = len(bare) - len(bare.lstrip()) == indent
+        ends = bare.rstrip().endswith(";") or is_outer and bare.rstrip().endswith("}")
+        if depth == 0 and ends:
+            item = Item(found, indent)
+            found = []
+            yield item
 
 
-class Surface:
-    """The lines of one crate."""
+def module_of(path):
+    """Returns the module of a file in the folder src of a crate; "" is the root."""
+    names = list(Path(path).with_suffix("").parts[3:])
+    return "::".join(names[:-1] if names[-1] in ("lib", "mod") else names)
 
-    def __init__(self, folder):
-        source, self.name, self.lines, self.paths = folder / "src", folder.name, [], {}
-        self.root = Module(self.name, source, [*tokens_of(source / "lib.rt")])
-        for path, found in sorted(self.root.reached(self.name), key=lambda it: order(it[0])):
-            self.paths.setdefault(found, []).append(path)
-        self.paths = {**self.behind_aliases(), **self.paths}
-        for found, paths in self.paths.items():
-            self.list_reached(found, paths)
-        modules = [*self.root.all()]
-        called = {it.kind.rpartition(":")[2] for module in modules for it in module.items.values()}
-        for module in modules:
-            self.lines += [f"{self.name}: {cfg}" for cfg in module.cfgs]
-            macros = [it for it in module.macros if f"{it.name}!" in called]
-            self.lines += [f"{self.name}: {it.text} {text_of(it.body)}" for it in macros]
-            for impl in module.impls:
-                self.list_impl(impl)
 
-    def behind_aliases(self):
-        """Returns the items that aliases name, with the paths of the aliases."""
-        named = {}
-        for item, paths in self.paths.items():
-            if isinstance(item, Item) and item.kind == "type":
-                found = item.module.find(path_in(item.text.partition("= ")[2]))
-                named.setdefault(found, []).extend(paths if isinstance(found, Item) else [])
-        return {found: paths for found, paths in named.items() if paths}
+class Crate:
+    """The files of a crate: the path of each, and its items."""
 
-    def list_reached(self, found, paths):
-        """Lists what a user reaches by paths."""
-        also = "".join(f"; also {path}" for path in paths[1:])
-        if isinstance(found, Module):
-            self.lines.append(f"{paths[0]}: pub mod{also}")
-        elif isinstance(found, Item):
-            self.list_item(paths[0], found, also)
-        elif "::" in found:
-            self.lines += [f"{path}: pub use {found}" for path in paths]
-        else:
-            sys.exit(f"tests/surface.py: {paths[0]}: there is no {found}")
+    def __init__(self, name):
+        paths = sorted((TOP / "crates" / name / "src").rglob("*.rt"))
+        self.name, self.files = name, []
+        specs = (TOP / "crates").glob("*/specs/**/*.antt")
+        self.cited = {word for it in specs for word in re.findall(r"\w+", it.read_text("utf-8"))}
+        for path in paths:
+            text = path.read_text("utf-8")
+            module = module_of(path.relative_to(TOP))
+            full = "::".join(filter(None, (name, module)))
+            self.files.append((full, [*items(text)], believed.imports(text)))
+        declared = [it for _, found, _ in self.files for it in found
+            if it.kind in ("struct", "enum", "union", "trait")]
+        self.private = {it.name for it in declared if not it.public}
 
-    def list_item(self, path, item, also="", before=""):
-        """Lists an item, with its fields, variants or members."""
-        facts, contract = facts_of(item), [*item.contract()]
-        if item.kind in ("struct", "union", "enum"):
-            fields = [" ".join([text_of(it), *of]) for of, it in parts(item.body or [])]
-            ghosts = [it for it in fields if it.startswith("ghost ")]
-            contract += [("ghost", it.split()[1].rstrip(":"), it) for it in ghosts]
-            self.lines += members_of(path, item, fields)
-            if item.kind != "enum" and any(not it.startswith(("pub ", "ghost ")) for it in fields):
-                facts += "; private fields"
-        elif item.kind == "trait":
-            for member in items(item.body, item.module):
-                self.list_member(f"{path}::{member.name}", member)
-        text = item.declaration()
-        if item.kind.endswith("!"):
-            text += f" {text_of(item.body)}"
-        self.lines.append(f"{path}: {before}{text}{facts}{also}{sum_of(contract, item.module)}")
+    def lines(self):
+        for path, found, names in self.files:
+            for item in found:
+                yield from self.lines_of(f"{path}::{item.name}", path, item, names)
 
-    def list_member(self, path, item):
-        """Lists a member of a trait."""
-        given = item.body is not None or re.search(r"\} = \{|^ghost \w+ = ", item.text)
-        before = "provided " if given else ""
-        if item.kind == "ghost":
-            contract = sum_of([*item.contract()], item.module)
-            self.lines.append(f"{path}: {before}ghost; {contract[-8:]}")
-        elif item.kind != "use":
-            self.list_item(path, item, before=before)
+    def lines_of(self, path, module, item, names):
+        """Yields the lines about an item of a module."""
+        used = "".join(f"; {one_line(it)}" for it in USED.findall(item.attributes))
+        if item.kind == "impl":
+            yield from self.lines_of_impl(module, item, names)
+        elif item.kind in ("const", "static", "macro_rules!") and not item.public:
+            if item.kind == "macro_rules!" or item.name in self.cited:
+                yield f"{path}: {item.kind}; {short_sum(one_line(item.text))}"
+        elif item.kind.endswith("!"):
+            yield f"{module}: {one_line(item.text)}"
+        elif item.kind == "trait" and item.public:
+            yield f"{path}: {one_line(item.text[: item.start]).rstrip(' {')}{used}"
+            for it in item.members():
+                given = "provided " if it.start < len(it.text) or "} = {" in it.text else ""
+                yield f"{path}::{it.name}: {given}{shown(it)}{it.contract(names)}"
+        elif item.public or EXPORTED in item.attributes:
+            path = module if item.kind == "use" else path
+            yield f"{path}: {shown(item)}{used}{item.contract(names)}"
 
-    def list_impl(self, impl):
-        """Lists the impl of a trait, or the public members of a type."""
-        of, over = IMPL.match(impl.text).groups()
-        kind, trait = impl.module.find(path_in(over)), impl.module.find(path_in(of or ""))
-        if any(isinstance(it, Item) and it not in self.paths for it in (kind, trait)):
+    def lines_of_impl(self, module, item, names):
+        """Yields the lines about an impl, unless its type or its trait is private."""
+        head = one_line(item.text[: item.start]).rstrip(" {}")
+        trait, _, of = GENERICS.sub("", head.removeprefix("impl")).rpartition(" for ")
+        if self.private & {*re.findall(r"\w+", f"{trait} {of.partition(' where ')[0]}")}:
             return
-        path = self.paths[kind][0] if isinstance(kind, Item) else self.name
-        members = [*items(impl.body, impl.module)]
-        if of:
-            types = [f"; {it.declaration()}" for it in members if it.kind in ("type", "const")]
-            contract = [clause for it in members for clause in it.contract()]
-            self.lines.append(f"{path}: {impl.text}{''.join(types)}{sum_of(contract, impl.module)}")
+        if trait:
+            types = [shown(it) for it in item.members() if it.kind in ("type", "const")]
+            yield f"{module}: {'; '.join([head, *types])}{item.contract(names)}"
         else:
-            also = f" in {impl.text}" if ": " in impl.text else ""
-            for it in members:
+            of = re.search(r"\w+", of)[0]
+            bounds = f" in {head}" if ": " in head else ""
+            for it in item.members():
                 if it.public:
-                    self.list_item(f"{path}::{it.name}", it, also)
+                    yield f"{module}::{of}::{it.name}: {shown(it)}{bounds}{it.contract(names)}"
 
 
-def members_of(path, item, fields):
-    """Yields the lines of the variants of an enum, or of the public fields of another type, with
-    the position of each if the type has the layout of C."""
-    has_layout = any("repr(C)" in it for it in item.attributes)
-    for place, it in enumerate(fields):
-        if item.kind == "enum":
-            yield f"{path}::{it}, variant {place}"
-        elif it.startswith("pub "):
-            yield f"{path}.{it[4:]}" + (f", field {place}" if has_layout else "")
+def shown(item):
+    """Returns the declaration of an item without its clauses and without its private parts."""
+    if item.kind == "ghost":
+        return "ghost"
+    if item.kind == "fn":
+        clause = CLAUSE.search(item.head)
+        return one_line(item.head[: clause.start() if clause else None]).rstrip(" {};")
+    if item.kind not in ("struct", "union"):
+        return one_line(re.sub(r"(?m)^\s*ghost .*$", "", item.text)).rstrip(";")
+    if item.start == len(item.text):
+        fields = re.sub(r"(?<=[(,])(?! ?pub)[^,)]+", "private", item.text)
+        return one_line(fields).rstrip(";")
+    lines = [it for it in item.text[item.start:].splitlines() if it.startswith("    pub ")]
+    hidden = re.search(r"(?m)^    (?!pub |ghost |//|requires|ensures|#)\w+: ", item.text)
+    return one_line("\n".join([item.text[: item.start], *lines, "}"])) + "; private" * bool(hidden)
 
 
-def path_in(text):
-    """Returns the path at the start of a type or a trait, or a path that names nothing."""
-    return PATH.match(text)[1] or "-"
-
-
-def order(path):
-    """Sorts paths: the shortest first."""
-    return path.count("::"), path
-
-
-def facts_of(item):
-    """Returns the attributes of an item that concern a caller, to be appended to a line."""
-    derived = [re.findall(r"[\w:]+", it.partition("derive(")[2]) for it in item.attributes]
-    names = sorted(name for them in derived for name in them)
-    text = f"; derives {', '.join(names)}" if names else ""
-    return text + "".join(f"; {it}" for it in item.attributes if not QUIET.match(it))
-
-
-def definition_lines(crates):
-    """Yields the line of each definition that a promise reaches, and of each constant that one of
-    them names and no path reaches."""
+def definition_lines():
+    """Yields the line of each definition that a promise reaches."""
     _, specs = believed.follow_promises()
-    named, crates = set(), {crate.name: crate for crate in crates}
     for module, item in specs.reached(believed.CRATES + believed.OTHERS):
         if item.kind != "module":
             yield f"{module.name}: {item.name}; {short_sum(module.text_of(item))}"
-            named.update(constants_named(module, item))
-    for crate, path in named:
-        found = crates[crate].root.find(path) if crate in crates else None
-        if isinstance(found, Item) and found not in crates[crate].paths:
-            macros = [text_of(it.body) for it in found.module.macros if "!(" in found.text]
-            yield f"{crate}::{path}: {found.kind}; {short_sum(found.text + ''.join(macros))}"
 
 
-def constants_named(module, item):
-    """Yields the crate and the path of each constant of the code that a definition names."""
-    for path in item.paths():
-        head, *rest = path.split(".")
-        target, name = module.names.get(head, ("", ""))
-        found = re.fullmatch(r"Rattle\.(\w+)\.specs\.declared\.((?:\w+\.)*)TheConstants", target)
-        if found:
-            yield found[1], found[2].replace(".", "::") + (name or rest[0])
+def words_of(type_, parameters):
+    """Returns the words of a type or trait as the prover joins them in a name: without lifetimes and
+    parameters of the impl. A parameter by itself is `Any`."""
+    type_ = re.sub(r"(?:\w+::)+", "", type_.split(" where ")[0])
+    for sign, word in (("&", "Ref "), ("[", "Slice "), ("()", "Unit")):
+        type_ = type_.replace(sign, word)
+    words = re.findall(r"(?<!')\b[A-Za-z_]\w*", type_)
+    if words and words[0] in parameters:
+        words[0] = "Any"
+    return "".join(word[0].upper() + word[1:] for word in words if word not in parameters)
 
 
-def header_lines(text, contracts):
-    """Yields the lines of the C header. The functions have the contracts of the crate."""
-    text = re.sub(r"/\*.*?\*/", "", text, flags=re.S)
-    for name, value in re.findall(r"^#define (\w+(?:\(.*?\))?) +(.*?) *$", text, re.M):
-        yield f"{name}: {value}, #define"
-    for kind, name, body in re.findall(r"^(enum|struct) (\w+) \{(.*?)\}", text, re.M | re.S):
-        for place, it in enumerate(re.findall(r"[^;,]+[^;,\s]", body)):
-            member, of = re.search(r"(\w+)(?: = (\w+)|\[\w+\]| : \d+)?$", it).groups()
-            if kind == "enum":
-                yield f"{member}: {of}, enum {name}"
-            else:
-                yield f"{name}.{member}: {' '.join(it.split())}, field {place}"
-    for kind, name, parameters in re.findall(r"^(\w[\w *]*?)(\w+)\(([^)]*)\)", text, re.M):
-        parameters = " ".join(parameters.split())
-        yield f"{name}: {kind}{name}({parameters}){contracts.get(name, '')}"
+def block_name(item):
+    """Returns the name of an impl or a trait in the prover's names of its functions."""
+    if item.kind == "trait":
+        return item.name
+    head, parameters = one_line(item.text[: item.start]).partition("impl")[2].strip(" {}"), []
+    if head.startswith("<"):
+        signs = (1 if it == "<" else -1 if it == ">" and before not in "-=" else 0
+            for before, it in zip(f" {head}", head))
+        depth, end = 0, 0
+        for end, sign in enumerate(signs, 1):
+            depth += sign
+            if depth == 0:
+                break
+        parameters = re.findall(r"(?:^<|, )(?:const )?(\w+)", head[:end])
+        head = head[end:].strip()
+    trait, _, type_ = head.rpartition(" for ")
+    return words_of(type_, parameters) + words_of(trait, parameters)
 
 
-def is_current(name, lines, writes):
-    """Returns whether a list has these lines, after it is written if `writes`. If not, prints the
-    differences."""
-    path, lines = TOP / "tests" / name, sorted(lines)
-    if writes:
-        path.write_text("\n".join(lines) + "\n", encoding="utf-8")
-    listed = path.read_text(encoding="utf-8").splitlines()
-    if lines != listed:
-        print(*difflib.unified_diff(listed, lines, name, "sources", n=0, lineterm=""), sep="\n")
-    return lines == listed
+def functions_of(path, text):
+    """Returns the text of each function of a file by the prover's name, such as
+    `module::Type::function` or `module::TypeTrait::function`, and all other text by the name of the
+    module."""
+    module, parts = module_of(path), {}
+    for item in items(text):
+        block = item.kind in ("impl", "trait")
+        for it in item.members() if block else [item]:
+            name = [module, block and block_name(item), it.name]
+            name = "::".join(filter(None, name)) if it.kind == "fn" else module
+            parts[name] = parts.get(name, "") + it.text + "\n"
+            parts[module] = parts.get(module, "") + it.attributes
+        if block:
+            parts[module] = parts.get(module, "") + item.attributes + item.text[: item.start]
+    return parts
+
+
+def name_in_crate(name, path, files):
+    """Returns the name of a function with the module that declares its type, which may be another
+    one than that of the file."""
+    module = module_of(path)
+    parts = name.removeprefix(module + "::").split("::")
+    declared = re.compile(rf"(?m)^ *(?:pub(?:\(\w+\))? )?(?:struct|enum) {parts[0]}\b")
+    if len(parts) == 1 or declared.search(files[path]):
+        return name
+    source = "/".join(path.split("/")[:3]) + "/"
+    others = [module_of(other) for other in files
+              if other.startswith(source) and declared.search(files[other])]
+    return "::".join(filter(None, [*others, *parts])) if len(others) == 1 else name
+
+
+def changed_names(changed, files):
+    """Returns the functions and modules that differ in the changed files."""
+    names = []
+    for path, text in changed.items():
+        before, after = functions_of(path, files[path]), functions_of(path, text)
+        names += [name_in_crate(name, path, files) for name in after
+                  if after[name] != before.get(name)]
+    return names
 
 
 def main():
     if sys.argv[1:] not in ([], ["--write"]):
         print("usage: tests/surface.py [--write]", file=sys.stderr)
         return 2
-    writes = len(sys.argv) > 1
-    crates = [Surface(TOP / "crates" / crate) for crate in libraries()]
-    exports = [item for crate in crates for module in crate.root.all()
-        for item in module.items.values() if EXPORTED in item.attributes]
-    contracts = {it.name: sum_of([*it.contract()], it.module) for it in exports}
-    header = (TOP / "include/sockdiag.h").read_text(encoding="utf-8")
-    lists = {
-        "surface.txt": [*definition_lines(crates),
-            *(line for crate in crates for line in crate.lines)],
-        "surface_c.txt": header_lines(header, contracts),
-    }
-    outdated = sum(not is_current(name, lines, writes) for name, lines in lists.items())
-    if outdated:
-        print(f"tests/surface.py: {outdated} lists are out of date; if the changes are intended, "
-              "run tests/surface.py --write")
-    return 1 if outdated else 0
+    lines = [line for it in libraries() for line in Crate(it).lines()]
+    lines = sorted({*lines, *definition_lines()})
+    if sys.argv[1:]:
+        LIST.write_text("\n".join(lines) + "\n", "utf-8")
+    listed = LIST.read_text("utf-8").splitlines()
+    if lines == listed:
+        return 0
+    print(*difflib.unified_diff(listed, lines, LIST.name, "sources", n=0, lineterm=""), sep="\n")
+    print("tests/surface.py: the list is out of date; if the changes are intended, run "
+          "tests/surface.py --write")
+    return 1
 
 
 if __name__ == "__main__":

@@ -26,7 +26,7 @@ import sys
 from pathlib import Path
 
 sys.dont_write_bytecode = True
-import programs
+import runs
 
 TOP = Path(__file__).resolve().parent.parent
 HEADER = (TOP / "include/sockdiag.h").read_text(encoding="utf-8")
@@ -133,13 +133,13 @@ def replies():
         for kind in KINDS:
             for size in LENGTHS:
                 attribute = (4 + size).to_bytes(2, "little") + bytes([kind, 0]) + bytes(size)
-                yield programs.packet(header + attribute + bytes(-size % 4))
+                yield runs.packet(header + attribute + bytes(-size % 4))
 
 
 def printed_members(sslist):
     """Returns the members of the objects for each family, the members of the objects in these
     except `meminfo`, and the members of the longest `info` in order."""
-    capture = programs.CAPTURE.read_bytes()
+    capture = runs.CAPTURE.read_bytes()
     given = capture[:24] + b"".join(replies()) + capture[24:]
     done = subprocess.run([sslist, "--json"], input=given, stdout=subprocess.PIPE, check=True,
                           stderr=subprocess.DEVNULL)
@@ -160,9 +160,9 @@ def printed_members(sslist):
 
 def mptcp_members(sslist):
     """Returns the members of `info` of an MPTCP socket in order."""
-    request = programs.packet([2, 6, *bytes(54), 8, 0, 3, 0, 6, 1, 0, 0], 0x301)
-    reply = programs.packet(bytes([2, *bytes(71)]) + programs.attribute(2, bytes(96)))
-    given = programs.CAPTURE.read_bytes()[:24] + request + reply
+    request = runs.packet([2, 6, *bytes(54), 8, 0, 3, 0, 6, 1, 0, 0], 0x301)
+    reply = runs.packet(bytes([2, *bytes(71)]) + runs.attribute(2, bytes(96)))
+    given = runs.CAPTURE.read_bytes()[:24] + request + reply
     done = subprocess.run([sslist, "--json"], input=given, stdout=subprocess.PIPE, check=True)
     return list(json.loads(done.stdout)["info"])
 

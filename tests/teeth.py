@@ -153,7 +153,8 @@ Two commands:
 
 Another one:
 
-    planted
+    $ planted
+    1
 """
 FUNCTION = "\nfn planted() -> u8 {\n    1\n}\n"
 # An edit of a function that is added for it.
@@ -236,7 +237,7 @@ ROWS = [
         "tests/tidy.py has no option --planted", "rust block is not in any file",
         "no command prints or writes: {", "no crate at planted", "form, language text",
         "the answer is planted, not ok 00", "not in crates/sockdiag/stdin: unix 00",
-        "prints something else: sslist FILE", "neither run nor in NOT_RUN: planted",
+        "prints something else: sslist FILE", "its output is not compared: planted",
     ), (
         ("docs/PLANTED.md", None, PAGE),
         ("tests/pages.py", "DOCUMENTS = [", 'DOCUMENTS = ["docs/PLANTED.md"] or ['),
@@ -257,13 +258,11 @@ ROWS = [
     ), "planted::it"),
     Row("python3 tests/surface.py", (
         "+netlink_core::planted: pub fn planted() -> u8; ensures planted; ",
-        "+netlink_core.specs.Bytes: IsBytes; ", "+SOCKDIAG_PLANTED: 1, #define",
-        "2 lists are out of date",
+        "+netlink_core.specs.Bytes: IsBytes; ", "the list is out of date",
     ), (
         ("crates/netlink_core/src/lib.rt", "",
          "\npub fn planted() -> u8\n    ensures planted { result ≡ 1 }\n{\n    1\n}\n"),
         ("crates/netlink_core/specs/Bytes.antt", " index < 256", " index < 257"),
-        ("include/sockdiag.h", "", "#define SOCKDIAG_PLANTED 1\n"),
     )),
     Row("python3 tests/imports.py", (
         "crates.txt: netlink_core uses planted",
@@ -301,8 +300,8 @@ ROWS = [
     Row("python3 tests/believed.py --of netlink_core::planted && false", ("\nT.codec.planted\n",),
         (("crates/netlink_core/src/lib.rt", "",
           "pub fn planted<T: HasCodec>()\n    ensures { T.codec.planted }\n{}\n"),)),
-    Row("python3 tests/start.py", ("sslist: planted option -q",),
-        (("tools/start", "wrong option", "planted option"),)),
+    Row("python3 tests/start.py", ("sslist: planted 'gone'",),
+        (("tools/start", "cannot read '$shown", "planted '$shown"),)),
     Row("tests/vendor.sh", ("vendor.sh: from is not refused: 2",),
         (("tools/vendor", "$1 is in this repository", "$1 is planted"),)),
     Row("tests/release.sh", ("two trees are not packed to the same bytes",),
@@ -331,7 +330,7 @@ ROWS = [
     Row("python3 tests/programs.py $STAND_INS/program $STAND_INS/program",
         names("tests/programs.py", r"(test_(?!sockdump)\w+)\(program\)"), (), "*"),
     Row("python3 tests/captures.py $STAND_INS/program",
-        names("tests/captures.py", r"(\w+)\(sslist\)"), (), "*"),
+        names("tests/captures.py", r"((?!main)\w+)\(\)"), (), "*"),
     Row("tests/api/must_not_compile.sh", ("a name that outlives its bytes was not rejected",),
         (("tests/over_gate.sh", None, PROGRAM),), ""),
     Row(f"{MEMORY} $STAND_INS/allocations $STAND_INS/program $STAND_INS/program",

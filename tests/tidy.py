@@ -73,7 +73,7 @@ def is_unbreakable(name, line):
 
 def wide_lines(files):
     """Yields the lines of code with more than COLUMNS columns. Pages, must-fail edits, which quote
-    code, and the lists of tests/surface.py are not checked."""
+    code, are not checked."""
     for name, text in files.items():
         if Path(name).suffix in {".md", ".edit", ".toml"} or name.startswith("docs/"):
             continue
