@@ -29,11 +29,11 @@
 #ifndef _GNU_SOURCE
 #define _GNU_SOURCE /* For setns. */
 #endif
+#define PROGRAM "sockdump"
 
-#include <errno.h>
-#include <fcntl.h>
+#include "kernel.h"
+
 #include <linux/inet_diag.h>
-#include <linux/netlink.h>
 #include <linux/netlink_diag.h>
 #include <linux/packet_diag.h>
 #include <linux/sock_diag.h>
@@ -42,7 +42,6 @@
 #include <linux/xdp_diag.h>
 #include <netinet/in.h>
 #include <poll.h>
-#include <sched.h>
 #include <signal.h>
 #include <stdint.h>
 #include <stdio.h>
@@ -103,11 +102,6 @@ struct datagram {
         uint8_t bytes[1 << 16];
     } data;
 };
-
-static int fail(const char *what) {
-    fprintf(stderr, "sockdump: %s: %s\n", what, strerror(errno));
-    return -1;
-}
 
 static size_t stored_length(const struct datagram *it) {
     return it->length < sizeof it->data ? it->length : sizeof it->data;
@@ -428,37 +422,6 @@ static int write_events(int kernel) {
     }
 }
 
-/* Returns whether standard input, output and error are open. If one is not, the socket gets its
- * number, and the kernel receives the capture. */
-static int has_streams(void) {
-    return fcntl(STDIN_FILENO, F_GETFD) >= 0 && fcntl(STDOUT_FILENO, F_GETFD) >= 0
-        && fcntl(STDERR_FILENO, F_GETFD) >= 0;
-}
-
-/* Enters the network namespace of a file. */
-static int enter(const char *path) {
-    const int file = open(path, O_RDONLY | O_CLOEXEC);
-    int failed = file < 0 || setns(file, CLONE_NEWNET) != 0 ? fail("--netns") : 0;
-    if (file >= 0)
-        close(file);
-    return failed;
-}
-
-/* Opens a socket to which only the kernel can send. */
-static int open_kernel(void) {
-    struct sockaddr_nl address;
-    const int kernel = socket(AF_NETLINK, SOCK_DGRAM | SOCK_CLOEXEC, NETLINK_SOCK_DIAG);
-    memset(&address, 0, sizeof address);
-    address.nl_family = AF_NETLINK;
-    if (kernel < 0)
-        return fail("socket");
-    if (connect(kernel, (struct sockaddr *)&address, sizeof address) == 0)
-        return kernel;
-    fail("connect");
-    close(kernel);
-    return -1;
-}
-
 static const char usage[] =
     "usage: sockdump [--netns=FILE] [--every=SECONDS] [KIND ..]\n"
     "       sockdump [--netns=FILE] --events[=tcp,udp]\n"
@@ -595,7 +558,7 @@ int main(int argc, char **argv) {
     if (isatty(STDOUT_FILENO))
         return fputs("sockdump: standard output is a terminal; try sockdump | sslist\n", stderr), 1;
     if (!has_streams())
-        return fputs("sockdump: standard input, output or error is not open\n", stderr), 1;
+        return 1;
     if (selection.name_space != NULL && enter(selection.name_space) != 0)
         return 1;
     kernel = open_kernel();

@@ -49,6 +49,8 @@ def compile_c(compiler):
         ("c++", "c++11", "examples/list_rtt.c"),
         ("c", "c99", "examples/sockdump.c"),
         ("c++", "c++11", "examples/sockdump.c"),
+        ("c", "c99", "examples/socklist.c"),
+        ("c++", "c++11", "examples/socklist.c"),
     ]:
         if language == "c++" and not has_plus:
             print(f"skipped: the header as C++: {compiler} does not support C++")

@@ -44,7 +44,7 @@ installed() {
 cp VERSION "$tree"
 cp -R examples include man "$tree"
 cp tools/install tools/libsockdiag.map "$tree/tools"
-for program in sockdiag sslist sockdump; do
+for program in sockdiag sslist sockdump socklist; do
     echo '#!/bin/sh' >"$tree/bin/$program"
 done
 tests/stand_in.sh "$tree/lib/libsockdiag.a"
@@ -224,22 +224,27 @@ DESTDIR="$work/staged" LIBDIR=lib64 SHARED=no CC=false "$install" /usr >"$work/o
 DESTDIR="$work/staged" LIBDIR=lib64 "$install" --uninstall /usr >/dev/null
 [ -z "$(find "$work/staged" ! -type d)" ] || fail "--uninstall with DESTDIR"
 
-# What cargo built, next to the built files of a release: sockdump is compiled.
+# What cargo built, next to the built files of a release: the programs in C are compiled.
 mkdir "$work/cargo"
 cp "$tree/lib/libsockdiag.a" "$work/cargo/libsockdiag_c.a"
 cp /bin/true "$work/cargo/sslist"
 fails 1 "BUILT without a library" env BUILT="$work/none" "$install" "$work/none"
 BUILT="$work/cargo" "$install" "$work/by_cargo" >"$work/out" || fail "BUILT"
 cmp "$work/by_cargo/bin/sslist" /bin/true || fail "a program of another folder than BUILT"
-"$work/by_cargo/bin/sockdump" --help | grep -q '^usage: sockdump' || fail "sockdump with BUILT"
+for program in sockdump socklist; do
+    "$work/by_cargo/bin/$program" --help | grep -q "^usage: $program" || fail "$program with BUILT"
+done
 [ ! -e "$work/by_cargo/bin/sockdiag" ] || fail "a program that BUILT lacks"
 
-# In the sources, which have no folder bin, sockdump is compiled. Without a compiler it is left out.
+# In the sources, which have no folder bin, they are compiled. Without a compiler they are left out.
 mv "$tree/bin" "$tree/lib" "$work/commands"
 mkdir -p "$tree/crates/sockdiag_c/out"
 cp "$work/commands/lib/libsockdiag.a" "$tree/crates/sockdiag_c/out/libsockdiag_c.a"
 "$install" "$work/sources" >"$work/out" || fail "the sources"
-"$work/sources/bin/sockdump" --help | grep -q '^usage: sockdump' || fail "sockdump of the sources"
+for program in sockdump socklist; do
+    "$work/sources/bin/$program" --help | grep -q "^usage: $program" ||
+        fail "$program of the sources"
+done
 SHARED=no CC=false "$install" "$work/without" >"$work/out" || fail "the sources without a compiler"
 [ ! -e "$work/without/bin" ] || fail "programs that are not built"
 # With a compiler that needs flags at both ends.
@@ -247,7 +252,9 @@ printf '#!/bin/sh\ncase $* in "-g -O1 "*" -s -g") exec %s "$@" ;; esac\nexit 1\n
     >"$work/compiler"
 chmod +x "$work/compiler"
 SHARED=no CC=$work/compiler CFLAGS='-g -O1' LDFLAGS='-s -g' "$install" "$work/flags" >"$work/out"
-[ -x "$work/flags/bin/sockdump" ] || fail "sockdump is compiled without CFLAGS or LDFLAGS"
+for program in sockdump socklist; do
+    [ -x "$work/flags/bin/$program" ] || fail "$program is compiled without CFLAGS or LDFLAGS"
+done
 # What is older than a source is not installed: the library is built again, which needs rt.
 mkdir -p "$tree/crates/sslist/out" "$tree/crates/sslist/specs"
 cp "$work/commands/bin/sslist" "$tree/crates/sslist/out"

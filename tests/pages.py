@@ -56,14 +56,16 @@ MANUAL = "man"
 PROMPT = "$ "
 # The commands that are run, and words that begin a command of the shell.
 RUN = set("""./sockdiag ./sockdump ./sslist bin/sockdiag bin/sslist sockdiag sslist
-    sockdump examples/processes.sh examples/sockdump tests/believed.py tools/install
+    sockdump examples/sockdump socklist ./socklist examples/socklist tests/believed.py tools/install
     awk cc cd cp done echo export for grep head jq make mkdir pkg-config printf
     python3 sed sha256sum sort tar uniq""".split())
 # Those of them that need a compiler, and those that are never missing.
-COMPILING = {"cc", "make", "pkg-config", "sockdump", "./sockdump", "examples/sockdump"}
+IN_C = ("sockdump", "socklist")
+COMPILING = {"cc", "make", "pkg-config",
+             *(it + name for it in ("", "./", "examples/") for name in IN_C)}
 BUILTIN = {"cd", "done", "echo", "export", "for", "printf", *PROGRAMS}
 # Commands of these words that are not run: they do not end, need root, or need a built library.
-NOT_RUN = re.compile(r".*(sockdump --(events|netns)|fuzz_c|BUILT=)")
+NOT_RUN = re.compile(r".*(sockdump --(events|netns)|socklist -[EK]|fuzz_c|BUILT=)")
 # The first names of input lines of `sockdiag`.
 NAMES = "unixreq|unix|unixview|inetreq|inet|sockid4|sockid6|message|netlink|dump"
 ANSWER = re.compile(r"(ok|refused|unwritable|bad line)\b")
@@ -327,9 +329,11 @@ class Folder:
             self.environment["SHARED"] = "no"
 
     def compile(self):
-        """Compiles a library whose functions return 0, and sockdump."""
-        for words in ([TOP / "tests/stand_in.sh", "libsockdiag.a"],
-                      ["cc", "-o", "commands/sockdump", TOP / "examples/sockdump.c"]):
+        """Compiles a library whose functions return 0, and the programs in C."""
+        subprocess.run([TOP / "tests/stand_in.sh", "libsockdiag.a"], cwd=self.work, check=True)
+        for name in IN_C:
+            words = ["cc", f"-I{TOP}/include", "-o", f"commands/{name}",
+                     TOP / f"examples/{name}.c", "libsockdiag.a"]
             subprocess.run(words, cwd=self.work, check=True)
 
     def prepare(self):
@@ -343,8 +347,9 @@ class Folder:
             (self.tree / name).symlink_to(TOP / name)
         shutil.copytree(TOP / "tools", self.tree / "tools")
         shutil.copytree(TOP / "examples", self.tree / "examples",
-                        ignore=shutil.ignore_patterns("list_sockets", "list_rtt", "sockdump"))
-        for name, path in [*self.programs.items(), ("sockdump", self.work / "commands/sockdump")]:
+                        ignore=shutil.ignore_patterns("list_sockets", "list_rtt", *IN_C))
+        for name, path in [*self.programs.items(),
+                           *((it, self.work / "commands" / it) for it in IN_C)]:
             (self.tree / name).symlink_to(path)
             (self.tree / "bin" / name).symlink_to(path)
         for name in ("FILE", "one.pcap"):

@@ -48,7 +48,7 @@ cat >bin/make_program <<'END'
 printf 'const char text[] = "%s";\nint main(void) { return 0; }\n' "$2" | ${CC:-cc} -x c -o "$1" -
 END
 chmod +x bin/make_program
-for program in sockdiag sslist sockdump; do
+for program in sockdiag sslist sockdump socklist; do
     bin/make_program built/$program $program
 done
 "$top/tests/stand_in.sh" built/libsockdiag_c.a
@@ -193,7 +193,10 @@ if [ -n "$debs" ] && [ "$(id -u)" -eq 0 ]; then
     [ ! -s said ] || fail "dpkg --verify: $(cat said)"
     diff -r -x Cargo.lock "$unpacked/rust" root/usr/share/sockdiag/rust ||
         fail "the package for Rust differs"
-    [ "$(root/usr/bin/sockdump --version)" = "sockdump $version" ] || fail "sockdump of a package"
+    for program in sockdump socklist; do
+        [ "$(root/usr/bin/$program --version)" = "$program $version" ] ||
+            fail "$program of a package"
+    done
     ${CC:-cc} -Iroot/usr/include -o linked root/usr/share/doc/libsockdiag-dev/examples/list_rtt.c \
         root/usr/lib/*/libsockdiag.so
     in_root --purge sockdiag libsockdiag1.0 libsockdiag-dev
@@ -218,7 +221,7 @@ mkdir -p one/tests one/crates/sockdiag/out one/crates/sslist/out one/crates/sock
 for program in sockdiag sslist; do
     bin/make_program "one/crates/$program/out/$program" "built $program"
 done
-echo library >one/crates/sockdiag_c/out/libsockdiag_c.a
+"$top/tests/stand_in.sh" one/crates/sockdiag_c/out/libsockdiag_c.a library
 echo 12 >one/LOGIC
 echo out/ >one/.gitignore
 # A file whose name is an option of find.
@@ -229,7 +232,7 @@ git -C one init -q
 mkdir one/out
 touch one/out/gate-passed
 
-# A C compiler that needs flags at both ends, by default only -O2, for sockdump.
+# A C compiler that needs flags at both ends, by default only -O2, for the programs in C.
 printf '#!/bin/sh\ncase "$* " in "${CFLAGS--O2} "*" ${LDFLAGS-}"*) exec %s "$@" ;; esac\nexit 1\n' \
     "${CC:-cc}" >bin/cc_flags
 chmod +x bin/cc_flags
@@ -271,7 +274,7 @@ CFLAGS='-w -O2' LDFLAGS='-lc -w' release 12 0 with_flags
 diff "released/$users.tar.gz" "with_flags/$users.tar.gz" || fail "-w or -lc changes the archive"
 for file in bin/sockdiag bin/sslist lib/libsockdiag.a; do
     tar -xzOf "released/$users.tar.gz" "$users/$file" | grep -ao 'built [a-z]*\|library'
-done >built.txt
+done | uniq >built.txt
 printf 'built sockdiag\nbuilt sslist\nlibrary\n' | diff - built.txt ||
     fail "built files of a release"
 

@@ -5,8 +5,8 @@ the program at this path. Without it the members of JSON are not compared.
 - man/sockdiag.3: the functions of the header, and the decode errors with their codes and texts.
 - include/sockdiag.h: the calls and structs that its comments name, and the functions of laws.rt
   that the first one names, exist.
-- man/sslist.1, man/sockdiag.1 and man/sockdump.1: each diagnostic is in the sources. Of the first
-  two, tools/usage writes --help from the options.
+- man/sslist.1, man/sockdiag.1, man/sockdump.1 and man/socklist.1: each diagnostic is in the
+  sources. Of the first two, tools/usage writes --help from the options.
 - man/sslist-json.5: the members of each list are those that the program prints for replies with
   each attribute; those of `info` are in the same order.
 - docs/LINES.md: the names and the decode errors.
@@ -203,7 +203,7 @@ def diagnostic_errors(program):
     used = subprocess.run(words, stdout=subprocess.PIPE, text=True, check=True).stdout.split()
     crates = [program, *used]
     files = [path for crate in crates for path in TOP.glob(f"crates/{crate}/src/**/*.rt")]
-    files += TOP.glob(f"examples/{program}.c")
+    files += [*TOP.glob(f"examples/{program}*.[ch]"), TOP / "examples/kernel.h"]
     literals = re.findall(r'"([^"\n]*)"', "\n".join(it.read_text("utf-8") for it in files))
     texts = [it.removeprefix("sslist: ") for it in literals if re.search(r"\w\w .*\{", it)]
     forms = [re.sub(r"\\{\w*\\}", ".+", re.escape(it)) for it in texts]
@@ -312,9 +312,10 @@ def warnings():
 
 
 def main():
-    wrong = [*library_errors(), *comment_errors(), *diagnostic_errors("sslist"),
-             *diagnostic_errors("sockdiag"), *diagnostic_errors("sockdump"), *licence_errors(),
-             *line_errors(), *file_errors(), *warnings()]
+    wrong = [*library_errors(), *comment_errors(), *licence_errors(), *line_errors(),
+             *file_errors(), *warnings()]
+    for program in ("sslist", "sockdiag", "sockdump", "socklist"):
+        wrong += diagnostic_errors(program)
     for sslist in sys.argv[1:]:
         wrong += [*json_errors(sslist), *linked_errors(sslist)]
     print(*(f"{page}: {text}" for page, text in wrong), sep="\n", end="\n" * bool(wrong))

@@ -30,7 +30,8 @@ TOP = Path(__file__).resolve().parent.parent
 CALLED = {"tests/over_gate.sh", "tests/stand_in.sh", "tests/api/fetch_targets.sh",
           "tests/api/reply_reader.py"}
 OF_C_API = {"tests/api/compare_libraries.py", "tests/api/compare_listers.py",
-            "tests/api/compare_replies.sh", "tests/api/kernels.py", "tests/api/sockdump.py"}
+            "tests/api/compare_replies.sh", "tests/api/kernels.py", "tests/api/sockdump.py",
+            "tests/api/socklist.py"}
 # Variables that would change what the scripts run.
 UNSET = {"CC", "CFLAGS", "CARGO_TARGET_DIR", "ERASED_TOOLS", "SOCKDIAG_LIB_DIR",
          "SOCKDIAG_PROGRAM", "SSLIST_PROGRAM"}
@@ -165,10 +166,11 @@ EDIT = (
 )
 C_API, ERASED = "tests/api/c_api.sh", "tests/api/erased.sh"
 MEMORY, SOCKDUMP = "tests/api/out_of_memory.sh", "tests/api/sockdump.py"
+SOCKLIST = "tests/api/socklist.py"
 TARGETS = "tests/api/erased_targets.sh"
 # What c_api.sh runs after the calls from C.
 LATER = tuple((it, None, PROGRAM) for it in (
-    "tools/install", "tests/api/kernels.py", SOCKDUMP))
+    "tools/install", "tests/api/kernels.py", SOCKDUMP, SOCKLIST, "crates/sslist/out/sslist"))
 # An eraser that writes only a library and the programs, which cargo would build, for each target.
 ERASER = (("tools/erase", None, """#!/bin/sh
 top=$PWD
@@ -344,7 +346,8 @@ ROWS = [
         "rt lib *"),
     *(Row(C_API, (f"planted: {it.removesuffix(' *')}",), (LIBRARY, COMPARED, *LATER), it)
       for it in ("c_api", "c_values", "c_messages", "cost *", "fuzz_c 20000 *", "diff *",
-                 "install *", "make *", "kernels.py *", "sockdump.py *", "print_replies")),
+                 "install *", "make *", "kernels.py *", "sockdump.py *", "socklist.py *",
+                 "print_replies")),
     Row(C_API, ("planted: valgrind without --error-exitcode=1",),
         (LIBRARY, (C_API, " --error-exitcode=1", "")), ""),
     Row(C_API, ("the library calls these functions", "planted"), (LIBRARY,), " U planted"),
@@ -385,8 +388,9 @@ ROWS = [
         (), ""),
     Row("tests/api/kernels.py $STAND_INS/program",
         ("with the replies of linux-4.14", "with descriptor 0 closed: status 0"), (), ""),
-    Row(f"{SOCKDUMP} $STAND_INS/program", names(SOCKDUMP, r"(test_\w+)\(.*\)"),
-        (("examples/processes.sh", None, "#!/bin/sh\n"),), ""),
+    Row(f"{SOCKDUMP} $STAND_INS/program", names(SOCKDUMP, r"(test_\w+)\(.*\)"), (), ""),
+    Row(f"{SOCKLIST} $STAND_INS/program $STAND_INS/program $STAND_INS/program",
+        names(SOCKLIST, r"(test_\w+)\(.*\)"), (), ""),
     # A run that takes too long ends with SIGKILL.
     Row(f"{SOCKDUMP} $STAND_INS/sleeper", ("test_usage: ['-V']: (-9, b'', ",),
         ((SOCKDUMP, "LIMIT = 60", "LIMIT = 0.2"),), ""),

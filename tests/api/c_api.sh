@@ -9,7 +9,8 @@
 # compiler and Python. The gate runs this script.
 #
 # With SOCKDIAG_LIBRARY, the path of a libsockdiag_c.a, it tests this library instead, which may
-# also call abort(3), and installs nothing: erased.sh does so.
+# also call abort(3), and installs nothing: erased.sh does so. With SSLIST_PROGRAM, the path of
+# sslist, socklist runs it in place of the one that is built here.
 set -eu
 top=$(CDPATH='' cd -- "$(dirname -- "$0")/../.." && pwd)
 work=$(mktemp -d)
@@ -140,11 +141,19 @@ if [ -z "${SOCKDIAG_LIBRARY-}" ] && command -v pkg-config >/dev/null &&
     cp "$top/examples/Makefile" "$top/examples/"*.[ch] "$work"
     PKG_CONFIG_PATH="$work/prefix/lib/pkgconfig" make -s -C "$work"
 else
-    for name in list_sockets list_rtt sockdump; do build "$name" "$top/examples/$name.c"; done
+    for name in list_sockets list_rtt sockdump socklist; do
+        build "$name" "$top/examples/$name.c"
+    done
 fi
 # With the replies of old and new kernels, made by hand.
 LD_LIBRARY_PATH="$work/prefix/lib" "$top/tests/api/kernels.py" "$work/list_sockets" "$work/list_rtt"
 "$top/tests/api/sockdump.py" "$work/sockdump"
+sslist=${SSLIST_PROGRAM-$top/crates/sslist/out/sslist}
+if [ -x "$sslist" ]; then
+    "$top/tests/api/socklist.py" "$work/socklist" "$work/sockdump" "$sslist"
+else
+    echo "c_api: skipped: socklist: no $sslist" >&2
+fi
 if LD_LIBRARY_PATH="$work/prefix/lib" "$work/list_sockets" >"$work/sockets" 2>"$work/errors"; then
     echo "c_api: list_sockets: $(wc -l <"$work/sockets") sockets, beginning with:"
     head -n 5 "$work/sockets"

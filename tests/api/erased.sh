@@ -91,7 +91,8 @@ case $(rustc --version) in 'rustc 1.95.'*) [ "$panics" -le 87 ] || exit 1 ;; esa
 mkdir "$work/object" "$work/library"
 (cd "$work/object" && ar x "$built/libsockdiag_c.a" &&
     ar rcs "$work/library/libsockdiag_c.a" sockdiag_c*.o)
-SOCKDIAG_LIBRARY=$work/library/libsockdiag_c.a "$top/tests/api/c_api.sh"
+SSLIST_PROGRAM=$built/sslist SOCKDIAG_LIBRARY=$work/library/libsockdiag_c.a \
+    "$top/tests/api/c_api.sh"
 
 proved=$top/crates/sockdiag_c/out/libsockdiag_c.a
 if [ -f "$proved" ]; then

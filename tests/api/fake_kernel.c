@@ -41,6 +41,9 @@
  * and UDP sockets of these groups, as events. If FAKE_KERNEL_DROPS is set, an event was dropped
  * before the first one.
  *
+ * A request of type SOCK_DESTROY is appended to the file FAKE_KERNEL_CLOSED, as a line of
+ * hexadecimal digits, and answered by the error number FAKE_KERNEL_DESTROY, or else by 0.
+ *
  * If FAKE_KERNEL_TIME is a number of seconds with nine decimal places, it is always the time of
  * CLOCK_REALTIME.
  *
@@ -437,6 +440,20 @@ static ssize_t put_datagram(uint8_t *bytes, uint32_t number, size_t capacity, in
     return excess == 0 ? (ssize_t)end : exceed(bytes, end, capacity, excess, flags);
 }
 
+/* Stores a request to close a socket, and answers it. Returns the length of the answer. */
+static ssize_t put_closed(uint8_t *bytes, uint32_t number) {
+    const char *path = getenv("FAKE_KERNEL_CLOSED"), *text = getenv("FAKE_KERNEL_DESTROY");
+    const int32_t result = text == NULL ? 0 : (int32_t)strtol(text, NULL, 10);
+    FILE *closed = path == NULL ? NULL : fopen(path, "a");
+    size_t index;
+    for (index = 0; closed != NULL && index < request_length; index++)
+        fprintf(closed, "%02x", request[index]);
+    if (closed != NULL && (fputc('\n', closed) == EOF || fclose(closed) != 0))
+        abort();
+    has_ended = 1;
+    return (ssize_t)put(bytes, NLMSG_ERROR, 0, number, &result, 4);
+}
+
 /* Answers a request for UDP sockets. The first answer of each family loses data. A request on the
  * same socket is answered by EBUSY, and one on another socket by ENOENT. */
 static ssize_t lose_data(uint8_t *bytes, uint32_t number) {
@@ -502,6 +519,8 @@ ssize_t recv(int fd, void *buffer, size_t capacity, int flags) {
     if (joined != 0)
         return put_event(bytes);
     memcpy(&number, request + 8, 4);
+    if (request[4] == SOCKDIAG_SOCK_DESTROY)
+        return put_closed(bytes, number);
     if (replies != NULL)
         return put_datagram(bytes, number, capacity, flags);
     datagrams++;

@@ -1,6 +1,6 @@
 #!/usr/bin/env python3
-"""Runs sockdump with the replies of other kernels, and compares the captures that it writes. Also
-runs examples/processes.sh. c_api.sh runs this script.
+"""Runs sockdump with the replies of other kernels, and compares the captures that it writes.
+c_api.sh runs this script.
 
     tests/api/sockdump.py SOCKDUMP
 
@@ -16,7 +16,6 @@ import contextlib
 import itertools
 import os
 import signal
-import socket
 import struct
 import subprocess
 import sys
@@ -314,26 +313,12 @@ def test_closed_pipe(runs, files):
         compare(f"{arguments}, closed before", found, (status, None, ""))
 
 
-def test_processes(_runs, _files):
-    """Lists a socket of this process, and one that no process has."""
-    script = kernels.HERE.parent.parent / "examples/processes.sh"
-    with socket.socket() as opened:
-        line = f"tcp UNCONN 0 0 {os.fstat(opened.fileno()).st_ino} 0 127.0.0.1:1 *"
-        name = Path("/proc/self/comm").read_text().rstrip("\n")
-        users = f' users:(("{name}",pid={os.getpid()},fd={opened.fileno()}))'
-        table = f"{line}\n\tsk:1\ntcp TIME-WAIT 0 0 0 0 127.0.0.1:1 127.0.0.1:2\n"
-        done = subprocess.run([script], input=table, stdout=subprocess.PIPE, text=True, check=True,
-                              timeout=LIMIT)
-    compare("processes.sh", done.stdout, table.replace(line, line + users))
-
-
 def main():
     files, failed = kernels.replies(), 0
     with tempfile.TemporaryDirectory() as folder:
         runs = Runs(sys.argv[1], kernels.build(folder))
         for test in (test_usage, test_kinds, test_failures, test_not_open, test_events,
-                     test_odd_length, test_terminal, test_rounds, test_clock, test_closed_pipe,
-                     test_processes):
+                     test_odd_length, test_terminal, test_rounds, test_clock, test_closed_pipe):
             try:
                 test(runs, files)
             except AssertionError as error:

@@ -1,0 +1,58 @@
+/*
+ * kernel.h: what sockdump.c and socklist.c share: opens a socket of the kernel, in a network
+ * namespace. The functions return -1 after they have reported an error, as a line that begins with
+ * PROGRAM, the name of the program. It is valid C99 and C++.
+ */
+#ifndef KERNEL_H
+#define KERNEL_H
+
+#include <errno.h>
+#include <fcntl.h>
+#include <linux/netlink.h>
+#include <sched.h>
+#include <stdio.h>
+#include <string.h>
+#include <sys/socket.h>
+#include <unistd.h>
+
+/* Reports that a call failed, by the text of errno. */
+static inline int fail(const char *what) {
+    fprintf(stderr, PROGRAM ": %s: %s\n", what, strerror(errno));
+    return -1;
+}
+
+/* Returns whether standard input, output and error are open, and reports it if one is not. A socket
+ * or a pipe would get its number, and the kernel would receive what is written there. */
+static inline int has_streams(void) {
+    if (fcntl(STDIN_FILENO, F_GETFD) >= 0 && fcntl(STDOUT_FILENO, F_GETFD) >= 0
+        && fcntl(STDERR_FILENO, F_GETFD) >= 0)
+        return 1;
+    fputs(PROGRAM ": standard input, output or error is not open\n", stderr);
+    return 0;
+}
+
+/* Enters the network namespace of a file. */
+static inline int enter(const char *path) {
+    const int file = open(path, O_RDONLY | O_CLOEXEC);
+    int failed = file < 0 || setns(file, CLONE_NEWNET) != 0 ? fail("--netns") : 0;
+    if (file >= 0)
+        close(file);
+    return failed;
+}
+
+/* Opens a socket to which only the kernel can send. */
+static inline int open_kernel(void) {
+    struct sockaddr_nl address;
+    const int kernel = socket(AF_NETLINK, SOCK_DGRAM | SOCK_CLOEXEC, NETLINK_SOCK_DIAG);
+    memset(&address, 0, sizeof address);
+    address.nl_family = AF_NETLINK;
+    if (kernel < 0)
+        return fail("socket");
+    if (connect(kernel, (struct sockaddr *)&address, sizeof address) == 0)
+        return kernel;
+    fail("connect");
+    close(kernel);
+    return -1;
+}
+
+#endif
