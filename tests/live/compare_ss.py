@@ -38,7 +38,7 @@ LISTER = Path("/bin/sslist") if IS_GUEST else TOP / "crates/sslist/out/sslist"
 OPTIONS = ["-tanioem", "-uanioem", "-xanem", "-anMei", "-s"]
 OPTIONS += ["-0anem", "-anemf netlink", "-anem --vsock", "-anem --xdp", "-an", "-anem"]
 # In a guest of kernels.py, without those that list sockets for which ss prints no protocol.
-OPTIONS_OF_GUESTS = [it for it in OPTIONS if it not in ("-s", "-an", "-anem")]
+OPTIONS_OF_GUESTS = [it for it in OPTIONS if it not in ("-s", "-an", "-anem")] + ["-anS"]
 # Options for both programs, of the comparisons with sockdump.
 OF_DUMPS = ["-tan", "-uan", "-xan", "-Man", "-0an", *["-an"] * (not IS_GUEST)]
 # Options and filters that select sockets, for ss and for sslist. PORT is the port of a TCP socket.
@@ -186,13 +186,13 @@ def end(text, netid):
     queue = re.fullmatch(r"(\w+):q(\d+)", text)
     if queue:
         return f"{socket.if_nametoindex(queue[1])}:{queue[2]}"
-    return text if netid.startswith("v_") else re.sub(r"%\w+", "", re.sub(r"^\*:", "[::]:", text))
+    return text if netid.startswith("v_") else re.sub(r"^\*:", "[::]:", re.sub(r"%\w+", "", text))
 
 
 def shown(line):
     """Returns the key of the socket in a line of ss, its columns, and the remaining words. ss
     prints the last MD5 key of a socket, which is a number here, at the start of the next line."""
-    line = line.lstrip("0123456789")
+    line = re.sub(r"^(\d+| *`- )", "", line)
     unix = re.match(r"(u_...) (\S+)\s+(\d+)\s+(\d+)\s+(.*?) (\d+)\s+(.*?) (\d+)(?:\s+(.*))?$", line)
     if unix:
         columns = {"netid": unix[1], "state": unix[2], "recv": unix[3], "send": unix[4]}

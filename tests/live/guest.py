@@ -270,6 +270,9 @@ def main():
     rare_sockets.open_all()
     with open("/out/all.pcap", "wb") as capture:
         subprocess.run(["/bin/sockdump"], stdout=capture)
+    with open("/out/list_sockets.txt", "w") as output:
+        status = subprocess.run(["/bin/list_sockets"], stdout=output, stderr=output).returncode
+        print(f"status {status}", file=output)
     recorder = Recorder()
     for name, request in DUMPS.items():
         recorder.send(name, request)

@@ -7,9 +7,9 @@ two minutes for each kernel.
 NAME is a kernel of the table KERNELS, and all of them by default. In FOLDER the script keeps
 packages, and a folder for each kernel with what its guest wrote (guest.py): captures of a dump of
 all sockets (all.pcap) and of some 130 requests with their answers (requests.pcap), a line for each
-request (requests.txt), and how sslist compares with the ss of this Debian (compared.txt). The guest
-has sockets of all families, protocols and states (rare_sockets.py). A kernel that has these files
-is not booted again.
+request (requests.txt), how sslist compares with the ss of this Debian (compared.txt), and what the
+example list_sockets prints with the C library (list_sockets.txt). The guest has sockets of all
+families, protocols and states (rare_sockets.py). A kernel that has these files is not booted again.
 
 For each kernel the script compares the C library with the independent reader of tests/api over all
 replies, and prints what sslist and ss show differently. It also prints what a kernel sends and the
@@ -151,12 +151,22 @@ class Archive:
         return packages[order[-1]]
 
 
+def library(processor):
+    """Returns the path of the C library for a processor."""
+    folder = TOP / ("out/arm64" if processor == "arm64" else "crates/sockdiag_c/out")
+    if processor == "amd64" and "SOCKDIAG_LIB_DIR" in os.environ:
+        folder = Path(os.environ["SOCKDIAG_LIB_DIR"])
+    return folder / "libsockdiag_c.a"
+
+
 def build(folder, processor):
     """Builds the programs of the guests, in a folder `bin`, and returns the folder that has it."""
     made, how = folder / "built" / processor, PROCESSORS[processor]
     (made / "bin").mkdir(parents=True, exist_ok=True)
     flags = ("-O1", "-static", "-std=c99", f"-I{TOP}/include")
     run(how.compiler, *flags, "-o", made / "bin/sockdump", TOP / "examples/sockdump.c")
+    run(how.compiler, *flags, "-o", made / "bin/list_sockets", TOP / "examples/list_sockets.c",
+        library(processor))
     run(how.compiler, "-shared", "-fPIC", "-o", made / "bin/record", HERE / "record.c")
     shutil.copy(TOP / "out" / how.lister / "sslist", made / "bin/sslist")
     return made
@@ -278,6 +288,22 @@ def compare_reader(at, program):
     return len(wrong) + abs(len(expected) - len(found))
 
 
+def is_listed_in_guest(at):
+    """Returns whether the example in C ended without an error in the guest, and listed the inodes
+    of the UNIX, TCP, UDP and MPTCP sockets in the capture of all sockets."""
+    text = (at / "list_sockets.txt").read_text(errors="replace")
+    inodes = set(re.findall(r" inode (\d+)", text))
+    lacking = set()
+    for protocol, payload in captured.replies(at / "all.pcap"):
+        if payload[0] == 1 or protocol in (6, 17, captured.MPTCP):
+            at_inode = 4 if payload[0] == 1 else 68
+            lacking |= {str(int.from_bytes(payload[at_inode : at_inode + 4], "little"))} - inodes
+    ends = text.rstrip().endswith("status 0")
+    print(f"{at.name}: list_sockets: {len(inodes)} inodes, {len(lacking)} are lacking,"
+          f" {text.splitlines()[-1]}")
+    return ends and not lacking
+
+
 def print_listed(at):
     """Prints what sslist and ss show differently. Returns whether the comparison ended."""
     lines = (at / "compared.txt").read_text().splitlines()
@@ -314,12 +340,13 @@ def main():
         if not (folder / it.name / "compared.txt").exists():
             boot(folder, it, build(folder, it.processor))
     program = folder / "print_replies"
-    library = Path(os.environ.get("SOCKDIAG_LIB_DIR", TOP / "crates/sockdiag_c/out"))
     run("cc", "-std=c99", "-O1", f"-I{TOP}/include", "-o", program,
-        TOP / "tests/api/print_replies.c", library / "libsockdiag_c.a")
+        TOP / "tests/api/print_replies.c", library("amd64"))
     wrong, before = 0, None
     for it in wanted:
-        wrong += compare_reader(folder / it.name, program) + (not print_listed(folder / it.name))
+        at = folder / it.name
+        wrong += compare_reader(at, program)
+        wrong += (not print_listed(at)) + (not is_listed_in_guest(at))
         if "--keep" in sys.argv:
             keep(folder / it.name)
         now = census(folder / it.name)
