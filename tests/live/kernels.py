@@ -308,7 +308,9 @@ def print_listed(at):
     """Prints what sslist and ss show differently. Returns whether the comparison ended."""
     lines = (at / "compared.txt").read_text().splitlines()
     equal = (" 0 differ, 0 sockets missing", " 0 differ, 0 are not listed by ss", "  sslist: ")
-    print(*(f"  {line}" for line in lines if not any(it in line for it in equal)), sep="\n")
+    for line in lines:
+        if not any(it in line for it in equal):
+            print(f"  {line}")
     values = sum(int(it) for it in re.findall(r"(\d+) values compared", "\n".join(lines)))
     print(f"{at.name}: sslist and ss: {values} values compared")
     return bool(lines) and lines[-1].startswith("sockdump ")
