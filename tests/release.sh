@@ -51,14 +51,15 @@ chmod +x bin/make_program
 for program in sockdiag sslist sockdump socklist; do
     bin/make_program built/$program $program
 done
+touch built/sockdiag.o built/sslist.o built/sockdiag.html
 "$top/tests/stand_in.sh" built/libsockdiag_c.a
 
 # A copy of the tree with files that must not be packed.
 for copy in one 'elsewhere/a tree'; do
     mkdir -p "$copy"
     (cd "$top" && tar -c --exclude=target --exclude=Cargo.lock --exclude=__pycache__ crates/*/src \
-        debian docs examples include man tools CHANGELOG.md INSTALL.md LICENSE-MIT LICENSE-PORTED \
-        LICENSE-UNICODE LICENSES.md README.md SECURITY.md VERSION) |
+        debian docs examples include man tools CHANGELOG.md INSTALL.md COPYING.LIB LICENSE-MIT \
+        LICENSE-PORTED LICENSE-UNICODE LICENSES.md README.md SECURITY.md VERSION) |
         tar -x -C "$copy"
     mkdir -p "$copy/tools/erased/target/debug"
     for file in tools/erased/target/debug/it tools/erased/Cargo.lock docs/NOTES.md; do
@@ -90,6 +91,23 @@ diff -r first second || fail "two trees are not packed to the same bytes"
 (cd first && cat ./*.sha256 | sha256sum -c --quiet) || fail "a sum is wrong"
 # The package for Rust takes some seconds to write. From here on it has one file.
 printf '#!/bin/sh\nmkdir "$1" && touch "$1/Cargo.toml"\n' >one/tools/erase
+
+# members ARCHIVE: lists what an archive has apart from the package for Rust, and from the files
+# that an archive for arm64 does not have here.
+members() {
+    tar -tzf "$1" | sed "s,^[^/]*/,," | grep -v '^rust/\|\.o$\|\.html$'
+}
+if has aarch64-linux-gnu-gcc; then
+    mkdir arm64
+    for program in sockdiag sslist sockdump; do
+        CC=aarch64-linux-gnu-gcc bin/make_program arm64/$program $program
+    done
+    : >arm64/libsockdiag_c.a
+    one/tools/pack arm64 arm64_packed aarch64 >/dev/null
+    members "first/$users.tar.gz" >expected_members
+    members "arm64_packed/sockdiag-$version-aarch64-linux.tar.gz" | diff expected_members - ||
+        fail "the archive for arm64 has other members"
+fi
 
 mkdir unpacked staged prefix packages
 tar -xzf "first/$users.tar.gz" -C unpacked
@@ -217,9 +235,9 @@ done
 printf '#!/bin/sh\necho "rattle-kit-1 logic $KIT_LOGIC"\n' >bin/rt
 printf 'low:\nchecked:\nother:\nsockdiag: low\nsslist: checked\nsockdiag_c: other\n' >one/crates.txt
 for crate in low checked other; do mkdir -p "one/crates/$crate/out/rlib/$crate.rlib"; done
-mkdir -p one/tests one/crates/sockdiag/out one/crates/sslist/out one/crates/sockdiag_c/out
+mkdir -p one/tests one/out/static one/crates/sockdiag_c/out
 for program in sockdiag sslist; do
-    bin/make_program "one/crates/$program/out/$program" "built $program"
+    bin/make_program "one/out/static/$program" "built $program"
 done
 "$top/tests/stand_in.sh" one/crates/sockdiag_c/out/libsockdiag_c.a library
 echo 12 >one/LOGIC
@@ -229,7 +247,6 @@ touch one/-delete
 printf 'import os\nraise SystemExit(int(os.environ["EDITS"]))\n' >one/tests/edits.py
 chmod +x bin/rt
 git -C one init -q
-mkdir one/out
 touch one/out/gate-passed
 
 # A C compiler that needs flags at both ends, by default only -O2, for the programs in C.
@@ -251,11 +268,11 @@ refuses() {
     grep -qF "tools/release: $1" said || fail "$1: $(cat said)"
 }
 refuses 'rt version does not print logic 12' 123
-for file in out/gate-passed crates/sslist/out/sslist crates/sockdiag_c/out/libsockdiag_c.a \
+for file in out/gate-passed out/static/sslist crates/sockdiag_c/out/libsockdiag_c.a \
     crates/other/out/rlib/other.rlib; do
     mv "one/$file" missing
     case $file in
-        out/*) refuses '.ci/run has not passed in this clone' 12 ;;
+        *passed) refuses '.ci/run has not passed in this clone' 12 ;;
         *) refuses ".ci/run left no $file" 12 ;;
     esac
     mv missing "one/$file"

@@ -27,8 +27,8 @@ from typing import NamedTuple
 TOP = Path(__file__).resolve().parent.parent
 # Scripts that need no row, since others run them or the gate does not, and scripts that only
 # c_api.sh and erased.sh run.
-CALLED = {"tests/over_gate.sh", "tests/stand_in.sh", "tests/api/fetch_targets.sh",
-          "tests/api/reply_reader.py"}
+CALLED = {"tests/over_gate.sh", "tests/stand_in.sh", "tests/api/call_library.sh",
+          "tests/api/fetch_targets.sh", "tests/api/reply_reader.py"}
 OF_C_API = {"tests/api/compare_libraries.py", "tests/api/compare_listers.py",
             "tests/api/compare_replies.sh", "tests/api/kernels.py", "tests/api/sockdump.py",
             "tests/api/socklist.py"}
@@ -52,7 +52,8 @@ if "reply_reader.py make 100000 1" == f"{os.environ['FAILS']} {' '.join(sys.argv
 """
 # The stand-ins, which precede all programs in PATH. The compiler writes stand-ins.
 STAND_INS = {
-    **dict.fromkeys(("cargo", "diff", "make", "pkg-config", "program", "rt", "rustdoc"), PROGRAM),
+    **dict.fromkeys(("cargo", "chromium", "diff", "make", "pkg-config", "program", "rt",
+                     "rustdoc"), PROGRAM),
     "gate/python3": PASSED,
     **dict.fromkeys(("cc", "aarch64-linux-gnu-gcc", "musl-gcc"), """#!/bin/sh
 output= before=
@@ -167,7 +168,7 @@ EDIT = (
 C_API, ERASED = "tests/api/c_api.sh", "tests/api/erased.sh"
 MEMORY, SOCKDUMP = "tests/api/out_of_memory.sh", "tests/api/sockdump.py"
 SOCKLIST = "tests/api/socklist.py"
-TARGETS = "tests/api/erased_targets.sh"
+TARGETS, BUILDS = "tests/api/erased_targets.sh", "tests/api/builds.sh"
 # What c_api.sh runs after the calls from C.
 LATER = tuple((it, None, PROGRAM) for it in (
     "tools/install", "tests/api/kernels.py", SOCKDUMP, SOCKLIST, "crates/sslist/out/sslist"))
@@ -207,8 +208,10 @@ SCRIPTS = sorted(str(path.relative_to(TOP)) for it in ("tests/*.py", "tests/*.sh
                  for path in TOP.glob(it) if path.is_file() and os.access(path, os.X_OK))
 GATE = "PATH=$STAND_INS/gate:$PATH .ci/run"
 STUBS = tuple((it, None, PASSED) for it in (
-    "tools/bindings", "tools/usage", *(it for it in SCRIPTS if it[-3:] == ".sh")))
-CALLS = ("python3 tests/pages.py crates/sockdiag", "python3 tests/tables.py crates/sslist",
+    "tools/bindings", "tools/build", "tools/usage", *(it for it in SCRIPTS if it[-3:] == ".sh")))
+CALLS = ("python3 tests/pages.py out/static/sockdiag", "python3 tests/tables.py out/static/sslist",
+         "python3 tests/answers/answers.py check", "build rattle arm64 wasm",
+         "build sockdiag sslist",
          "bindings --check", "usage --check",
          *(f"python3 {it}" if it.endswith(".py") else Path(it).name
            for it in SCRIPTS if it not in {ERASED, *CALLED, *OF_C_API}))
@@ -381,6 +384,10 @@ ROWS = [
                  "cargo test --offline --target x86_64-unknown-linux-musl -Z *")),
     *(Row(TARGETS, (f"{it}/stdout differ",), (*ERASER, COMPARED), it, "ar")
       for it in ("sockdiag", "sslist")),
+    Row(BUILDS, (f"{BUILDS}: failed",), (("out/static/sockdiag", None, PROGRAM),), ""),
+    Row("python3 tests/page.py VERSION $STAND_INS/sockdiag", ("10 replies, 10 wrong",), (), ""),
+    Row("tests/answers/answers.py check $STAND_INS/sockdiag $STAND_INS/sslist",
+        ("the corpus has {'reply': '",), (), ""),
     Row("sh libraries.sh tests/api/compare_libraries.py",
         ("sockdiag_version: the first difference at call 1: 0 and 1", ": 1 differ"), (LIBRARIES,),
         needs="cc"),

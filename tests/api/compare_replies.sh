@@ -1,8 +1,9 @@
 #!/bin/sh
 # compare_replies.sh [COUNT [SEED]]: compares what the strict and the lenient calls of the C library
 # return, and the errors with their fields, with what reply_reader.py reads from the same replies:
-# a reply for each row of the table "Odd replies" of docs/C.md and each family, COUNT replies that
-# it makes (100000 by default), and every prefix of each stored reply. Prints a line about the
+# a reply for each row of the table "Odd replies" of docs/C.md and each family, each reply of the
+# kernels in tests/api/kernels, COUNT replies that it makes (100000 by default), and every prefix of
+# each stored reply. Prints a line about the
 # comparison, or the first lines that differ. c_api.sh runs it.
 #
 # The library is libsockdiag.a or libsockdiag_c.a of the folder SOCKDIAG_LIB_DIR, or the one that
@@ -31,6 +32,9 @@ reader() {
 
 reader odd >"$work/replies"
 odd=$(wc -l <"$work/replies")
+reader kernels >"$work/kernels"
+kernels=$(wc -l <"$work/kernels")
+cat "$work/kernels" >>"$work/replies"
 reader cuts >>"$work/replies"
 reader make "$count" "$seed" >>"$work/replies"
 reader read <"$work/replies" >"$work/expected"
@@ -43,6 +47,6 @@ fi
 rejected=$(grep -c '^error ' "$work/found" || true)
 whole=$(grep -c ' first=0 ' "$work/found" || true)
 total=$(wc -l <"$work/replies")
-echo "compare_replies: $odd odd replies, $count with seed $seed and" \
-    "$((total - odd - count)) prefixes of stored ones, all equal: $whole accepted," \
+echo "compare_replies: $odd odd replies, $kernels of kernels, $count with seed $seed and" \
+    "$((total - odd - kernels - count)) prefixes of stored ones, all equal: $whole accepted," \
     "$rejected without a header, $((total - whole - rejected)) with rejected attributes"

@@ -36,33 +36,24 @@ have() {
     done
 }
 
-# test_library LIBRARY: links C programs with a library, and runs them. An independent reader says
-# what print_replies has to print.
+# test_library LIBRARY: links C programs with a library, and runs them.
 test_library() {
-    for program in c_api c_values c_messages fuzz_c print_replies; do
-        quiet compile -std=c99 -O2 -Wall -Wextra -Wpedantic -Werror -I"$top/include" \
-            -o "$work/$program" "$top/tests/api/$program.c" "$1" -Wl,-rpath,"${1%/*}"
-    done
-    for program in c_api c_values c_messages; do quiet run "$work/$program"; done
-    quiet run "$work/fuzz_c" 20000 "$top/crates/sslist/stdin"
-    run "$work/print_replies" <"$work/replies" >"$work/found"
-    cmp "$work/expected" "$work/found"
+    CC=$compiler RUN=$runner "$top/tests/api/call_library.sh" "$1" "$work"
     echo "erased: $target: C programs pass with ${1##*/}"
 }
 
 # Stores what a program prints of its stored input.
 answer() {
-    run "$built/$1" <"$top/crates/$1/stdin" >"$work/found"
+    # The words of a command.
+    # shellcheck disable=SC2086
+    $runner "$built/$1" <"$top/crates/$1/stdin" >"$work/found"
 }
 
-# test_target FLAG..: tests a target, for which cargo needs more flags. `compile` compiles C for it,
-# `run` runs a program, and `left_out` is a test that is not run, or empty.
+# test_target FLAG..: tests a target, for which cargo needs more flags. The words of `compiler`
+# compile C for it, those of `runner` run a program, and `left_out` is a test that is not run, or
+# empty.
 test_target() {
-    if [ ! -e "$work/expected" ]; then
-        "$top/tools/erase" "$work/erased"
-        python3 "$top/tests/api/reply_reader.py" make 100000 1 >"$work/replies"
-        python3 "$top/tests/api/reply_reader.py" read <"$work/replies" >"$work/expected"
-    fi
+    [ -e "$work/erased" ] || "$top/tools/erase" "$work/erased"
     cd "$work/erased"
     built=$work/erased/target/$target/release
     quiet cargo build --release --offline --target "$target" --package sockdiag_c "$@"
@@ -89,13 +80,13 @@ arm() {
         skipped 'library of Rust'
         return
     fi
-    compile() { aarch64-linux-gnu-gcc "$@"; }
+    compiler=aarch64-linux-gnu-gcc
     # The folder whose lib has the loader and the C library.
-    libc=$(compile -print-file-name=libc.so.6)
+    libc=$("$compiler" -print-file-name=libc.so.6)
     libc=$(CDPATH='' cd -- "$(dirname -- "$libc")/.." && pwd)
-    run() { qemu-aarch64-static -L "$libc" "$@"; }
+    runner="qemu-aarch64-static -L $libc"
     export CARGO_TARGET_AARCH64_UNKNOWN_LINUX_GNU_LINKER=aarch64-linux-gnu-gcc
-    export CARGO_TARGET_AARCH64_UNKNOWN_LINUX_GNU_RUNNER="qemu-aarch64-static -L $libc"
+    export CARGO_TARGET_AARCH64_UNKNOWN_LINUX_GNU_RUNNER=$runner
     # Under qemu, tests that are not optimized take minutes.
     export CARGO_PROFILE_TEST_OPT_LEVEL=1
     # In the process that this test starts, qemu needs the descriptors that are closed.
@@ -140,8 +131,7 @@ musl() {
         return
     fi
     complete_musl
-    compile() { musl-gcc -static -idirafter "$work/kernel" "$@"; }
-    run() { "$@"; }
+    compiler="musl-gcc -static -idirafter $work/kernel" runner=
     # Start files are musl-gcc's, whose static programs are not position-independent.
     flags="-C link-self-contained=no -C relocation-model=static -L native=$work/unwind"
     export CARGO_TARGET_X86_64_UNKNOWN_LINUX_MUSL_LINKER=musl-gcc

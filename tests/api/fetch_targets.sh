@@ -47,4 +47,6 @@ find "$root/usr/src" -mindepth 2 -maxdepth 2 ! -name library -exec rm -rf {} +
 for text in bin/musl-gcc lib/x86_64-linux-musl/musl-gcc.specs aarch64-linux-gnu/lib/libc.so; do
     sed -i "s|\([ \"(L]\)/usr/|\1$root/usr/|g" "$root/usr/$text"
 done
-for name in rustc rustdoc aarch64-linux-gnu-gcc musl-gcc qemu-aarch64-static; do wrap "$name"; done
+for name in rustc rustdoc aarch64-linux-gnu-gcc musl-gcc qemu-aarch64-static; do
+    [ ! -e "$root/usr/bin/$name" ] || wrap "$name"
+done

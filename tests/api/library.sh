@@ -4,7 +4,7 @@
 #
 # Without an argument it runs `rt lib`, which proves each library that it cannot use. The gate calls
 # it with --of-gate: the script then proves sockdiag_c over the libraries that `rt ci` left
-# (tests/over_gate.sh), and compiles it. If `rt ci` has put back what was built before it, `rt lib`
+# (tools/build), and compiles it. If `rt ci` has put back what was built before it, `rt lib`
 # is quick.
 set -eu
 trap '[ $? = 0 ] || echo "$0: failed" >&2' EXIT
@@ -33,11 +33,7 @@ if [ "${1-}" != --of-gate ] || ! are_of_gate; then
     exit
 fi
 
-toolchain=$(dirname -- "$(dirname -- "$(readlink -f -- "$(command -v rt)")")")/toolchain
-jobs=$(nproc)
-if [ "$jobs" -gt 4 ]; then jobs=4; fi
-over_gate=$PWD/tests/over_gate.sh
-cd "$crate"
-mkdir -p out
-"$over_gate" sockdiag_c build --crate-type staticlib --toolchain "$toolchain" \
-    --backend llvm --cpu x86-64 --jobs "$jobs" -o out/libsockdiag_c.a
+JOBS=$(nproc)
+if [ "$JOBS" -gt 4 ]; then JOBS=4; fi
+export JOBS
+tools/build library

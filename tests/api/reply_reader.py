@@ -6,6 +6,7 @@
     reply_reader.py make COUNT SEED   prints COUNT replies: stored ones, built ones, and changed
                                         copies of both
     reply_reader.py cuts              prints each stored reply, and each of its prefixes
+    reply_reader.py kernels           prints each reply of the kernels in tests/api/kernels
     reply_reader.py odd               prints a reply for each row of the table "Odd replies" of
                                         docs/C.md and each family, if the reader answers as the
                                         table says
@@ -24,6 +25,7 @@ in docs. The reader shares no code with the crates. compare_replies.sh compares 
 those of tests/api/print_replies.c.
 """
 
+import gzip
 import random
 import struct
 import sys
@@ -404,20 +406,27 @@ def odd_replies():
             yield name, payload
 
 
-def messages(datagram):
-    """Yields (type, flags, payload) for each message of a datagram, as far as it is well-formed."""
+def numbered_messages(datagram):
+    """Yields (type, flags, sequence number, payload) for each message of a datagram, as far as it
+    is well-formed."""
     offset = 0
     while offset + 16 <= len(datagram):
-        length, kind, flags = struct.unpack_from("<IHH", datagram, offset)
+        length, kind, flags, sequence = struct.unpack_from("<IHHI", datagram, offset)
         if length < 16:
             return
-        yield kind, flags, datagram[offset + 16 : offset + length]
+        yield kind, flags, sequence, datagram[offset + 16 : offset + length]
         offset += (length + 3) // 4 * 4
 
 
-def captured_datagrams():
-    """Yields the datagrams of the stored capture: pcap, with a cooked header of 16 bytes."""
-    data = (TOP / "crates/sslist/stdin").read_bytes()
+def messages(datagram):
+    """Yields (type, flags, payload) for each message of a datagram."""
+    return ((kind, flags, payload) for kind, flags, _, payload in numbered_messages(datagram))
+
+
+def captured_datagrams(file=TOP / "crates/sslist/stdin"):
+    """Yields the datagrams of a capture, which may be compressed: pcap, with a cooked header of 16
+    bytes."""
+    data = (gzip.decompress if file.suffix == ".gz" else bytes)(file.read_bytes())
     offset = 24
     while offset < len(data):
         (length,) = struct.unpack_from("<I", data, offset + 8)
@@ -431,33 +440,29 @@ def named(payload):
     return (name, payload) if name else None
 
 
-# Replies about a netlink and a packet socket that Linux 6.18 sent, and about a vsock and an XDP
-# socket that were made by hand from the kernel's headers.
-FAMILY_REPLIES = (
-    "100300076a1800000000000000000000ff53010001100000000000000c000100110000000000000028000000"
-    "0000000000400300000000000040030000000000000000000000000000000000000000000800040020000000",
-    "110300080054010003100000000000001c000000010000000000000000000000000000000000000001000000"
-    "08000500000000003000010001000000010000000000060001005e0000fb0000000000000000000000000000"
-    "0000000000000000000000002000020000100000020000000008000004000000000000000000000000000000"
-    "0800040007000000280006000000000000400300000000000040030000000000000000008800000000000000"
-    "000000000c00070006000000ffff0000",
-    "28010a000200000016000000ffffffffffffffff0a5000000500000000000000",
-    "2c0300000b00000006000000000000000c000100030000000100000008000200e80300000800030000080000"
-    "2c00050000004000000000000200000000040000001000000000000003000000010000000100000001000000"
-    "0800060000100000340009000100000000000000020000000000000003000000000000000400000000000000"
-    "05000000000000000600000000000000",
-)
+def replies_of(file):
+    """Yields each reply of a capture, with its name."""
+    for datagram in captured_datagrams(file):
+        for kind, flags, payload in messages(datagram):
+            if kind == SOCK_DIAG_BY_FAMILY and not flags & NLM_F_REQUEST and named(payload):
+                yield named(payload)
+
+
+def kernel_replies():
+    """Returns each reply of the kernels in tests/api/kernels once."""
+    files = (TOP / "tests/api/kernels").glob("*.pcap.gz")
+    return sorted({it for file in files for it in replies_of(file)})
 
 
 def stored_replies():
-    """Returns the replies that kernels sent, in the stored capture, those of the stored lines,
-    those about UNIX and internet sockets of tests/api/kernels, and FAMILY_REPLIES."""
-    found = [named(bytes.fromhex(digits)) for digits in FAMILY_REPLIES] + [
-        named(payload) for datagram in captured_datagrams()
-        for kind, flags, payload in messages(datagram)
-        if kind == SOCK_DIAG_BY_FAMILY and not flags & NLM_F_REQUEST
-    ]
-    files = [TOP / "crates/sockdiag/stdin", *sorted((TOP / "tests/api/kernels").glob("*"))]
+    """Returns the replies in the stored capture, those of the stored lines, those about UNIX and
+    internet sockets of the texts in tests/api/kernels, and of the kernels the longest one about a
+    socket of each other family."""
+    longest = {name: (name, payload) for name, payload in
+               sorted(kernel_replies(), key=lambda it: len(it[1])) if name not in ("unix", "inet")}
+    found = [*longest.values(), *replies_of(TOP / "crates/sslist/stdin")]
+    files = [TOP / "crates/sockdiag/stdin", *(
+        it for it in sorted((TOP / "tests/api/kernels").iterdir()) if it.suffix != ".gz")]
     for line in "\n".join(file.read_text() for file in files).splitlines():
         name, _, rest = line.partition(" ")
         if name in ("unix", "unixview", "inet", "message", "tcp", "udp", "mptcp"):
@@ -596,11 +601,13 @@ def main():
         replies = made_replies(int(words[0]), int(words[1]))
     elif command == "odd" and not words:
         replies = odd_replies()
+    elif command == "kernels" and not words:
+        replies = kernel_replies()
     elif command == "cuts" and not words:
         replies = sorted({(name, it[:end]) for name, it in stored_replies()
                           for end in range(len(it) + 1)})
     else:
-        sys.exit("usage: reply_reader.py read | make COUNT SEED | cuts | odd")
+        sys.exit("usage: reply_reader.py read | make COUNT SEED | cuts | kernels | odd")
     for name, payload in replies:
         print(name, payload.hex())
 

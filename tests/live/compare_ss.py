@@ -19,7 +19,8 @@ the running system, and sslist of the capture of all sockets. Netlink sockets ar
 run of ss has its own.
 
 It is not part of the gate. It needs gcc, iproute2 and the built sslist. As root it uses a new
-network namespace.
+network namespace. In a guest of kernels.py it has the option --guest, and takes the sockets that
+are open there, and the programs in /bin.
 """
 
 import ctypes
@@ -32,11 +33,14 @@ import tempfile
 from pathlib import Path
 
 TOP = Path(__file__).resolve().parents[2]
-LISTER = TOP / "crates/sslist/out/sslist"
+IS_GUEST = sys.argv[1:] == ["--guest"]
+LISTER = Path("/bin/sslist") if IS_GUEST else TOP / "crates/sslist/out/sslist"
 OPTIONS = ["-tanioem", "-uanioem", "-xanem", "-anMei", "-s"]
 OPTIONS += ["-0anem", "-anemf netlink", "-anem --vsock", "-anem --xdp", "-an", "-anem"]
+# In a guest of kernels.py, without those that list sockets for which ss prints no protocol.
+OPTIONS_OF_GUESTS = [it for it in OPTIONS if it not in ("-s", "-an", "-anem")] + ["-anS"]
 # Options for both programs, of the comparisons with sockdump.
-OF_DUMPS = ["-tan", "-uan", "-xan", "-Man", "-0an", "-an"]
+OF_DUMPS = ["-tan", "-uan", "-xan", "-Man", "-0an", *["-an"] * (not IS_GUEST)]
 # Options and filters that select sockets, for ss and for sslist. PORT is the port of a TCP socket.
 SELECTIONS = [(f"-{it}n", f"-{it}n") for it in ("tl", "4a", "6a", "l", "xl", "ul", "4ta", "6xa")]
 SELECTIONS += [(f"-an -f {it}", f"-n -f {it}") for it in ("inet", "inet6", "unix", "link")]
@@ -57,6 +61,8 @@ OTHERWISE = {"bytes_sent": "sent", "bytes_received": "received"}
 # Values that ss prints in milliseconds with a fraction, and sslist in microseconds.
 MILLISECONDS = {"rto", "minrtt", "rcv_rtt", "ato"}
 RATES = {"pacing_rate", "delivery_rate"}
+# Numbers of MPTCP that sslist prints in hexadecimal digits, and newer versions of ss do not.
+HEXADECIMAL = {"seq", "ssnoff", "maplen", "write_seq", "snd_una", "rcv_nxt"}
 FLAGS = {"ts", "sack", "ecn", "ecnseen", "fastopen", "app_limited", "<->", "-->", "<--", "---"}
 FLAGS |= {"running", "auxdata", "origdev", "vnethdr", "loss"}
 
@@ -142,6 +148,12 @@ def timer(milliseconds):
     return text + (f"{rest:03}ms" if rest else "")
 
 
+def printed(words, **how):
+    """Returns what a command prints. Names of sockets may be no text."""
+    run = subprocess.run(words, capture_output=True, check=True, **how)
+    return run.stdout.decode(errors="replace")
+
+
 def listed(capture, options=()):
     """Returns the sockets that sslist lists with these options, by key and in order, its standard
     error and its exit status."""
@@ -165,26 +177,35 @@ def listed(capture, options=()):
 
 
 def end(text, netid):
-    """Returns an address of ss as sslist prints it."""
+    """Returns an address of ss as sslist prints it. ss prints port ids of netlink as signed."""
+    text = re.sub(r":-(\d+)$", lambda it: f":{(1 << 32) - int(it[1])}", text)
     if netid.startswith("p_"):
         protocol, _, interface = text.rpartition(":")
         number = interface if interface == "*" else socket.if_nametoindex(interface)
         return f"{3 if protocol == '*' else protocol.strip('[]')}:{number}" if protocol else text
-    return text if netid.startswith("v_") else re.sub(r"%\w+", "", re.sub(r"^\*:", "[::]:", text))
+    queue = re.fullmatch(r"(\w+):q(\d+)", text)
+    if queue:
+        return f"{socket.if_nametoindex(queue[1])}:{queue[2]}"
+    return text if netid.startswith("v_") else re.sub(r"^\*:", "[::]:", re.sub(r"%\w+", "", text))
 
 
 def shown(line):
-    """Returns the key of the socket in a line of ss, its columns, and the remaining words."""
+    """Returns the key of the socket in a line of ss, its columns, and the remaining words. ss
+    prints the last MD5 key of a socket, which is a number here, at the start of the next line."""
+    line = re.sub(r"^(\d+| *`- )", "", line)
     unix = re.match(r"(u_...) (\S+)\s+(\d+)\s+(\d+)\s+(.*?) (\d+)\s+(.*?) (\d+)(?:\s+(.*))?$", line)
     if unix:
         columns = {"netid": unix[1], "state": unix[2], "recv": unix[3], "send": unix[4]}
         if unix[8] != "0":
             columns["peer"] = unix[8]
         return unix[6], columns, (unix[9] or "").split()
-    words = line.split()
+    # Older versions of ss have no name for vsock sockets of this kind.
+    words = re.sub(r"^\?\?\?", "v_seq", line).split()
     columns = {"netid": words.pop(0)} if words[0] in NETIDS else {}
     columns |= dict(zip(("state", "recv", "send"), words))
     local, peer = (end(it, columns.get("netid", "")) for it in words[3:5])
+    # An XDP socket that is not bound.
+    local = "*:0" if (local, peer) == ("*", "*") else local
     return (local, peer), columns, words[5:]
 
 
@@ -215,7 +236,7 @@ def values(words):
         elif word.startswith("groups="):
             yield "groups", hex(int(word.removeprefix("groups="), 16))
         elif colon and re.fullmatch(r"0x[0-9a-f]+|\d+|[0-9a-f]+|\(\w+(,\w+)*\)", value):
-            is_number = value.isdigit() and name != "sk"
+            is_number = value.isdigit() and name not in {"sk", *HEXADECIMAL}
             yield OTHERWISE.get(name, name), int(value) if is_number else value
 
 
@@ -232,7 +253,11 @@ def differs(socket_, name, value):
     ours = socket_[name]
     if name == "timer":
         kind, time, again = ours.strip("()").split(",")
-        return f"({kind},{timer(int(time.removesuffix('ms')))},{again})" != value
+        text = f"({kind},{timer(int(time.removesuffix('ms')))},{again})"
+        # Newer versions of ss print 2.224sec, and older ones 2.224ms.
+        return value not in (text, re.sub(r"(\.\d+)ms", r"\1sec", text))
+    if name in HEXADECIMAL:
+        return value not in (ours, str(int(ours, 16)))
     if name in ("busy", "rwnd_limited", "sndbuf_limited"):
         return int(ours) // 1000 != value
     if isinstance(value, int) and ours.isdigit():
@@ -246,7 +271,7 @@ def compare(option, folder, recorder):
     capture = f"{folder}/capture{option.replace(' ', '')}"
     environment = os.environ | {"LD_PRELOAD": recorder, "CAPTURE": capture}
     ss = ["ss", *option.split(), "-OH"]
-    theirs = subprocess.run(ss, env=environment, capture_output=True, check=True).stdout.decode()
+    theirs = printed(ss, env=environment)
     sockets, errors, status = listed(capture) if Path(capture).exists() else ({}, "no capture", 0)
     found = compared = wrong = missing = 0
     uncompared = set()
@@ -260,7 +285,8 @@ def compare(option, folder, recorder):
         found += 1
         ours = ours.pop(0)
         for name, value in [*columns.items(), *values(words)]:
-            result = ours[name] != value if name in columns else differs(ours, name, value)
+            result = ours[name] not in (value, "-") if name in columns else differs(
+                ours, name, value)
             compared += result is not None
             uncompared |= {name} if result is None else set()
             if result:
@@ -283,7 +309,7 @@ def compare_dump(option, capture):
     """Compares the columns of ss and of sslist over a capture of sockdump. Prints the differences,
     and returns their number."""
     ss = ["ss", option, "-OH"]
-    theirs = subprocess.run(ss, capture_output=True, check=True).stdout.decode().splitlines()
+    theirs = printed(ss).splitlines()
     sockets, errors, status = listed(capture, [option])
     wrong = found = 0
     for line in theirs:
@@ -305,11 +331,18 @@ def compare_dump(option, capture):
     return wrong + len(extra) + status
 
 
+def compiled(source, folder, *flags):
+    """Returns the path of a compiled program or library. A guest has no compiler, but both."""
+    if IS_GUEST:
+        return f"/bin/{source.stem}"
+    path = f"{folder}/{source.stem}"
+    subprocess.run(["gcc", "-std=gnu99", *flags, "-o", path, source], check=True)
+    return path
+
+
 def compare_dumps(folder):
     """Compares ss with sockdump, for each list of options. Returns the number of differences."""
-    program, capture = f"{folder}/sockdump", f"{folder}/dump"
-    source = TOP / "examples/sockdump.c"
-    subprocess.run(["gcc", "-std=c99", "-o", program, source], check=True)
+    program, capture = compiled(TOP / "examples/sockdump.c", folder), f"{folder}/dump"
     wrong = 0
     for option in OF_DUMPS:
         with open(capture, "wb") as output:
@@ -328,7 +361,7 @@ def compare_selections(folder):
     for theirs, ours in SELECTIONS:
         theirs, ours = theirs.replace("PORT", port), ours.replace("PORT", port)
         ss = ["ss", "-OH", *theirs.split()]
-        lines = subprocess.run(ss, capture_output=True, check=True, text=True).stdout.splitlines()
+        lines = printed(ss).splitlines()
         expected = sorted(str(shown(it)[0]) for it in lines if not it.startswith("nl "))
         found = sorted(str(key) for key, them in listed(capture, ours.split())[0].items()
             for it in them if it["netid"] != "nl")
@@ -343,16 +376,17 @@ def compare_selections(folder):
 def main():
     if not LISTER.exists():
         sys.exit("compare_ss.py: sslist is not built; run ./sslist </dev/null")
-    if os.geteuid() == 0 and ctypes.CDLL(None).unshare(0x40000000) == 0:
+    if os.geteuid() == 0 and not IS_GUEST and ctypes.CDLL(None).unshare(0x40000000) == 0:
         subprocess.run(["ip", "link", "set", "lo", "up"], check=True)
     with tempfile.TemporaryDirectory() as folder:
-        recorder = f"{folder}/recorder.so"
-        source = Path(__file__).with_name("record.c")
-        subprocess.run(["gcc", "-shared", "-fPIC", "-o", recorder, source], check=True)
-        kept = make_sockets(folder)
-        wrong = sum(compare(option, folder, recorder) for option in sys.argv[1:] or OPTIONS)
-        if not sys.argv[1:]:
-            wrong += compare_dumps(folder) + compare_selections(folder)
+        recorder = compiled(Path(__file__).with_name("record.c"), folder, "-shared", "-fPIC")
+        kept = [] if IS_GUEST else make_sockets(folder)
+        options = OPTIONS_OF_GUESTS if IS_GUEST else sys.argv[1:]
+        wrong = sum(compare(option, folder, recorder) for option in options or OPTIONS)
+        if IS_GUEST or not options:
+            wrong += compare_dumps(folder)
+        if not options:
+            wrong += compare_selections(folder)
         del kept
     return 1 if wrong else 0
 

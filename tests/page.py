@@ -1,0 +1,70 @@
+#!/usr/bin/env python3
+"""page.py MODULE SOCKDIAG: makes the page of tools/page, opens it in headless Chromium with replies
+and invalid ones, and compares what it shows with the answers of the program sockdiag: the canonical
+form, or the code of the first error. Without Chromium it is skipped. The gate runs this script."""
+
+import html
+import re
+import shutil
+import subprocess
+import sys
+import tempfile
+from pathlib import Path
+
+TOP = Path(__file__).resolve().parent.parent
+UNIX = "01010a000e4f0000a002000000000000"
+INET = "02010200d9040050" + 64 * "00"
+# Replies, of which some are invalid, and what the page has to show of them in addition.
+REPLIES = {
+    UNIX + "0500068002000000": ("shutdown", "16"), UNIX + "09000000006100626300000": (),
+    UNIX + "0c0004000000000080000000": ("send_queue", "128"), INET + "0500080003000000": ("55556",),
+    INET + "0a000400637562696300": ("cubic",), UNIX[:20]: (), UNIX + "0300": (),
+    UNIX + "0c00040000000000": (), UNIX + "0500020001000000": (), "0302" + INET[4:]: (),
+}
+
+
+def shown(page, digits):
+    """Returns the text of the page for a reply."""
+    words = "--headless --no-sandbox --disable-gpu --virtual-time-budget=5000 --dump-dom".split()
+    run = subprocess.run([CHROMIUM, *words, f"file://{page}#{digits}"], capture_output=True,
+                         text=True, timeout=120, check=True)
+    answer = run.stdout.partition('<div id="answer">')[2].partition("<script>")[0]
+    return html.unescape(re.sub(r"<[^>]+>", " ", answer))
+
+
+def expected(answer):
+    """Returns what the page has to show for an answer of sockdiag."""
+    verdict, _, value = answer.partition(" ")
+    if verdict == "bad":
+        return "not pairs of hex digits"
+    if verdict == "ok":
+        return value
+    return "is not known" if value == "5" else f"rror {value}: "
+
+
+def main():
+    module, program = sys.argv[1:]
+    lines = "".join(f"message {it}\n" for it in REPLIES)
+    answers = subprocess.run([program], input=lines, capture_output=True, text=True, check=True)
+    wrong = 0
+    with tempfile.TemporaryDirectory() as folder:
+        page = Path(folder, "sockdiag.html")
+        page.write_text(subprocess.run([TOP / "tools/page", module], capture_output=True, text=True,
+                                       check=True).stdout)
+        found = answers.stdout.splitlines()
+        for (digits, more), answer in zip(REPLIES.items(), found, strict=True):
+            text = shown(page, digits)
+            lacking = [it for it in (expected(answer), *more) if it not in text]
+            if lacking:
+                wrong += 1
+                print(f"page: {digits}: {answer}: the page lacks {lacking}: {text[:300]}")
+    print(f"page: {len(REPLIES)} replies, {wrong} wrong")
+    return 1 if wrong else 0
+
+
+CHROMIUM = shutil.which("chromium") or shutil.which("google-chrome")
+if __name__ == "__main__":
+    if CHROMIUM is None:
+        print("page: skipped: no chromium")
+    else:
+        sys.exit(main())
