@@ -99,7 +99,7 @@ members() {
 }
 if has aarch64-linux-gnu-gcc; then
     mkdir arm64
-    for program in sockdiag sslist sockdump; do
+    for program in sockdiag sslist sockdump socklist; do
         CC=aarch64-linux-gnu-gcc bin/make_program arm64/$program $program
     done
     : >arm64/libsockdiag_c.a
