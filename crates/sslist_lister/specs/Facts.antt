@@ -1,8 +1,8 @@
 -- Facts of a reply, and what they are shown as. Texts are lists of ASCII codes: 41 is a closing
 -- parenthesis and 44 a comma.
 use Rattle.std.specs.Prelude.{◌≡◌, ℕ, ◌==◌, ◌/◌, ◌%◌, ◌||◌, if◌then◌else◌, Bool, List, [], ◌∷◌}
-use Rattle.std.specs.Prelude.{◌++◌, bit_and, codes, decimal, false, flat_map, is_some}
-use Rattle.std.specs.Prelude.{Option, None, Some, option_map, Result, Ok, Err}
+use Rattle.std.specs.Prelude.{◌++◌, bit_and, codes, decimal, false, flat_map}
+use Rattle.std.specs.Prelude.{Option, None, Some, option_map}
 use Rattle.std.specs.Prelude.{unwrap_or}
 use Rattle.std.specs.Borrow.{Bor}
 use Rattle.std.specs.Fmt.{digits}

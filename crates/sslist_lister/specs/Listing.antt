@@ -2,7 +2,7 @@
 -- a message. `list` is the number of the list of sockets that a reply belongs to (`PastRequests`),
 -- and `requested` is the protocol of its request, None if it is not known.
 use Rattle.std.specs.Prelude.{◌≡◌, ◌↔◌, Bool, true, false, IsTrue, ℕ, ℤ, pos, negsuc, ◌+◌}
-use Rattle.std.specs.Prelude.{◌==◌, ◌&&◌, ◌||◌, if◌then◌else◌, nat_le, nat_lt, List, [], ◌++◌}
+use Rattle.std.specs.Prelude.{◌==◌, ◌&&◌, if◌then◌else◌, nat_le, nat_lt, List, [], ◌++◌}
 use Rattle.std.specs.Prelude.{◌≤◌, ◌⊎◌}
 use Rattle.std.specs.Prelude.{bit_and, drop, length, flat_map, is_none, Option, None, Some}
 use Rattle.std.specs.Prelude.{option_map, MatchOption, Result, Ok, Err}

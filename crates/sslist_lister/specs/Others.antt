@@ -20,13 +20,11 @@ use Rattle.sock_diag_families.specs.declared.vsock.response.VsockResponseHeader.
 use Rattle.sock_diag_families.specs.declared.xdp.response.XdpResponseHeader.{XdpResponseHeader}
 use Rattle.sock_diag_values.specs.declared.inet.mem_info.MemInfo.{MemInfo}
 use Rattle.sock_diag_extras.specs.AnyParts.{memory_of, owner_of, packet_info_of, xdp_info_of}
-use Rattle.sock_diag_records.specs.declared.constants.TheConstants.{AF_NETLINK, AF_PACKET}
 use Rattle.sock_diag_records.specs.declared.constants.TheConstants.{SOCK_DGRAM, SOCK_RAW}
 use Rattle.sock_diag_records.specs.declared.constants.TheConstants.{SOCK_SEQPACKET, SOCK_STREAM}
 use Rattle.sock_diag_records.specs.declared.constants.TheConstants.{TCP_CLOSE}
 use Rattle.sock_diag_families.specs.declared.packet.TheConstants.{PACKET_DIAG_INFO, PACKET_DIAG_UID}
-use Rattle.sock_diag_families.specs.declared.vsock.TheConstants.{AF_VSOCK}
-use Rattle.sock_diag_families.specs.declared.xdp.TheConstants.{AF_XDP, XDP_DIAG_INFO, XDP_DIAG_UID}
+use Rattle.sock_diag_families.specs.declared.xdp.TheConstants.{XDP_DIAG_INFO, XDP_DIAG_UID}
 use Rattle.sslist_lister.specs.Details.{details}
 use Rattle.sslist_lister.specs.AttributeFacts.{memory_kind}
 use Rattle.sslist_lister.specs.Collected.{Summary, value_in}
