@@ -69,12 +69,16 @@ extern "C" {
  */
 uint32_t sockdiag_version(void);
 
-#define SOCKDIAG_OK 0   /* Return value of a check that accepts the bytes. */
-#define SOCKDIAG_END 0  /* Return value of an iteration at its end, and of a getter that finds no
-                           value. */
-#define SOCKDIAG_ITEM 1 /* Return value of an iteration that returns an item, and of a getter
-                           that returns a value. It is not the code of an error here: code 1 is
-                           an allocation failure, which cannot happen. */
+#define SOCKDIAG_OK 0                 /* The call has succeeded. */
+#define SOCKDIAG_ITEM 100             /* An iterator has stored an item. */
+#define SOCKDIAG_END 101              /* An iterator is at the end, or the reply lacks the value
+                                         that the call copies. */
+#define SOCKDIAG_NO_SPACE 102         /* The buffer is shorter than the message, whose length is
+                                         stored. */
+#define SOCKDIAG_TOO_LONG 103         /* A message or an attribute is too long for its length
+                                         field. */
+#define SOCKDIAG_INVALID_ARGUMENT 104 /* The size of a struct is below that of version 1.0, or
+                                         what is unknown. */
 
 /*
  * Decode errors: why bytes are rejected. If bytes have several errors, a call returns the first.
@@ -121,6 +125,16 @@ static inline const char *sockdiag_error_text(uint32_t error)
     switch (error) {
     case SOCKDIAG_OK:
         return "no error";
+    case SOCKDIAG_ITEM:
+        return "an item";
+    case SOCKDIAG_END:
+        return "no more items";
+    case SOCKDIAG_NO_SPACE:
+        return "buffer is shorter than the message";
+    case SOCKDIAG_TOO_LONG:
+        return "too long for a length field";
+    case SOCKDIAG_INVALID_ARGUMENT:
+        return "invalid argument";
     case SOCKDIAG_BUFFER_TOO_SMALL:
         return "buffer of too few bytes";
     case SOCKDIAG_UNSUPPORTED_FAMILY:
@@ -617,13 +631,25 @@ struct sockdiag_unix_details {
     struct sockdiag_number owner;       /* User id of the owner (UNIX_DIAG_UID). It is not set if
                                            the value does not have 4 bytes. */
 };
+#define SOCKDIAG_UNIX_DETAILS_SIZE_1_0 168
+
+uint32_t sockdiag_unix_fill_details(const uint8_t *payload, size_t length,
+                                    struct sockdiag_unix_details *details, uint8_t *later,
+                                    size_t later_length);
 
 /*
  * Parses a reply about a UNIX socket. Returns 0, or the code of its first error; then the details
  * are unchanged.
  */
-uint32_t sockdiag_unix_get_details(const uint8_t *payload, size_t length,
-                                   struct sockdiag_unix_details *details);
+static inline uint32_t sockdiag_unix_get_details(const uint8_t *payload, size_t length,
+                                                 struct sockdiag_unix_details *details, size_t size)
+{
+    if (size < SOCKDIAG_UNIX_DETAILS_SIZE_1_0)
+        return SOCKDIAG_INVALID_ARGUMENT;
+    return sockdiag_unix_fill_details(
+        payload, length, details, (uint8_t *)details + SOCKDIAG_UNIX_DETAILS_SIZE_1_0,
+        size - SOCKDIAG_UNIX_DETAILS_SIZE_1_0);
+}
 
 /* ---- IPv4 and IPv6 sockets */
 
@@ -728,14 +754,26 @@ struct sockdiag_inet_details {
                                                     are not set if the value has fewer than 2
                                                     bytes. */
 };
+#define SOCKDIAG_INET_DETAILS_SIZE_1_0 264
+
+uint32_t sockdiag_inet_fill_details(const uint8_t *payload, size_t length,
+                                    struct sockdiag_inet_details *details, uint8_t *later,
+                                    size_t later_length);
 
 /*
  * Parses a reply about an IPv4 or IPv6 socket. Returns 0, or the code of its first error; then the
  * details are unchanged. INET_DIAG_INFO is checked, and not returned: sockdiag_inet_get_tcp_info
  * returns it.
  */
-uint32_t sockdiag_inet_get_details(const uint8_t *payload, size_t length,
-                                   struct sockdiag_inet_details *details);
+static inline uint32_t sockdiag_inet_get_details(const uint8_t *payload, size_t length,
+                                                 struct sockdiag_inet_details *details, size_t size)
+{
+    if (size < SOCKDIAG_INET_DETAILS_SIZE_1_0)
+        return SOCKDIAG_INVALID_ARGUMENT;
+    return sockdiag_inet_fill_details(
+        payload, length, details, (uint8_t *)details + SOCKDIAG_INET_DETAILS_SIZE_1_0,
+        size - SOCKDIAG_INET_DETAILS_SIZE_1_0);
+}
 
 /*
  * The state of a TCP connection: struct tcp_info of linux/tcp.h in Linux 7.2. Later versions of
@@ -913,7 +951,8 @@ struct sockdiag_tcp_info {
 /*
  * Copies the TCP connection of a reply about an IPv4 or IPv6 socket: the value of the first
  * INET_DIAG_INFO. info_size is sizeof *info: at most as many bytes are copied, and the remaining
- * ones are set to 0. Returns the length of the value in bytes, or 0 if there is none.
+ * ones are set to 0. Stores the length of the value in bytes. Returns SOCKDIAG_END if the reply has
+ * no value; then nothing is stored.
  *
  * Each kernel sends the struct in its own length, which may also be longer: SOCKDIAG_HAS tests
  * whether the value contains a field. A value of any length is accepted, also one that
@@ -925,8 +964,9 @@ struct sockdiag_tcp_info {
  * If the protocol that was requested is not TCP, the value is another struct, struct mptcp_info or
  * struct sctp_info.
  */
-size_t sockdiag_inet_get_tcp_info(const uint8_t *payload, size_t length,
-                                  struct sockdiag_tcp_info *info, size_t info_size);
+uint32_t sockdiag_inet_get_tcp_info(const uint8_t *payload, size_t length,
+                                    struct sockdiag_tcp_info *info, size_t info_size,
+                                    size_t *value_length);
 
 /*
  * The state of an MPTCP connection: struct mptcp_info of linux/mptcp.h in Linux 7.2. Later versions
@@ -991,12 +1031,11 @@ struct sockdiag_mptcp_info {
 
 /*
  * Copies the MPTCP connection of a reply to a request for MPTCP, as sockdiag_inet_get_tcp_info
- * copies that of TCP: the value of the first INET_DIAG_INFO, at most info_size bytes, followed by
- * zeros. Returns the length of the value in bytes, or 0 if there is none. All fields of a socket
- * that listens are 0, except subflows_max of Linux 6.1.
+ * copies that of TCP. All fields of a socket that listens are 0, except subflows_max of Linux 6.1.
  */
-size_t sockdiag_inet_get_mptcp_info(const uint8_t *payload, size_t length,
-                                    struct sockdiag_mptcp_info *info, size_t info_size);
+uint32_t sockdiag_inet_get_mptcp_info(const uint8_t *payload, size_t length,
+                                      struct sockdiag_mptcp_info *info, size_t info_size,
+                                      size_t *value_length);
 
 /* ---- netlink, packet, vsock and XDP sockets */
 
@@ -1035,13 +1074,26 @@ struct sockdiag_netlink_details {
     struct sockdiag_number flags;          /* The bits NDIAG_FLAG_.. (NETLINK_DIAG_FLAGS, type
                                               4). */
 };
+#define SOCKDIAG_NETLINK_DETAILS_SIZE_1_0 136
+
+uint32_t sockdiag_netlink_fill_details(const uint8_t *payload, size_t length,
+                                       struct sockdiag_netlink_details *details, uint8_t *later,
+                                       size_t later_length);
 
 /*
  * Parses a reply about a netlink socket. Returns 0, or the code of its first error; then the
  * details are unchanged. Linux 6.18 lists a netlink socket twice if it is a member of a group.
  */
-uint32_t sockdiag_netlink_get_details(const uint8_t *payload, size_t length,
-                                      struct sockdiag_netlink_details *details);
+static inline uint32_t sockdiag_netlink_get_details(const uint8_t *payload, size_t length,
+                                                    struct sockdiag_netlink_details *details,
+                                                    size_t size)
+{
+    if (size < SOCKDIAG_NETLINK_DETAILS_SIZE_1_0)
+        return SOCKDIAG_INVALID_ARGUMENT;
+    return sockdiag_netlink_fill_details(
+        payload, length, details, (uint8_t *)details + SOCKDIAG_NETLINK_DETAILS_SIZE_1_0,
+        size - SOCKDIAG_NETLINK_DETAILS_SIZE_1_0);
+}
 
 /* The header of a reply about a packet socket: struct packet_diag_msg of linux/packet_diag.h. */
 struct sockdiag_packet_header {
@@ -1116,13 +1168,26 @@ struct sockdiag_packet_details {
                                                  struct sock_filter (PACKET_DIAG_FILTER, type 7).
                                                  The kind of the text is SOCKDIAG_BYTES. */
 };
+#define SOCKDIAG_PACKET_DETAILS_SIZE_1_0 248
+
+uint32_t sockdiag_packet_fill_details(const uint8_t *payload, size_t length,
+                                      struct sockdiag_packet_details *details, uint8_t *later,
+                                      size_t later_length);
 
 /*
  * Parses a reply about a packet socket. Returns 0, or the code of its first error; then the details
  * are unchanged.
  */
-uint32_t sockdiag_packet_get_details(const uint8_t *payload, size_t length,
-                                     struct sockdiag_packet_details *details);
+static inline uint32_t sockdiag_packet_get_details(const uint8_t *payload, size_t length,
+                                                   struct sockdiag_packet_details *details,
+                                                   size_t size)
+{
+    if (size < SOCKDIAG_PACKET_DETAILS_SIZE_1_0)
+        return SOCKDIAG_INVALID_ARGUMENT;
+    return sockdiag_packet_fill_details(
+        payload, length, details, (uint8_t *)details + SOCKDIAG_PACKET_DETAILS_SIZE_1_0,
+        size - SOCKDIAG_PACKET_DETAILS_SIZE_1_0);
+}
 
 /*
  * The header of a reply about a vsock socket: struct vsock_diag_msg of linux/vm_sockets_diag.h.
@@ -1143,13 +1208,26 @@ struct sockdiag_vsock_header {
     uint64_t cookie;              /* Cookie that distinguishes sockets with the same inode number
                                      (vdiag_cookie), at offset 24. */
 };
+#define SOCKDIAG_VSOCK_HEADER_SIZE_1_0 32
+
+uint32_t sockdiag_vsock_fill_details(const uint8_t *payload, size_t length,
+                                     struct sockdiag_vsock_header *details, uint8_t *later,
+                                     size_t later_length);
 
 /*
  * Parses a reply about a vsock socket. Returns 0, or the code of its first error; then the header
  * is unchanged. Linux sends no attributes: of bytes after the header only the framing is checked.
  */
-uint32_t sockdiag_vsock_get_details(const uint8_t *payload, size_t length,
-                                    struct sockdiag_vsock_header *details);
+static inline uint32_t sockdiag_vsock_get_details(const uint8_t *payload, size_t length,
+                                                  struct sockdiag_vsock_header *details,
+                                                  size_t size)
+{
+    if (size < SOCKDIAG_VSOCK_HEADER_SIZE_1_0)
+        return SOCKDIAG_INVALID_ARGUMENT;
+    return sockdiag_vsock_fill_details(
+        payload, length, details, (uint8_t *)details + SOCKDIAG_VSOCK_HEADER_SIZE_1_0,
+        size - SOCKDIAG_VSOCK_HEADER_SIZE_1_0);
+}
 
 /* The header of a reply about an XDP socket: struct xdp_diag_msg of linux/xdp_diag.h. */
 struct sockdiag_xdp_header {
@@ -1227,13 +1305,25 @@ struct sockdiag_xdp_details {
     struct sockdiag_xdp_statistics statistics; /* Counters of the socket (XDP_DIAG_STATS, type
                                                   9). */
 };
+#define SOCKDIAG_XDP_DETAILS_SIZE_1_0 240
+
+uint32_t sockdiag_xdp_fill_details(const uint8_t *payload, size_t length,
+                                   struct sockdiag_xdp_details *details, uint8_t *later,
+                                   size_t later_length);
 
 /*
  * Parses a reply about an XDP socket. Returns 0, or the code of its first error; then the details
  * are unchanged.
  */
-uint32_t sockdiag_xdp_get_details(const uint8_t *payload, size_t length,
-                                  struct sockdiag_xdp_details *details);
+static inline uint32_t sockdiag_xdp_get_details(const uint8_t *payload, size_t length,
+                                                struct sockdiag_xdp_details *details, size_t size)
+{
+    if (size < SOCKDIAG_XDP_DETAILS_SIZE_1_0)
+        return SOCKDIAG_INVALID_ARGUMENT;
+    return sockdiag_xdp_fill_details(
+        payload, length, details, (uint8_t *)details + SOCKDIAG_XDP_DETAILS_SIZE_1_0,
+        size - SOCKDIAG_XDP_DETAILS_SIZE_1_0);
+}
 
 /* ---- lenient calls
  *
@@ -1278,13 +1368,31 @@ struct sockdiag_rejections {
                            bytes of the attribute. */
 };
 
+uint32_t sockdiag_unix_fill_lenient_details(const uint8_t *payload, size_t length,
+                                            struct sockdiag_unix_details *details, uint8_t *later,
+                                            size_t later_length,
+                                            struct sockdiag_rejections *rejections);
+
 /*
  * Parses a reply about a UNIX socket leniently. Returns 0, or the code of the error of its header;
  * then details and rejections are unchanged.
  */
-uint32_t sockdiag_unix_get_lenient_details(const uint8_t *payload, size_t length,
-                                           struct sockdiag_unix_details *details,
-                                           struct sockdiag_rejections *rejections);
+static inline uint32_t sockdiag_unix_get_lenient_details(const uint8_t *payload, size_t length,
+                                                         struct sockdiag_unix_details *details,
+                                                         size_t size,
+                                                         struct sockdiag_rejections *rejections)
+{
+    if (size < SOCKDIAG_UNIX_DETAILS_SIZE_1_0)
+        return SOCKDIAG_INVALID_ARGUMENT;
+    return sockdiag_unix_fill_lenient_details(
+        payload, length, details, (uint8_t *)details + SOCKDIAG_UNIX_DETAILS_SIZE_1_0,
+        size - SOCKDIAG_UNIX_DETAILS_SIZE_1_0, rejections);
+}
+
+uint32_t sockdiag_inet_fill_lenient_details(const uint8_t *payload, size_t length,
+                                            struct sockdiag_inet_details *details, uint8_t *later,
+                                            size_t later_length,
+                                            struct sockdiag_rejections *rejections);
 
 /*
  * Parses a reply about an IPv4 or IPv6 socket leniently. Returns 0, or the code of the error of its
@@ -1292,24 +1400,63 @@ uint32_t sockdiag_unix_get_lenient_details(const uint8_t *payload, size_t length
  * of MPTCP, is in the rejections: sockdiag_inet_get_tcp_info and sockdiag_inet_get_mptcp_info
  * return a value of any length.
  */
-uint32_t sockdiag_inet_get_lenient_details(const uint8_t *payload, size_t length,
-                                           struct sockdiag_inet_details *details,
-                                           struct sockdiag_rejections *rejections);
+static inline uint32_t sockdiag_inet_get_lenient_details(const uint8_t *payload, size_t length,
+                                                         struct sockdiag_inet_details *details,
+                                                         size_t size,
+                                                         struct sockdiag_rejections *rejections)
+{
+    if (size < SOCKDIAG_INET_DETAILS_SIZE_1_0)
+        return SOCKDIAG_INVALID_ARGUMENT;
+    return sockdiag_inet_fill_lenient_details(
+        payload, length, details, (uint8_t *)details + SOCKDIAG_INET_DETAILS_SIZE_1_0,
+        size - SOCKDIAG_INET_DETAILS_SIZE_1_0, rejections);
+}
+
+uint32_t sockdiag_netlink_fill_lenient_details(const uint8_t *payload, size_t length,
+                                               struct sockdiag_netlink_details *details,
+                                               uint8_t *later, size_t later_length,
+                                               struct sockdiag_rejections *rejections);
 
 /*
  * Parses a reply about a netlink socket leniently. Returns 0, or the code of the error of its
  * header; then details and rejections are unchanged.
  */
-uint32_t sockdiag_netlink_get_lenient_details(const uint8_t *payload, size_t length,
-                                              struct sockdiag_netlink_details *details,
+static inline uint32_t sockdiag_netlink_get_lenient_details(const uint8_t *payload, size_t length,
+                                                            struct sockdiag_netlink_details *details,
+                                                            size_t size,
+                                                            struct sockdiag_rejections *rejections)
+{
+    if (size < SOCKDIAG_NETLINK_DETAILS_SIZE_1_0)
+        return SOCKDIAG_INVALID_ARGUMENT;
+    return sockdiag_netlink_fill_lenient_details(
+        payload, length, details, (uint8_t *)details + SOCKDIAG_NETLINK_DETAILS_SIZE_1_0,
+        size - SOCKDIAG_NETLINK_DETAILS_SIZE_1_0, rejections);
+}
+
+uint32_t sockdiag_packet_fill_lenient_details(const uint8_t *payload, size_t length,
+                                              struct sockdiag_packet_details *details,
+                                              uint8_t *later, size_t later_length,
                                               struct sockdiag_rejections *rejections);
 
 /*
  * Parses a reply about a packet socket leniently. Returns 0, or the code of the error of its
  * header; then details and rejections are unchanged.
  */
-uint32_t sockdiag_packet_get_lenient_details(const uint8_t *payload, size_t length,
-                                             struct sockdiag_packet_details *details,
+static inline uint32_t sockdiag_packet_get_lenient_details(const uint8_t *payload, size_t length,
+                                                           struct sockdiag_packet_details *details,
+                                                           size_t size,
+                                                           struct sockdiag_rejections *rejections)
+{
+    if (size < SOCKDIAG_PACKET_DETAILS_SIZE_1_0)
+        return SOCKDIAG_INVALID_ARGUMENT;
+    return sockdiag_packet_fill_lenient_details(
+        payload, length, details, (uint8_t *)details + SOCKDIAG_PACKET_DETAILS_SIZE_1_0,
+        size - SOCKDIAG_PACKET_DETAILS_SIZE_1_0, rejections);
+}
+
+uint32_t sockdiag_vsock_fill_lenient_details(const uint8_t *payload, size_t length,
+                                             struct sockdiag_vsock_header *details, uint8_t *later,
+                                             size_t later_length,
                                              struct sockdiag_rejections *rejections);
 
 /*
@@ -1317,17 +1464,38 @@ uint32_t sockdiag_packet_get_lenient_details(const uint8_t *payload, size_t leng
  * then header and rejections are unchanged. The only rejection can be the framing error of bytes
  * after the header.
  */
-uint32_t sockdiag_vsock_get_lenient_details(const uint8_t *payload, size_t length,
-                                            struct sockdiag_vsock_header *details,
-                                            struct sockdiag_rejections *rejections);
+static inline uint32_t sockdiag_vsock_get_lenient_details(const uint8_t *payload, size_t length,
+                                                          struct sockdiag_vsock_header *details,
+                                                          size_t size,
+                                                          struct sockdiag_rejections *rejections)
+{
+    if (size < SOCKDIAG_VSOCK_HEADER_SIZE_1_0)
+        return SOCKDIAG_INVALID_ARGUMENT;
+    return sockdiag_vsock_fill_lenient_details(
+        payload, length, details, (uint8_t *)details + SOCKDIAG_VSOCK_HEADER_SIZE_1_0,
+        size - SOCKDIAG_VSOCK_HEADER_SIZE_1_0, rejections);
+}
+
+uint32_t sockdiag_xdp_fill_lenient_details(const uint8_t *payload, size_t length,
+                                           struct sockdiag_xdp_details *details, uint8_t *later,
+                                           size_t later_length,
+                                           struct sockdiag_rejections *rejections);
 
 /*
  * Parses a reply about an XDP socket leniently. Returns 0, or the code of the error of its header;
  * then details and rejections are unchanged.
  */
-uint32_t sockdiag_xdp_get_lenient_details(const uint8_t *payload, size_t length,
-                                          struct sockdiag_xdp_details *details,
-                                          struct sockdiag_rejections *rejections);
+static inline uint32_t sockdiag_xdp_get_lenient_details(const uint8_t *payload, size_t length,
+                                                        struct sockdiag_xdp_details *details,
+                                                        size_t size,
+                                                        struct sockdiag_rejections *rejections)
+{
+    if (size < SOCKDIAG_XDP_DETAILS_SIZE_1_0)
+        return SOCKDIAG_INVALID_ARGUMENT;
+    return sockdiag_xdp_fill_lenient_details(
+        payload, length, details, (uint8_t *)details + SOCKDIAG_XDP_DETAILS_SIZE_1_0,
+        size - SOCKDIAG_XDP_DETAILS_SIZE_1_0, rejections);
+}
 
 /* ---- checks without details */
 
@@ -1391,13 +1559,13 @@ struct sockdiag_attribute {
 /*
  * Stores the attribute at the cursor, and advances the cursor past it and its padding. The value of
  * the attribute is not checked. Returns one of:
- * - 1 if an attribute was stored;
- * - 0 if no bytes are left, and then nothing is written;
+ * - SOCKDIAG_ITEM if an attribute was stored;
+ * - SOCKDIAG_END if no bytes are left, and then nothing is written;
  * - the code of the framing error at the cursor, 7 to 9; then the attribute is unchanged, and no
  *   bytes are left.
  *
- * In a checked reply, starting at the end of its header, the return value is 1 for each attribute,
- * in order, and then 0.
+ * In a checked reply, starting at the end of its header, the calls return each attribute, in order,
+ * and then SOCKDIAG_END.
  */
 uint32_t sockdiag_next_attribute(const uint8_t *bytes, size_t length,
                                  struct sockdiag_cursor *cursor,
@@ -1426,9 +1594,9 @@ struct sockdiag_message {
 /*
  * Stores the message at the cursor, and advances the cursor past it and its padding. Returns one
  * of:
- * - 1 if the message has one of the four NLMSG_.. types, or is a reply that sockdiag_check_message
- *   accepts;
- * - 0 if no bytes are left, and then nothing is written;
+ * - SOCKDIAG_ITEM if the message has one of the four NLMSG_.. types, or is a reply that
+ *   sockdiag_check_message accepts;
+ * - SOCKDIAG_END if no bytes are left, and then nothing is written;
  * - the code of the first error of the payload of a message of any other type; the message is set,
  *   and the iteration may continue;
  * - the code of the framing error at the cursor, 16 to 18; then the message is unchanged, and no
@@ -1444,8 +1612,8 @@ uint32_t sockdiag_next_message(const uint8_t *datagram, size_t length,
 /*
  * Stores the message at the cursor, and advances the cursor past it and its padding. Returns one
  * of:
- * - 1 if a message was stored, whatever its type and its payload;
- * - 0 if no bytes are left, and then nothing is written;
+ * - SOCKDIAG_ITEM if a message was stored, whatever its type and its payload;
+ * - SOCKDIAG_END if no bytes are left, and then nothing is written;
  * - the code of the framing error at the cursor, 16 to 18; then the message is unchanged, and no
  *   bytes are left. The rest of the datagram is lost, and with it possibly the end of the dump:
  *   request the dump again, on another socket, instead of waiting for its end.
@@ -1460,8 +1628,8 @@ uint32_t sockdiag_next_any_message(const uint8_t *datagram, size_t length,
 
 /*
  * Stores the error number at the start of the payload of an NLMSG_ERROR or NLMSG_DONE: 0 for
- * success, else -errno. Returns 1; or 0 if the payload has fewer than four bytes, and then the
- * number is unchanged.
+ * success, else -errno. If the payload has fewer than four bytes, the error is
+ * SOCKDIAG_WRONG_LENGTH.
  *
  * An NLMSG_ERROR with 0 is an acknowledgement. A dump that failed also ends with NLMSG_DONE, so
  * look at the number there too. A kernel that lacks the protocol answers a request for it with
@@ -1477,13 +1645,11 @@ uint32_t sockdiag_get_error_number(const uint8_t *payload, size_t length, int32_
  * with the same bytes and this cursor. The kernel sends them to a socket with the option
  * NETLINK_EXT_ACK.
  *
- * Returns 1 if the cursor was set. If the flags lack NLM_F_ACK_TLVS, there are no attributes, and
- * no bytes are left after the cursor. Returns 0 if the cursor is unchanged, for one of these
- * reasons:
- * - The message has another type.
- * - An NLMSG_DONE has fewer than 4 bytes.
- * - An NLMSG_ERROR has fewer than 20 bytes, or does not contain the whole request although it
- *   should.
+ * If the flags lack NLM_F_ACK_TLVS, there are no attributes, and no bytes are left after the
+ * cursor. The errors, after which the cursor is unchanged, are:
+ * - SOCKDIAG_UNKNOWN_MESSAGE_TYPE: the message has another type;
+ * - SOCKDIAG_WRONG_LENGTH: an NLMSG_DONE has fewer than 4 bytes; or an NLMSG_ERROR has fewer than
+ *   20 bytes, or does not contain the whole request although it should.
  */
 uint32_t sockdiag_find_error_attributes(const uint8_t *payload, size_t length,
                                         uint16_t message_type, uint16_t flags,
@@ -1529,10 +1695,8 @@ uint32_t sockdiag_ends_answer(const struct sockdiag_message *message);
  */
 
 /*
- * Stores the inode at the cursor, and advances the cursor by its 4 bytes. The bytes are the value
- * of UNIX_DIAG_ICONS: the inodes of the sockets that connected to a UNIX socket, and were not yet
- * accepted; 0 for one that was closed since. Returns 1; or 0 if fewer bytes are left, and then
- * nothing is written. The time for a whole list is proportional to its length.
+ * Iterates over the inodes, of 4 bytes each, in the value of UNIX_DIAG_ICONS: of the sockets that
+ * connected to a UNIX socket, and were not yet accepted; 0 for one that was closed since.
  */
 uint32_t sockdiag_next_pending(const uint8_t *value, size_t length, struct sockdiag_cursor *cursor,
                                uint32_t *inode);
@@ -1550,8 +1714,8 @@ struct sockdiag_vegas_info {
 };
 
 /*
- * Stores the measurements of TCP Vegas and of similar algorithms: the value of INET_DIAG_VEGASINFO,
- * at least 16 bytes. Returns 1; or 0 if the value is shorter, and then the struct is unchanged.
+ * Stores the measurements of TCP Vegas and of similar algorithms: the value of INET_DIAG_VEGASINFO.
+ * If it has fewer than 16 bytes, the error is SOCKDIAG_WRONG_LENGTH.
  */
 uint32_t sockdiag_get_vegas_info(const uint8_t *value, size_t length,
                                  struct sockdiag_vegas_info *info);
@@ -1572,8 +1736,8 @@ struct sockdiag_dctcp_info {
 };
 
 /*
- * Stores the measurements of DCTCP: the value of INET_DIAG_DCTCPINFO, at least 16 bytes. Returns 1;
- * or 0 if the value is shorter, and then the struct is unchanged.
+ * Stores the measurements of DCTCP: the value of INET_DIAG_DCTCPINFO. If it has fewer than 16
+ * bytes, the error is SOCKDIAG_WRONG_LENGTH.
  */
 uint32_t sockdiag_get_dctcp_info(const uint8_t *value, size_t length,
                                  struct sockdiag_dctcp_info *info);
@@ -1590,8 +1754,8 @@ struct sockdiag_bbr_info {
 };
 
 /*
- * Stores the measurements of BBR: the value of INET_DIAG_BBRINFO, at least 20 bytes. Returns 1; or
- * 0 if the value is shorter, and then the struct is unchanged.
+ * Stores the measurements of BBR: the value of INET_DIAG_BBRINFO. If it has fewer than 20 bytes,
+ * the error is SOCKDIAG_WRONG_LENGTH.
  */
 uint32_t sockdiag_get_bbr_info(const uint8_t *value, size_t length, struct sockdiag_bbr_info *info);
 
@@ -1614,9 +1778,8 @@ struct sockdiag_md5_signature {
 };
 
 /*
- * Stores the MD5 signature key at the cursor, and advances the cursor by its 100 bytes. The bytes
- * are the value of INET_DIAG_MD5SIG, an array of such keys. Returns 1; or 0 if fewer bytes are
- * left, and then nothing is written. The kernel sends keys only to processes with CAP_NET_ADMIN.
+ * Iterates over the MD5 signature keys, of 100 bytes each, in the value of INET_DIAG_MD5SIG. The
+ * kernel sends keys only to processes with CAP_NET_ADMIN.
  */
 uint32_t sockdiag_next_md5_signature(const uint8_t *value, size_t length,
                                      struct sockdiag_cursor *cursor,
@@ -1644,9 +1807,8 @@ struct sockdiag_stored_address {
 };
 
 /*
- * Stores the address at the cursor, and advances the cursor by its 128 bytes. The bytes are the
- * value of INET_DIAG_LOCALS or INET_DIAG_PEERS, an array of the addresses of an SCTP association.
- * Returns 1; or 0 if fewer bytes are left, and then nothing is written.
+ * Iterates over the addresses of an SCTP association, of 128 bytes each, in the value of
+ * INET_DIAG_LOCALS or INET_DIAG_PEERS.
  */
 uint32_t sockdiag_next_address(const uint8_t *value, size_t length, struct sockdiag_cursor *cursor,
                                struct sockdiag_stored_address *address);
@@ -1693,8 +1855,8 @@ struct sockdiag_error_details {
                                     (SOCKDIAG_RECORD_FAMILY_ATTRIBUTE). Not set for other
                                     records, such as memory counters. */
     size_t got;                  /* Number of bytes that were found: of the record, value or
-                                    message; or, for an attribute whose header or length field is
-                                    invalid, up to the end. */
+                                    message; or, for an attribute whose header is cut or whose
+                                    length field is too large, up to the end. */
     size_t need;                 /* Number of bytes that are needed. */
     size_t length;               /* Length field of the attribute or of the message. */
     size_t index;                /* Index of the first NUL in a pathname
@@ -1722,7 +1884,7 @@ struct sockdiag_error_details {
  *   sockdiag_next_any_message rejects;
  * - SOCKDIAG_EXPLAIN_UNIX_ATTRIBUTE or SOCKDIAG_EXPLAIN_INET_ATTRIBUTE: a part of a reply that
  *   begins with the attribute, which a lenient call rejects. No bytes are accepted;
- * - any other number: returns 0.
+ * - any other number: returns SOCKDIAG_INVALID_ARGUMENT.
  */
 uint32_t sockdiag_explain(uint32_t what, const uint8_t *bytes, size_t length,
                           struct sockdiag_error_details *error);
@@ -1812,24 +1974,24 @@ struct sockdiag_inet_request {
 #define SOCKDIAG_UNIX_REQUEST_LENGTH 40
 #define SOCKDIAG_INET_REQUEST_LENGTH 80
 
-/* Writes a request for UNIX sockets: 40 bytes. Returns 40, or 0 if the buffer is shorter. */
-size_t sockdiag_write_unix_request(const struct sockdiag_unix_request *request, uint8_t *buffer,
-                                   size_t length);
+/* Writes a request for UNIX sockets: 40 bytes. */
+uint32_t sockdiag_write_unix_request(const struct sockdiag_unix_request *request, uint8_t *buffer,
+                                     size_t length, size_t *written);
 
 /*
- * Writes a request for IPv4 or IPv6 sockets: 72 bytes, or 80 if the protocol is above 255. Returns
- * this number; or 0 if the buffer is shorter, or if the family is neither AF_INET nor AF_INET6.
+ * Writes a request for IPv4 or IPv6 sockets: 72 bytes, or 80 if the protocol is above 255. A family
+ * other than AF_INET and AF_INET6 is SOCKDIAG_UNSUPPORTED_FAMILY.
  */
-size_t sockdiag_write_inet_request(const struct sockdiag_inet_request *request, uint8_t *buffer,
-                                   size_t length);
+uint32_t sockdiag_write_inet_request(const struct sockdiag_inet_request *request, uint8_t *buffer,
+                                     size_t length, size_t *written);
 
 /*
  * Writes a request for the kernel to close the selected IPv4 or IPv6 sockets, of type SOCK_DESTROY,
  * and else as sockdiag_write_inet_request. The flags are NLM_F_REQUEST, and NLM_F_ACK to have
  * success acknowledged. Linux closes TCP, UDP and raw sockets if the caller has CAP_NET_ADMIN.
  */
-size_t sockdiag_write_inet_destroy(const struct sockdiag_inet_request *request, uint8_t *buffer,
-                                   size_t length);
+uint32_t sockdiag_write_inet_destroy(const struct sockdiag_inet_request *request, uint8_t *buffer,
+                                     size_t length, size_t *written);
 
 /*
  * A request for netlink, packet or XDP sockets: struct netlink_diag_req, packet_diag_req or
@@ -1868,42 +2030,31 @@ struct sockdiag_vsock_request {
 #define SOCKDIAG_VSOCK_REQUEST_LENGTH 40
 
 /*
- * Writes a request for netlink, packet or XDP sockets: 36 bytes. Returns 36; or 0 if the buffer is
- * shorter, or if the family is none of AF_NETLINK, AF_PACKET and AF_XDP.
+ * Writes a request for netlink, packet or XDP sockets: 36 bytes. A family other than AF_NETLINK,
+ * AF_PACKET and AF_XDP is SOCKDIAG_UNKNOWN_FAMILY.
  */
-size_t sockdiag_write_show_request(const struct sockdiag_show_request *request, uint8_t *buffer,
-                                   size_t length);
+uint32_t sockdiag_write_show_request(const struct sockdiag_show_request *request, uint8_t *buffer,
+                                     size_t length, size_t *written);
 
-/* Writes a request for vsock sockets: 40 bytes. Returns 40, or 0 if the buffer is shorter. */
-size_t sockdiag_write_vsock_request(const struct sockdiag_vsock_request *request, uint8_t *buffer,
-                                    size_t length);
-
-/*
- * Outcome of a call that writes bytes derived from the caller's bytes. It is set in any case. If
- * nothing was written, it says why: the caller's bytes are rejected (error is not 0), they are too
- * long for a length field (both are 0), or the buffer is shorter than needed.
- */
-struct sockdiag_outcome {
-    uint32_t error; /* Code of the first error if the caller's bytes are rejected, else 0. */
-    size_t needed;  /* Number of bytes to write; 0 if the caller's bytes are rejected, or cannot
-                       be serialized. */
-};
+/* Writes a request for vsock sockets: 40 bytes. */
+uint32_t sockdiag_write_vsock_request(const struct sockdiag_vsock_request *request, uint8_t *buffer,
+                                      size_t length, size_t *written);
 
 /*
  * Writes a request as sockdiag_write_inet_request does, followed by the attributes and by zeros up
- * to a multiple of 4. Returns the number of bytes that were written, or 0: see outcome. The bytes
- * have to be a sequence of complete attributes, whose values are not checked. If the family is
- * neither AF_INET nor AF_INET6, outcome.error is SOCKDIAG_UNSUPPORTED_FAMILY.
+ * to a multiple of 4. The bytes have to be a sequence of complete attributes, whose values are not
+ * checked: else the error is that of their framing. SOCKDIAG_TOO_LONG is returned for attributes of
+ * 4 GiB.
  *
  * One such attribute is the bytecode of a filter, INET_DIAG_REQ_BYTECODE, which the kernel runs on
  * each socket. It answers with -EINVAL if a jump of the filter leads into the middle of an
  * operation, or more than 4 bytes past the end, and with -EPERM if the filter has an
  * INET_DIAG_BC_MARK_COND and the caller lacks CAP_NET_ADMIN.
  */
-size_t sockdiag_write_inet_request_with_attributes(const struct sockdiag_inet_request *request,
-                                                   const uint8_t *attributes, size_t length,
-                                                   uint8_t *buffer, size_t buffer_length,
-                                                   struct sockdiag_outcome *outcome);
+uint32_t sockdiag_write_inet_request_with_attributes(const struct sockdiag_inet_request *request,
+                                                     const uint8_t *attributes, size_t length,
+                                                     uint8_t *buffer, size_t buffer_length,
+                                                     size_t *written);
 
 /* ---- the canonical form
  *
@@ -1914,18 +2065,19 @@ size_t sockdiag_write_inet_request_with_attributes(const struct sockdiag_inet_re
  */
 
 /*
- * Writes the canonical form of a reply about a UNIX socket. Returns the number of bytes that were
- * written, or 0: see outcome.
+ * Writes the canonical form of a reply about a UNIX socket. The errors are SOCKDIAG_NO_SPACE,
+ * SOCKDIAG_TOO_LONG if an attribute or the reply is too long to be serialized, and the first error
+ * of the reply.
  */
-size_t sockdiag_rewrite_unix_reply(const uint8_t *payload, size_t length, uint8_t *buffer,
-                                   size_t buffer_length, struct sockdiag_outcome *outcome);
+uint32_t sockdiag_rewrite_unix_reply(const uint8_t *payload, size_t length, uint8_t *buffer,
+                                     size_t buffer_length, size_t *written);
 
 /*
- * Writes the canonical form of a reply about an IPv4 or IPv6 socket. Returns the number of bytes
- * that were written, or 0: see outcome.
+ * Writes the canonical form of a reply about an IPv4 or IPv6 socket. The errors are those of
+ * sockdiag_rewrite_unix_reply.
  */
-size_t sockdiag_rewrite_inet_reply(const uint8_t *payload, size_t length, uint8_t *buffer,
-                                   size_t buffer_length, struct sockdiag_outcome *outcome);
+uint32_t sockdiag_rewrite_inet_reply(const uint8_t *payload, size_t length, uint8_t *buffer,
+                                     size_t buffer_length, size_t *written);
 
 #ifdef __cplusplus
 }

@@ -1,33 +1,13 @@
 //! Checks of borrowed replies.
 
-ghost use Rattle.std.specs.Prelude.{◌≡◌, MatchResult};
-ghost use Rattle.netlink_core.specs.Errors.{error_code};
 ghost use Rattle.sockdiag_c.specs.Answers.{IsCheckResult};
 ghost use Rattle.sockdiag_c.specs.Headers.{inet_check, message_check, unix_check};
 
 use crate::headers::{INET, InetHeader, Reply, UNIX, UnixHeader, inet_header};
-use netlink_core::DecodeError;
+use crate::results::{OK, store_parsed};
 use netlink_packet_sock_diag::SockDiagView;
 use netlink_packet_sock_diag::inet::InetResponseView;
 use netlink_packet_sock_diag::unix::UnixResponseView;
-
-/// Return value of a check that accepts the bytes.
-pub(crate) const OK: u32 = 0;
-
-/// Stores the parsed value in the target, and returns 0. If it was rejected, returns the code of
-/// the error; then the target is unchanged.
-pub(crate) fn store_parsed<T: Copy>(parsed: Result<T, DecodeError>, target: &mut T) -> u32
-    ensures { MatchResult parsed (λ found. (result ≡ 0) × (target.new ≡ found))
-        (λ e. (result ≡ error_code e) × (target.new ≡ target.old)) }
-{
-    match parsed {
-        Ok(found) => {
-            *target = found;
-            OK
-        }
-        Err(error) => u32::from(error.number()),
-    }
-}
 
 /// Checks a reply about a UNIX socket, as `sockdiag_unix_get_details` does, and returns its header
 /// only. Returns 0, or the code of the first error; then the header is unchanged.

@@ -14,10 +14,10 @@ ghost use Rattle.sockdiag_c.specs.ExplainedReplies.{IsReplyExplained};
 ghost use Rattle.sockdiag_c.specs.ErrorDetails.{record_code, record_family, record_kind};
 ghost use Rattle.sockdiag_c.specs.Family.{AreDetailsOf, IsFirstError};
 
-use crate::check::OK;
 use crate::details::{Number, ReplyDetails, strict_details};
 use crate::netlink_details::NetlinkDetails;
 use crate::packet_details::PacketDetails;
+use crate::results::{INVALID_ARGUMENT, OK};
 use crate::xdp_details::XdpDetails;
 use netlink_core::{DecodeError, FamilyView, NetlinkHeader, NlasIterator, RecordName};
 use netlink_packet_sock_diag::constants::{AF_INET, AF_INET6, AF_UNIX, SOCK_DIAG_BY_FAMILY};
@@ -60,7 +60,7 @@ pub struct ErrorDetails {
     /// as memory counters.
     pub kind: Number,
     /// Number of bytes that were found: of the record, value or message; or, for an attribute whose
-    /// header or length field is invalid, up to the end.
+    /// header is cut or whose length field is too large, up to the end.
     pub got: usize,
     /// Number of bytes that are needed.
     pub need: usize,
@@ -165,10 +165,10 @@ fn explain<T: Drop>(parsed: Result<T, DecodeError>, error: &mut ErrorDetails) ->
 ///   `sockdiag_next_any_message` rejects;
 /// - `SOCKDIAG_EXPLAIN_UNIX_ATTRIBUTE` or `SOCKDIAG_EXPLAIN_INET_ATTRIBUTE`: a part of a reply that
 ///   begins with the attribute, which a lenient call rejects. No bytes are accepted;
-/// - any other number: returns 0.
+/// - any other number: returns `SOCKDIAG_INVALID_ARGUMENT`.
 #[unsafe(no_mangle)]
 pub extern "C" fn sockdiag_explain(what: u32, bytes: &[u8], error: &mut ErrorDetails) -> u32
-    ensures reply { what < 256 → IsReplyExplained what bytes.now
+    ensures reply { what < EXPLAIN_MESSAGE → IsReplyExplained what bytes.now
         record { old = error.old; new = error.new; returned = result } }
     ensures message { what ≡ EXPLAIN_MESSAGE
         → IsExplained (message_codec.parses bytes.now SOCK_DIAG_BY_FAMILY)
@@ -183,15 +183,16 @@ pub extern "C" fn sockdiag_explain(what: u32, bytes: &[u8], error: &mut ErrorDet
     ensures inet_attribute { what ≡ EXPLAIN_INET_ATTRIBUTE
         → IsItemExplained inet_attribute_set bytes.now
         record { old = error.old; new = error.new; returned = result } }
-    ensures other { EXPLAIN_INET_ATTRIBUTE < what → (result ≡ 0) × (error.new ≡ error.old) }
+    ensures other { EXPLAIN_INET_ATTRIBUTE < what
+        → (result ≡ INVALID_ARGUMENT) × (error.new ≡ error.old) }
 {
     match what {
         EXPLAIN_MESSAGE => explain_message(bytes, error),
         EXPLAIN_DATAGRAM => explain_datagram(bytes, error),
         EXPLAIN_UNIX_ATTRIBUTE => explain_item::<UnixNlaView<'_>>(bytes, error),
         EXPLAIN_INET_ATTRIBUTE => explain_item::<InetNlaView<'_>>(bytes, error),
-        _ if what < 256 => explain_reply(what as u8, bytes, error),
-        _ => OK,
+        _ if what < EXPLAIN_MESSAGE => explain_reply(what as u8, bytes, error),
+        _ => INVALID_ARGUMENT,
     }
 }
 

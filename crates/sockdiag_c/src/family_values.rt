@@ -1,5 +1,5 @@
-//! Memory counters and records as C structs; and helpers that split a header off a payload, decode
-//! an attribute, and store a value for C. In the contracts `o` is the value before a call, or None.
+//! Memory counters and records as C structs; and helpers that split a header off a payload, and
+//! reject an attribute. In the contracts `o` is the value before a call, or None.
 
 ghost use Rattle.std.specs.Prelude.{◌≡◌, drop, IfErr, IfOk, Ok, Err, Option, Some};
 ghost use Rattle.std.specs.Option.{option_or};
@@ -8,12 +8,10 @@ ghost use Rattle.netlink_core.specs.Layout.{parse_record};
 ghost use Rattle.netlink_core.specs.Walk.{buffered_attribute};
 ghost use Rattle.sock_diag_values.specs.declared.inet.mem_info.MemInfo.{MemInfo as MemInfoModel};
 ghost use Rattle.sock_diag_extras.specs.AnyNla.{any_model, read_any};
-ghost use Rattle.sockdiag_c.specs.Answers.{IsGetterResult};
 ghost use Rattle.sockdiag_c.specs.CheckedKinds.{rejected_if};
 ghost use Rattle.sockdiag_c.specs.Details.{memory_struct, optional_number, optional_record};
 
 use crate::details::Number;
-use crate::walks::{END, ITEM};
 use netlink_core::{DecodeError, NlaBuffer, Record, read_record};
 use sock_diag_extras::any::{AnyNla, Sockets};
 use sock_diag_values::inet::MemInfo;
@@ -111,21 +109,6 @@ pub(crate) fn reject<'a>(
         Err(error)
     } else {
         Ok(AnyNla::Unknown(*nla))
-    }
-}
-
-/// Stores the record, if there is one. Returns 1, or 0 if there is none; then the target is
-/// unchanged.
-pub(crate) fn store<T: Copy>(found: Option<T>, target: &mut T) -> u32
-    ensures { IsGetterResult found
-        record { old = target.old; new = target.new; returned = result } }
-{
-    match found {
-        Some(item) => {
-            *target = item;
-            ITEM
-        }
-        None => END,
     }
 }
 

@@ -6,7 +6,7 @@ ghost use Rattle.netlink_core.specs.Attribute.{Attribute, attribute_kind};
 ghost use Rattle.sock_diag_attributes.specs.InetAttributes.{inet_attribute_set};
 ghost use Rattle.sock_diag_extras.specs.AnyAgreement.{has_kind};
 ghost use Rattle.sock_diag_extras.specs.AnyNla.{any_model};
-ghost use Rattle.sockdiag_c.specs.Family.{AreDetailsOf, IsCodeOf, IsFirstError};
+ghost use Rattle.sockdiag_c.specs.Family.{StoresDetails};
 ghost use Rattle.sockdiag_c.specs.InetDetails.{inet_family, legacy_memory_struct};
 
 use crate::details::{Number, ReplyDetails, TEXT, Text, store_details};
@@ -82,15 +82,18 @@ const _: () = prove!(std::mem::size_of::<InetDetails<'static>>() == 264);
 /// details are unchanged. `INET_DIAG_INFO` is checked, and not returned:
 /// `sockdiag_inet_get_tcp_info` returns it.
 #[unsafe(no_mangle)]
-pub extern "C" fn sockdiag_inet_get_details<'a>(
+pub extern "C" fn sockdiag_inet_fill_details<'a>(
     payload: &'a [u8],
     details: &mut InetDetails<'a>,
+    later: &mut [u8],
 ) -> u32
-    ensures details { result ≡ 0 → AreDetailsOf inet_family payload.entry.now details.new }
-    ensures error { result ≢ 0 → IsCodeOf (IsFirstError inet_family payload.entry.now) result }
-    ensures unchanged { result ≢ 0 → details.new ≡ details.old }
+    ensures { StoresDetails inet_family payload.entry.now record {
+      old = (details.old, later.old);
+      new = (details.new, later.new);
+      returned = result;
+    } }
 {
-    store_details(payload, details)
+    store_details(payload, details, later)
 }
 
 impl From<LegacyMemInfo> for LegacyMemory {

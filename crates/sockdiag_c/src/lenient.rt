@@ -5,8 +5,7 @@ ghost use Rattle.std.specs.Prelude.{◌≡◌, ◌≢◌, ◌<◌, ◌==◌, if�
 ghost use Rattle.std.specs.Prelude.{slice_index};
 ghost use Rattle.std.specs.Option.{option_or};
 ghost use Rattle.netlink_core.specs.declared.error.DecodeError.{DecodeError};
-ghost use Rattle.sockdiag_c.specs.Family.{IsCodeOf, IsHeaderError, LenientDetailsAre};
-ghost use Rattle.sockdiag_c.specs.Family.{optional_code};
+ghost use Rattle.sockdiag_c.specs.Family.{StoresLenientDetails, optional_code};
 ghost use Rattle.sockdiag_c.specs.InetDetails.{inet_family};
 ghost use Rattle.sockdiag_c.specs.NetlinkDetails.{netlink_family};
 ghost use Rattle.sockdiag_c.specs.PacketDetails.{packet_family};
@@ -112,18 +111,19 @@ impl Errors {
 /// Parses a reply about a UNIX socket leniently. Returns 0, or the code of the error of its header;
 /// then details and rejections are unchanged.
 #[unsafe(no_mangle)]
-pub extern "C" fn sockdiag_unix_get_lenient_details<'a>(
+pub extern "C" fn sockdiag_unix_fill_lenient_details<'a>(
     payload: &'a [u8],
     details: &mut UnixDetails<'a>,
+    later: &mut [u8],
     rejections: &mut Rejections,
 ) -> u32
-    ensures details { result ≡ 0
-        → LenientDetailsAre unix_family payload.entry.now (details.new, rejections.new) }
-    ensures error { result ≢ 0 → IsCodeOf (IsHeaderError unix_family payload.entry.now) result }
-    ensures unchanged { result ≢ 0
-        → (details.new ≡ details.old) × (rejections.new ≡ rejections.old) }
+    ensures { StoresLenientDetails unix_family payload.entry.now record {
+      old = ((details.old, rejections.old), later.old);
+      new = ((details.new, rejections.new), later.new);
+      returned = result;
+    } }
 {
-    store_lenient_details(payload, details, rejections)
+    store_lenient_details(payload, details, later, rejections)
 }
 
 /// Parses a reply about an IPv4 or IPv6 socket leniently. Returns 0, or the code of the error of
@@ -131,85 +131,90 @@ pub extern "C" fn sockdiag_unix_get_lenient_details<'a>(
 /// bytes, as of MPTCP, is in the rejections: `sockdiag_inet_get_tcp_info` and
 /// `sockdiag_inet_get_mptcp_info` return a value of any length.
 #[unsafe(no_mangle)]
-pub extern "C" fn sockdiag_inet_get_lenient_details<'a>(
+pub extern "C" fn sockdiag_inet_fill_lenient_details<'a>(
     payload: &'a [u8],
     details: &mut InetDetails<'a>,
+    later: &mut [u8],
     rejections: &mut Rejections,
 ) -> u32
-    ensures details { result ≡ 0
-        → LenientDetailsAre inet_family payload.entry.now (details.new, rejections.new) }
-    ensures error { result ≢ 0 → IsCodeOf (IsHeaderError inet_family payload.entry.now) result }
-    ensures unchanged { result ≢ 0
-        → (details.new ≡ details.old) × (rejections.new ≡ rejections.old) }
+    ensures { StoresLenientDetails inet_family payload.entry.now record {
+      old = ((details.old, rejections.old), later.old);
+      new = ((details.new, rejections.new), later.new);
+      returned = result;
+    } }
 {
-    store_lenient_details(payload, details, rejections)
+    store_lenient_details(payload, details, later, rejections)
 }
 
 /// Parses a reply about a netlink socket leniently. Returns 0, or the code of the error of its
 /// header; then details and rejections are unchanged.
 #[unsafe(no_mangle)]
-pub extern "C" fn sockdiag_netlink_get_lenient_details<'a>(
+pub extern "C" fn sockdiag_netlink_fill_lenient_details<'a>(
     payload: &'a [u8],
     details: &mut NetlinkDetails<'a>,
+    later: &mut [u8],
     rejections: &mut Rejections,
 ) -> u32
-    ensures details { result ≡ 0
-        → LenientDetailsAre netlink_family payload.entry.now (details.new, rejections.new) }
-    ensures error { result ≢ 0 → IsCodeOf (IsHeaderError netlink_family payload.entry.now) result }
-    ensures unchanged { result ≢ 0
-        → (details.new ≡ details.old) × (rejections.new ≡ rejections.old) }
+    ensures { StoresLenientDetails netlink_family payload.entry.now record {
+      old = ((details.old, rejections.old), later.old);
+      new = ((details.new, rejections.new), later.new);
+      returned = result;
+    } }
 {
-    store_lenient_details(payload, details, rejections)
+    store_lenient_details(payload, details, later, rejections)
 }
 
 /// Parses a reply about a packet socket leniently. Returns 0, or the code of the error of its
 /// header; then details and rejections are unchanged.
 #[unsafe(no_mangle)]
-pub extern "C" fn sockdiag_packet_get_lenient_details<'a>(
+pub extern "C" fn sockdiag_packet_fill_lenient_details<'a>(
     payload: &'a [u8],
     details: &mut PacketDetails<'a>,
+    later: &mut [u8],
     rejections: &mut Rejections,
 ) -> u32
-    ensures details { result ≡ 0
-        → LenientDetailsAre packet_family payload.entry.now (details.new, rejections.new) }
-    ensures error { result ≢ 0 → IsCodeOf (IsHeaderError packet_family payload.entry.now) result }
-    ensures unchanged { result ≢ 0
-        → (details.new ≡ details.old) × (rejections.new ≡ rejections.old) }
+    ensures { StoresLenientDetails packet_family payload.entry.now record {
+      old = ((details.old, rejections.old), later.old);
+      new = ((details.new, rejections.new), later.new);
+      returned = result;
+    } }
 {
-    store_lenient_details(payload, details, rejections)
+    store_lenient_details(payload, details, later, rejections)
 }
 
 /// Parses a reply about a vsock socket leniently. Returns 0, or the code of the error of its
 /// header; then header and rejections are unchanged. The only rejection can be the framing error of
 /// bytes after the header.
 #[unsafe(no_mangle)]
-pub extern "C" fn sockdiag_vsock_get_lenient_details(
+pub extern "C" fn sockdiag_vsock_fill_lenient_details(
     payload: &[u8],
     details: &mut VsockResponseHeader,
+    later: &mut [u8],
     rejections: &mut Rejections,
 ) -> u32
-    ensures details { result ≡ 0
-        → LenientDetailsAre vsock_family payload.now (details.new, rejections.new) }
-    ensures error { result ≢ 0 → IsCodeOf (IsHeaderError vsock_family payload.now) result }
-    ensures unchanged { result ≢ 0
-        → (details.new ≡ details.old) × (rejections.new ≡ rejections.old) }
+    ensures { StoresLenientDetails vsock_family payload.now record {
+      old = ((details.old, rejections.old), later.old);
+      new = ((details.new, rejections.new), later.new);
+      returned = result;
+    } }
 {
-    store_lenient_details(payload, details, rejections)
+    store_lenient_details(payload, details, later, rejections)
 }
 
 /// Parses a reply about an XDP socket leniently. Returns 0, or the code of the error of its header;
 /// then details and rejections are unchanged.
 #[unsafe(no_mangle)]
-pub extern "C" fn sockdiag_xdp_get_lenient_details(
+pub extern "C" fn sockdiag_xdp_fill_lenient_details(
     payload: &[u8],
     details: &mut XdpDetails,
+    later: &mut [u8],
     rejections: &mut Rejections,
 ) -> u32
-    ensures details { result ≡ 0
-        → LenientDetailsAre xdp_family payload.now (details.new, rejections.new) }
-    ensures error { result ≢ 0 → IsCodeOf (IsHeaderError xdp_family payload.now) result }
-    ensures unchanged { result ≢ 0
-        → (details.new ≡ details.old) × (rejections.new ≡ rejections.old) }
+    ensures { StoresLenientDetails xdp_family payload.now record {
+      old = ((details.old, rejections.old), later.old);
+      new = ((details.new, rejections.new), later.new);
+      returned = result;
+    } }
 {
-    store_lenient_details(payload, details, rejections)
+    store_lenient_details(payload, details, later, rejections)
 }

@@ -2,7 +2,7 @@
 
 ghost use Rattle.std.specs.Prelude.{◌≡◌, ◌≢◌};
 ghost use Rattle.sock_diag_extras.specs.AnyNla.{any_model};
-ghost use Rattle.sockdiag_c.specs.Family.{AreDetailsOf, IsCodeOf, IsFirstError};
+ghost use Rattle.sockdiag_c.specs.Family.{StoresDetails};
 ghost use Rattle.sockdiag_c.specs.PacketDetails.{packet_family};
 
 use crate::details::{BYTES, Number, ReplyDetails, Text, store_details};
@@ -58,15 +58,18 @@ const _: () = prove!(std::mem::size_of::<PacketDetails<'static>>() == 248);
 /// Parses a reply about a packet socket. Returns 0, or the code of its first error; then the
 /// details are unchanged.
 #[unsafe(no_mangle)]
-pub extern "C" fn sockdiag_packet_get_details<'a>(
+pub extern "C" fn sockdiag_packet_fill_details<'a>(
     payload: &'a [u8],
     details: &mut PacketDetails<'a>,
+    later: &mut [u8],
 ) -> u32
-    ensures details { result ≡ 0 → AreDetailsOf packet_family payload.entry.now details.new }
-    ensures error { result ≢ 0 → IsCodeOf (IsFirstError packet_family payload.entry.now) result }
-    ensures unchanged { result ≢ 0 → details.new ≡ details.old }
+    ensures { StoresDetails packet_family payload.entry.now record {
+      old = (details.old, later.old);
+      new = (details.new, later.new);
+      returned = result;
+    } }
 {
-    store_details(payload, details)
+    store_details(payload, details, later)
 }
 
 impl<'a> ReplyDetails<'a> for PacketDetails<'a> {

@@ -2,7 +2,7 @@
 
 ghost use Rattle.std.specs.Prelude.{◌≡◌, ◌≢◌};
 ghost use Rattle.sock_diag_extras.specs.AnyNla.{any_model};
-ghost use Rattle.sockdiag_c.specs.Family.{AreDetailsOf, IsCodeOf, IsFirstError};
+ghost use Rattle.sockdiag_c.specs.Family.{StoresDetails};
 ghost use Rattle.sockdiag_c.specs.UnixDetails.{unix_family};
 
 use crate::details::{ABSTRACT, Number, ReplyDetails, TEXT, Text, store_details};
@@ -52,15 +52,18 @@ const _: () = prove!(std::mem::size_of::<UnixDetails<'static>>() == 168);
 /// Parses a reply about a UNIX socket. Returns 0, or the code of its first error; then the details
 /// are unchanged.
 #[unsafe(no_mangle)]
-pub extern "C" fn sockdiag_unix_get_details<'a>(
+pub extern "C" fn sockdiag_unix_fill_details<'a>(
     payload: &'a [u8],
     details: &mut UnixDetails<'a>,
+    later: &mut [u8],
 ) -> u32
-    ensures details { result ≡ 0 → AreDetailsOf unix_family payload.entry.now details.new }
-    ensures error { result ≢ 0 → IsCodeOf (IsFirstError unix_family payload.entry.now) result }
-    ensures unchanged { result ≢ 0 → details.new ≡ details.old }
+    ensures { StoresDetails unix_family payload.entry.now record {
+      old = (details.old, later.old);
+      new = (details.new, later.new);
+      returned = result;
+    } }
 {
-    store_details(payload, details)
+    store_details(payload, details, later)
 }
 
 impl<'a> ReplyDetails<'a> for UnixDetails<'a> {
