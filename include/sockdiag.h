@@ -3,11 +3,26 @@
  * memory. To list sockets:
  * 1. Write a request, by sockdiag_write_inet_request and its siblings, and send it to a socket of
  *    NETLINK_SOCK_DIAG.
- * 2. Receive datagrams, and iterate over the messages of each by sockdiag_next_any_message, until
- *    sockdiag_ends_answer.
- * 3. Parse the payload of each message by the lenient call of its family, the first byte, such as
- *    sockdiag_inet_get_lenient_details.
- * A payload is the bytes of a message after its netlink header.
+ * 2. Receive datagrams. recv(2) with MSG_TRUNC returns the length of a datagram that exceeds the
+ *    buffer, and fails with ENOBUFS if datagrams were lost: request the dump again.
+ * 3. Iterate over the messages of each by sockdiag_next_any_message. Skip a message for which
+ *    sockdiag_is_answer is 0, and end at one for which sockdiag_ends_answer is 1.
+ * 4. Parse the payload of each message of type SOCK_DIAG_BY_FAMILY by the lenient call of its
+ *    family, the first byte, such as sockdiag_inet_get_lenient_details.
+ * A payload is the bytes of a message after its netlink header. dump.h of the examples does the
+ * steps 1 to 3.
+ *
+ * Each call returns 0 (SOCKDIAG_OK) if it has succeeded, or a positive code, which
+ * sockdiag_error_text takes. Calls named sockdiag_next_.. iterate: they return SOCKDIAG_ITEM,
+ * SOCKDIAG_END, or the code of an error. Calls named sockdiag_write_.. and sockdiag_rewrite_..
+ * store the number of bytes that they wrote, and with SOCKDIAG_NO_SPACE the number that the buffer
+ * has to have. Only sockdiag_version, and the tests named sockdiag_is_.. and sockdiag_ends_..,
+ * which return 1 or 0, return no code.
+ *
+ * The structs named sockdiag_.._details, and sockdiag_vsock_header, sockdiag_tcp_info and
+ * sockdiag_mptcp_info, may get more fields at their end in a later version; no others do. A call
+ * that fills one takes its size, sizeof *details. It fills at most this number of bytes, and sets
+ * fields that the library does not know to 0. So a program runs with older and newer libraries.
  *
  * The library does not allocate, opens no files or sockets, and has no state between calls. So any
  * thread may call it at any time, with memory that meets the requirements below. It needs at most
@@ -24,11 +39,13 @@
  *   a call only reads is not written during the call.
  *
  * A struct or number that a call returns need not be initialized: no return value depends on its
- * contents. Unless the comment of a call says otherwise, it is unchanged if the call returns the
- * code of an error, or 0 for a missing item, and all of its fields are set if the call succeeds.
- * The padding between fields may have any contents, so do not compare structs by memcmp.
+ * contents. Unless the comment of a call says otherwise, all of its fields are set if the call
+ * returns SOCKDIAG_OK or SOCKDIAG_ITEM, and it is unchanged otherwise. The padding between fields
+ * may have any contents, so do not compare structs by memcmp.
  *
- * Numbers in structs are in the byte order of the host, ports included. Addresses are in network
+ * Messages are parsed and written as kernels of little-endian processors have them, with addresses
+ * of eight bytes (x86-64, arm64). Numbers in structs are in the byte order of the host, ports
+ * included. Addresses are in network
  * byte order, as inet_ntop expects them. A cookie of eight bytes is a copy of the bytes in the
  * message. The cookie of a netlink, packet, vsock or XDP socket is a number, which is little-endian
  * in the message. Offsets in comments are those in the kernel's structs.
@@ -38,8 +55,9 @@
  * is the address of a netlink socket, and not a port number.
  *
  * tools/bindings of the sources writes this file from the crate sockdiag_c. What it says of a call
- * is proved there, by the contract of the function of the same name, and by those of the functions
- * in src/laws.rt: a_step_passes_the_first_attribute, a_step_passes_the_first_message,
+ * is proved there, by the contract of the function of the same name (sockdiag_.._fill_.. for an
+ * inline function, which only splits the struct at its size in version 1.0), and by those of the
+ * functions in src/laws.rt: a_step_passes_the_first_attribute, a_step_passes_the_first_message,
  * lenient_calls_agree_with_strict_calls, strict_calls_agree_with_checks and
  * every_rejected_kind_has_a_code. No contract states that the library does not allocate and has no
  * state, how long a call takes, where the pointer of a text points, that a call does not read the
@@ -116,9 +134,8 @@ enum sockdiag_error {
 };
 
 /*
- * Returns the text of a decode error: a constant string in English, the text of DecodeError in
- * crates/netlink_core of the sources without the values. Any number may be passed. The text of 0 is
- * "no error". The text of a number that is not the code of an error is "unknown error code".
+ * Returns the text of a code: a constant string in English. Any number may be passed: the text of
+ * one that no call returns is "unknown error code".
  */
 static inline const char *sockdiag_error_text(uint32_t error)
 {
@@ -290,7 +307,9 @@ enum sockdiag_unix_attribute {
 
 /*
  * Kinds of attributes in replies about IPv4 and IPv6 sockets. A request selects a kind up to 8 by
- * its bit, such as 1u << (SOCKDIAG_INET_DIAG_INFO - 1). The kernel sends some others unasked.
+ * its bit, such as 1u << (SOCKDIAG_INET_DIAG_INFO - 1). The bit of INET_DIAG_VEGASINFO selects what
+ * the socket's algorithm has: also INET_DIAG_DCTCPINFO or INET_DIAG_BBRINFO. The kernel sends some
+ * others unasked.
  */
 enum sockdiag_inet_attribute {
     SOCKDIAG_INET_DIAG_NONE = 0,             /* No attribute. */
@@ -524,8 +543,7 @@ enum sockdiag_xdp_attribute {
  * kernels without tcpi_snd_wnd) and a UNIX_DIAG_MEMINFO of fewer than 36 bytes.
  *
  * For all of them:
- * - If the return value is 0, all fields are set: a number, text or record that the reply does not
- *   contain is all 0. If it is the code of an error, nothing is written.
+ * - A number, text or record that the reply does not contain is all 0.
  * - Of several attributes of a kind the first valid one counts.
  * - An attribute without a field is not an error: sockdiag_next_attribute returns it.
  * - Bytes after the last field of a record are ignored, since newer kernels send more. A shorter
@@ -939,14 +957,14 @@ struct sockdiag_tcp_info {
 };
 
 /*
- * Returns whether the kernel sent a field of the struct info. The length is the return value of
- * sockdiag_inet_get_tcp_info or sockdiag_inet_get_mptcp_info. The last four fields of struct
- * sockdiag_tcp_info are bit fields, which this macro does not take: the kernel sent them if the
- * length is at least 280.
+ * Returns whether the kernel sent a field of the struct info. value_length is the number that
+ * sockdiag_inet_get_tcp_info or sockdiag_inet_get_mptcp_info has stored. The last four fields of
+ * struct sockdiag_tcp_info are bit fields, which this macro does not take: the kernel sent them if
+ * value_length is at least 280.
  */
-#define SOCKDIAG_HAS(length, info, field)                                                         \
-    ((length) >= (size_t)((const char *)&(info).field - (const char *)&(info))                    \
-                     + sizeof((info).field))
+#define SOCKDIAG_HAS(value_length, info, field)                                                   \
+    ((value_length) >= (size_t)((const char *)&(info).field - (const char *)&(info))              \
+                           + sizeof((info).field))
 
 /*
  * Copies the TCP connection of a reply about an IPv4 or IPv6 socket: the value of the first
@@ -1327,11 +1345,14 @@ static inline uint32_t sockdiag_xdp_get_details(const uint8_t *payload, size_t l
 
 /* ---- lenient calls
  *
- * After such a call this prints each kind that is rejected, with its first error:
+ * After such a call this prints each kind that is rejected, with its first error, and the framing
+ * error:
  *
  *     for (kind = 0; kind < SOCKDIAG_REJECTION_KINDS; kind++)
  *         if (rejections.errors[kind] != 0)
  *             printf("%d: %s\n", kind, sockdiag_error_text(rejections.errors[kind]));
+ *     if (rejections.framing != 0)
+ *         printf("the rest: %s\n", sockdiag_error_text(rejections.framing));
  */
 
 #define SOCKDIAG_REJECTION_KINDS 32 /* Number of elements of errors of struct
@@ -1687,12 +1708,42 @@ uint32_t sockdiag_ends_answer(const struct sockdiag_message *message);
  * These attributes are not in the details of a reply. sockdiag_next_attribute returns them: pass
  * the bytes of its value, which are payload + attribute.offset and attribute.length. The caller
  * chooses the call by the kind, attribute.type_word & SOCKDIAG_NLA_TYPE_MASK. A value that is
- * longer than the struct is accepted, since newer kernels may append fields; a number has exactly
- * its length.
+ * longer than the struct is accepted, since newer kernels may append fields. A shorter one is
+ * SOCKDIAG_WRONG_LENGTH.
  *
- * A value that is an array is read by steps, from a cursor with the offset 0, while the call
- * returns SOCKDIAG_ITEM. The time for all items of a value is proportional to its length.
+ * A value that is an array is read from a cursor with the offset 0, while the call returns
+ * SOCKDIAG_ITEM. If the rest of the value is shorter than an item, the call returns
+ * SOCKDIAG_WRONG_LENGTH, and no bytes are left. The time for all items of a value is proportional
+ * to its length.
+ *
+ * The values of INET_DIAG_ULP_INFO, INET_DIAG_SK_BPF_STORAGES, and of attributes in them, consist of
+ * attributes: iterate over a value by sockdiag_next_attribute from the offset 0, and read a number
+ * by sockdiag_get_number. This prints the version of TLS of a socket:
+ *
+ *     static void print_tls(const uint8_t *ulp, size_t length)
+ *     {
+ *         struct sockdiag_cursor outer = {0}, inner;
+ *         struct sockdiag_attribute it, field;
+ *         uint64_t number;
+ *         while (sockdiag_next_attribute(ulp, length, &outer, &it) == SOCKDIAG_ITEM) {
+ *             const uint8_t *tls = ulp + it.offset;
+ *             if ((it.type_word & SOCKDIAG_NLA_TYPE_MASK) != SOCKDIAG_INET_ULP_INFO_TLS)
+ *                 continue;
+ *             inner.offset = 0;
+ *             while (sockdiag_next_attribute(tls, it.length, &inner, &field) == SOCKDIAG_ITEM)
+ *                 if ((field.type_word & SOCKDIAG_NLA_TYPE_MASK) == SOCKDIAG_TLS_INFO_VERSION
+ *                     && sockdiag_get_number(tls + field.offset, field.length, &number)
+ *                            == SOCKDIAG_OK)
+ *                     printf("version %#lx\n", (unsigned long)number);
+ *         }
+ *     }
  */
+
+/*
+ * Stores a number, the value of an attribute: little-endian, of 1, 2, 4 or 8 bytes. Another length
+ * is SOCKDIAG_WRONG_LENGTH.
+ */
+uint32_t sockdiag_get_number(const uint8_t *value, size_t length, uint64_t *number);
 
 /*
  * Iterates over the inodes, of 4 bytes each, in the value of UNIX_DIAG_ICONS: of the sockets that
@@ -1816,7 +1867,9 @@ uint32_t sockdiag_next_address(const uint8_t *value, size_t length, struct sockd
 /* ---- errors with their fields
  *
  * All other calls return the code of an error. sockdiag_explain checks bytes that they rejected
- * again, and returns the error with the lengths, kinds and numbers that belong to it.
+ * again, and returns the error with the lengths, kinds and numbers that belong to it. It does not
+ * return where the error is: of an attribute of a UNIX, IPv4 or IPv6 socket that is explained by
+ * itself, the caller of sockdiag_next_attribute knows the offset.
  */
 
 /* Records that can have too few bytes: the numbers of the field record_name. */
@@ -1873,27 +1926,28 @@ struct sockdiag_error_details {
                                                or IPv6 socket. */
 
 /*
- * Stores the error of bytes that another call rejected, with its fields. Returns its code; or 0 if
- * the bytes are accepted, and then the error is unchanged. what says what the bytes are:
- * - a family, such as AF_INET: a whole reply about a socket of this family, which
- *   sockdiag_.._get_details rejects. It is the first byte of the reply. If it is another family,
- *   the error is SOCKDIAG_UNKNOWN_FAMILY;
+ * Stores the error of bytes that another call rejected, with its fields, and returns its code.
+ * Returns 0 if the bytes are accepted; then the error is unchanged. what says what the bytes are:
+ * - a family, such as AF_INET: a whole reply about a socket of this family, which is its first
+ *   byte, and which sockdiag_.._get_details rejects. Another family is SOCKDIAG_UNKNOWN_FAMILY;
  * - SOCKDIAG_EXPLAIN_MESSAGE: the payload of a message of type SOCK_DIAG_BY_FAMILY, which
  *   sockdiag_next_message rejects;
- * - SOCKDIAG_EXPLAIN_DATAGRAM: a datagram from the cursor on, whose framing
- *   sockdiag_next_any_message rejects;
+ * - SOCKDIAG_EXPLAIN_DATAGRAM: the rest of a datagram, from the offset that the cursor had before
+ *   sockdiag_next_any_message rejected it;
  * - SOCKDIAG_EXPLAIN_UNIX_ATTRIBUTE or SOCKDIAG_EXPLAIN_INET_ATTRIBUTE: a part of a reply that
- *   begins with the attribute, which a lenient call rejects. No bytes are accepted;
- * - any other number: returns SOCKDIAG_INVALID_ARGUMENT.
+ *   begins with an attribute, which a lenient call rejects. Only this attribute is checked.
+ *
+ * Any other number is SOCKDIAG_INVALID_ARGUMENT.
  */
 uint32_t sockdiag_explain(uint32_t what, const uint8_t *bytes, size_t length,
                           struct sockdiag_error_details *error);
 
 /* ---- requests
  *
- * A call writes a whole netlink message at the start of the buffer, and leaves the bytes after it
- * unchanged. If it returns 0, nothing is written. For a buffer of SOCKDIAG_.._REQUEST_LENGTH bytes,
- * 0 means that the family is invalid. All bits of flags and of bit sets are written unchanged.
+ * A call writes a whole netlink message at the start of the buffer, stores its length, and leaves
+ * the bytes after it unchanged. If the buffer is shorter, it returns SOCKDIAG_NO_SPACE, and stores
+ * the length that it needs; SOCKDIAG_.._REQUEST_LENGTH bytes suffice. After other errors it stores
+ * 0. Nothing is written then. All bits of flags and of bit sets are written unchanged.
  */
 
 /*
@@ -2061,7 +2115,7 @@ uint32_t sockdiag_write_inet_request_with_attributes(const struct sockdiag_inet_
  * All replies that differ only in ignored bits have the same canonical form. Ignored bits are
  * undefined flags, pad fields, padding, and bytes that no parser reads, for example; of a timer the
  * time if it is 3 (TIME_WAIT), and the number of retransmissions if it is not 1. The form is
- * written at the start of the buffer; bytes after it are unchanged.
+ * written at the start of the buffer, and its length is stored, as those of a request.
  */
 
 /*

@@ -512,48 +512,7 @@ static void has_numbers(void) {
           "the number of kinds");
 }
 
-/* A reply is parsed into a struct of a later header, whose fields after those of 1.0 are set to 0,
- * and into one whose size is wrong. `call` has the arguments after the size. */
-#define GROWS(it, call, bytes, length, ...)                                                     \
-    do {                                                                                        \
-        uint8_t later_[24], zeros_[24] = {0};                                                   \
-        struct {                                                                                \
-            it first;                                                                           \
-            uint8_t later[24];                                                                  \
-        } area_;                                                                                \
-        memset(&area_, UNTOUCHED, sizeof area_);                                                \
-        memset(later_, UNTOUCHED, sizeof later_);                                               \
-        check(call(bytes, length, &area_.first, sizeof(it) - 1 __VA_ARGS__) ==                  \
-                  SOCKDIAG_INVALID_ARGUMENT && is_untouched(&area_, sizeof area_),              \
-              #call " with a small struct");                                                    \
-        check(call(bytes, length - 1, &area_.first, sizeof area_ __VA_ARGS__) ==                \
-                  SOCKDIAG_BUFFER_TOO_SMALL && is_untouched(&area_, sizeof area_),              \
-              #call " of a rejected reply");                                                    \
-        check(call(bytes, length, &area_.first, sizeof(it) + 20 __VA_ARGS__) == SOCKDIAG_OK,    \
-              #call " with a large struct");                                                    \
-        check(memcmp(area_.later, zeros_, 20) == 0 && memcmp(area_.later + 20, later_, 4) == 0, \
-              #call ": the fields of a later version");                                         \
-    } while (0)
-
-#define COMMA ,
-#define BOTH_GROW(family, type, bytes, length)                                                  \
-    GROWS(struct type, sockdiag_##family##_get_details, bytes, length, );                       \
-    GROWS(struct type, sockdiag_##family##_get_lenient_details, bytes, length,                  \
-          COMMA &rejections)
-
-static void structs_grow(void) {
-    uint8_t bytes[72] = {0};
-    struct sockdiag_rejections rejections;
-    BOTH_GROW(unix, sockdiag_unix_details, unix_header, 16);
-    BOTH_GROW(inet, sockdiag_inet_details, inet_header, 72);
-    BOTH_GROW(netlink, sockdiag_netlink_details, bytes, 28);
-    BOTH_GROW(packet, sockdiag_packet_details, bytes, 16);
-    BOTH_GROW(vsock, sockdiag_vsock_header, bytes, 32);
-    BOTH_GROW(xdp, sockdiag_xdp_details, bytes, 16);
-}
-
 int main(void) {
-    structs_grow();
     has_the_first_errors();
     reads_tcp_info();
     reads_bit_fields();

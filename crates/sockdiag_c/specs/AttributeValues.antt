@@ -1,9 +1,13 @@
--- Steps over the value of an attribute that is an array.
+-- Values of single attributes: numbers, and steps over a value that is an array.
 use Rattle.std.specs.Prelude.{◌≡◌, ◌<◌, ◌≤◌, ℕ, ◌+◌, ◌⊎◌, List, length, None}
 use Rattle.netlink_core.specs.declared.error.DecodeError.{DecodeError}
 use Rattle.netlink_core.specs.declared.error.DecodeError.TheVariants.{WrongLength}
 use Rattle.sockdiag_c.specs.Walks.{IterationEnds, IterationFails, IterationStep, bytes_before_step}
 use Rattle.sockdiag_c.specs.declared.results.TheConstants.{ITEM}
+
+-- `IsNumberWidth n`: numbers of `n` bytes are read
+abbrev pub IsNumberWidth : ℕ → Type 0
+IsNumberWidth n = (n ≡ 1) ⊎ ((n ≡ 2) ⊎ ((n ≡ 4) ⊎ (n ≡ 8)))
 
 -- `IsIncompleteItem size bytes e`: the bytes are fewer than the `size` bytes of an item, which is
 -- the error `e`

@@ -8,10 +8,10 @@ ghost use Rattle.sock_diag_extras.specs.Md5Signature.{md5_signature};
 ghost use Rattle.sock_diag_extras.specs.RecordTable.{parse_by_table};
 ghost use Rattle.sock_diag_extras.specs.StoredAddress.{stored_address};
 ghost use Rattle.sockdiag_c.specs.Answers.{IsStoredIf};
-ghost use Rattle.sockdiag_c.specs.AttributeValues.{IsIncompleteItem, StepsOverItem};
+ghost use Rattle.sockdiag_c.specs.AttributeValues.{IsIncompleteItem, IsNumberWidth, StepsOverItem};
 ghost use Rattle.sockdiag_c.specs.Walks.{bytes_after_cursor};
 
-use crate::results::{END, ITEM, store, wrong_length};
+use crate::results::{END, ITEM, OK, store, wrong_length};
 use crate::walks::{Cursor, bytes_from};
 use byteorder::{ByteOrder, LittleEndian};
 use netlink_core::DecodeError;
@@ -29,6 +29,23 @@ const _: () = prove!(std::mem::size_of::<BbrInfo>() == 24);
 const _: () = prove!(std::mem::size_of::<Md5Signature>() == 100);
 
 const _: () = prove!(std::mem::size_of::<StoredAddress>() == 128);
+
+/// Stores a number, the value of an attribute: little-endian, of 1, 2, 4 or 8 bytes. Another length
+/// is `SOCKDIAG_WRONG_LENGTH`.
+#[unsafe(no_mangle)]
+pub extern "C" fn sockdiag_get_number(value: &[u8], number: &mut u64) -> u32
+    ensures { IsStoredIf (IsNumberWidth (length value.now))
+        (little_number (length value.now) value.now)
+        record { old = number.old; new = number.new; returned = result } }
+{
+    match value.len() {
+        1 | 2 | 4 | 8 => {
+            *number = LittleEndian::read_uint(value, value.len());
+            OK
+        }
+        len => u32::from(wrong_length(len, 8).number()),
+    }
+}
 
 /// Stores the measurements of TCP Vegas and of similar algorithms: the value of
 /// `INET_DIAG_VEGASINFO`. If it has fewer than 16 bytes, the error is `SOCKDIAG_WRONG_LENGTH`.

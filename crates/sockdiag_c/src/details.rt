@@ -5,10 +5,11 @@
 //! has the code 0.
 
 ghost use Rattle.std.specs.Prelude.{◌≡◌, ◌≢◌, ℕ, [], drop, Err, IfErr, IfOk, None, Ok, Option};
-ghost use Rattle.std.specs.Prelude.{Some};
+ghost use Rattle.std.specs.Prelude.{Some, length};
 ghost use Rattle.std.specs.Option.{option_or};
 ghost use Rattle.netlink_core.specs.Errors.{map_ok};
 ghost use Rattle.netlink_core.specs.Walk.{buffered_attribute};
+ghost use Rattle.sockdiag_c.specs.Answers.{padded_or_truncated};
 ghost use Rattle.sockdiag_c.specs.Details.{optional_number, text_parts};
 ghost use Rattle.sockdiag_c.specs.Family.{AreDetailsOf, HasHeaderAndValuesOf, SplitsWithError};
 ghost use Rattle.sockdiag_c.specs.Family.{Family};
@@ -148,10 +149,7 @@ pub(crate) fn store_details<'a, T: ReplyDetails<'a>>(
     } }
 {
     let code = store_parsed(strict_details::<T>(payload), details);
-    if code == OK {
-        copy_padded(&[], later);
-    }
-    code
+    clear_later(code, later)
 }
 
 /// Parses the reply, and returns its contents, or fails with its first error.
@@ -184,6 +182,16 @@ pub(crate) fn store_lenient_details<'a, T: ReplyDetails<'a>>(
     } }
 {
     let code = store_parsed(lenient_details::<T>(payload, rejections), details);
+    clear_later(code, later)
+}
+
+// Stores the fields of later versions, of which the library knows none, if the code is that of
+// success. Returns the code.
+fn clear_later(code: u32, later: &mut [u8]) -> u32
+    ensures code { result ≡ code }
+    ensures zeros { code ≡ 0 → later.new ≡ padded_or_truncated (length later.old) [] }
+    ensures unchanged { code ≢ 0 → later.new ≡ later.old }
+{
     if code == OK {
         copy_padded(&[], later);
     }

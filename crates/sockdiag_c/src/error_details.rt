@@ -154,18 +154,20 @@ fn explain<T: Drop>(parsed: Result<T, DecodeError>, error: &mut ErrorDetails) ->
     }
 }
 
-/// Stores the error of bytes that another call rejected, with its fields. Returns its code; or 0 if
-/// the bytes are accepted, and then the error is unchanged. `what` says what the bytes are:
-/// - a family, such as `AF_INET`: a whole reply about a socket of this family, which
-///   `sockdiag_.._get_details` rejects. It is the first byte of the reply. If it is another family,
-///   the error is `SOCKDIAG_UNKNOWN_FAMILY`;
+/// Stores the error of bytes that another call rejected, with its fields, and returns its code.
+/// Returns 0 if the bytes are accepted; then the error is unchanged. `what` says what the bytes
+/// are:
+/// - a family, such as `AF_INET`: a whole reply about a socket of this family, which is its first
+///   byte, and which `sockdiag_.._get_details` rejects. Another family is
+///   `SOCKDIAG_UNKNOWN_FAMILY`;
 /// - `SOCKDIAG_EXPLAIN_MESSAGE`: the payload of a message of type `SOCK_DIAG_BY_FAMILY`, which
 ///   `sockdiag_next_message` rejects;
-/// - `SOCKDIAG_EXPLAIN_DATAGRAM`: a datagram from the cursor on, whose framing
-///   `sockdiag_next_any_message` rejects;
+/// - `SOCKDIAG_EXPLAIN_DATAGRAM`: the rest of a datagram, from the offset that the cursor had before
+///   `sockdiag_next_any_message` rejected it;
 /// - `SOCKDIAG_EXPLAIN_UNIX_ATTRIBUTE` or `SOCKDIAG_EXPLAIN_INET_ATTRIBUTE`: a part of a reply that
-///   begins with the attribute, which a lenient call rejects. No bytes are accepted;
-/// - any other number: returns `SOCKDIAG_INVALID_ARGUMENT`.
+///   begins with an attribute, which a lenient call rejects. Only this attribute is checked.
+///
+/// Any other number is `SOCKDIAG_INVALID_ARGUMENT`.
 #[unsafe(no_mangle)]
 pub extern "C" fn sockdiag_explain(what: u32, bytes: &[u8], error: &mut ErrorDetails) -> u32
     ensures reply { what < EXPLAIN_MESSAGE → IsReplyExplained what bytes.now
