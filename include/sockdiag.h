@@ -542,6 +542,9 @@ enum sockdiag_xdp_attribute {
  * the library does not accept, an INET_DIAG_INFO of fewer than 232 bytes (of MPTCP, and of TCP from
  * kernels without tcpi_snd_wnd) and a UNIX_DIAG_MEMINFO of fewer than 36 bytes.
  *
+ * A call that takes the size of its struct is an inline function. It passes the struct of version
+ * 1.0, and the bytes after it, to the function sockdiag_.._fill_.. of the library.
+ *
  * For all of them:
  * - A number, text or record that the reply does not contain is all 0.
  * - Of several attributes of a kind the first valid one counts.
@@ -655,10 +658,7 @@ uint32_t sockdiag_unix_fill_details(const uint8_t *payload, size_t length,
                                     struct sockdiag_unix_details *details, uint8_t *later,
                                     size_t later_length);
 
-/*
- * Parses a reply about a UNIX socket. Returns 0, or the code of its first error; then the details
- * are unchanged.
- */
+/* Parses a reply about a UNIX socket. */
 static inline uint32_t sockdiag_unix_get_details(const uint8_t *payload, size_t length,
                                                  struct sockdiag_unix_details *details, size_t size)
 {
@@ -779,9 +779,8 @@ uint32_t sockdiag_inet_fill_details(const uint8_t *payload, size_t length,
                                     size_t later_length);
 
 /*
- * Parses a reply about an IPv4 or IPv6 socket. Returns 0, or the code of its first error; then the
- * details are unchanged. INET_DIAG_INFO is checked, and not returned: sockdiag_inet_get_tcp_info
- * returns it.
+ * Parses a reply about an IPv4 or IPv6 socket. INET_DIAG_INFO is checked, and not returned:
+ * sockdiag_inet_get_tcp_info returns it.
  */
 static inline uint32_t sockdiag_inet_get_details(const uint8_t *payload, size_t length,
                                                  struct sockdiag_inet_details *details, size_t size)
@@ -1099,8 +1098,8 @@ uint32_t sockdiag_netlink_fill_details(const uint8_t *payload, size_t length,
                                        size_t later_length);
 
 /*
- * Parses a reply about a netlink socket. Returns 0, or the code of its first error; then the
- * details are unchanged. Linux 6.18 lists a netlink socket twice if it is a member of a group.
+ * Parses a reply about a netlink socket. Linux 6.18 lists a netlink socket twice if it is a member
+ * of a group.
  */
 static inline uint32_t sockdiag_netlink_get_details(const uint8_t *payload, size_t length,
                                                     struct sockdiag_netlink_details *details,
@@ -1192,10 +1191,7 @@ uint32_t sockdiag_packet_fill_details(const uint8_t *payload, size_t length,
                                       struct sockdiag_packet_details *details, uint8_t *later,
                                       size_t later_length);
 
-/*
- * Parses a reply about a packet socket. Returns 0, or the code of its first error; then the details
- * are unchanged.
- */
+/* Parses a reply about a packet socket. */
 static inline uint32_t sockdiag_packet_get_details(const uint8_t *payload, size_t length,
                                                    struct sockdiag_packet_details *details,
                                                    size_t size)
@@ -1233,8 +1229,8 @@ uint32_t sockdiag_vsock_fill_details(const uint8_t *payload, size_t length,
                                      size_t later_length);
 
 /*
- * Parses a reply about a vsock socket. Returns 0, or the code of its first error; then the header
- * is unchanged. Linux sends no attributes: of bytes after the header only the framing is checked.
+ * Parses a reply about a vsock socket. Linux sends no attributes: of bytes after the header only
+ * the framing is checked.
  */
 static inline uint32_t sockdiag_vsock_get_details(const uint8_t *payload, size_t length,
                                                   struct sockdiag_vsock_header *details,
@@ -1329,10 +1325,7 @@ uint32_t sockdiag_xdp_fill_details(const uint8_t *payload, size_t length,
                                    struct sockdiag_xdp_details *details, uint8_t *later,
                                    size_t later_length);
 
-/*
- * Parses a reply about an XDP socket. Returns 0, or the code of its first error; then the details
- * are unchanged.
- */
+/* Parses a reply about an XDP socket. */
 static inline uint32_t sockdiag_xdp_get_details(const uint8_t *payload, size_t length,
                                                 struct sockdiag_xdp_details *details, size_t size)
 {
@@ -1394,10 +1387,7 @@ uint32_t sockdiag_unix_fill_lenient_details(const uint8_t *payload, size_t lengt
                                             size_t later_length,
                                             struct sockdiag_rejections *rejections);
 
-/*
- * Parses a reply about a UNIX socket leniently. Returns 0, or the code of the error of its header;
- * then details and rejections are unchanged.
- */
+/* Parses a reply about a UNIX socket leniently. */
 static inline uint32_t sockdiag_unix_get_lenient_details(const uint8_t *payload, size_t length,
                                                          struct sockdiag_unix_details *details,
                                                          size_t size,
@@ -1416,9 +1406,8 @@ uint32_t sockdiag_inet_fill_lenient_details(const uint8_t *payload, size_t lengt
                                             struct sockdiag_rejections *rejections);
 
 /*
- * Parses a reply about an IPv4 or IPv6 socket leniently. Returns 0, or the code of the error of its
- * header; then details and rejections are unchanged. An INET_DIAG_INFO of fewer than 232 bytes, as
- * of MPTCP, is in the rejections: sockdiag_inet_get_tcp_info and sockdiag_inet_get_mptcp_info
+ * Parses a reply about an IPv4 or IPv6 socket leniently. An INET_DIAG_INFO of fewer than 232 bytes,
+ * as of MPTCP, is in the rejections: sockdiag_inet_get_tcp_info and sockdiag_inet_get_mptcp_info
  * return a value of any length.
  */
 static inline uint32_t sockdiag_inet_get_lenient_details(const uint8_t *payload, size_t length,
@@ -1438,10 +1427,7 @@ uint32_t sockdiag_netlink_fill_lenient_details(const uint8_t *payload, size_t le
                                                uint8_t *later, size_t later_length,
                                                struct sockdiag_rejections *rejections);
 
-/*
- * Parses a reply about a netlink socket leniently. Returns 0, or the code of the error of its
- * header; then details and rejections are unchanged.
- */
+/* Parses a reply about a netlink socket leniently. */
 static inline uint32_t sockdiag_netlink_get_lenient_details(const uint8_t *payload, size_t length,
                                                             struct sockdiag_netlink_details *details,
                                                             size_t size,
@@ -1459,10 +1445,7 @@ uint32_t sockdiag_packet_fill_lenient_details(const uint8_t *payload, size_t len
                                               uint8_t *later, size_t later_length,
                                               struct sockdiag_rejections *rejections);
 
-/*
- * Parses a reply about a packet socket leniently. Returns 0, or the code of the error of its
- * header; then details and rejections are unchanged.
- */
+/* Parses a reply about a packet socket leniently. */
 static inline uint32_t sockdiag_packet_get_lenient_details(const uint8_t *payload, size_t length,
                                                            struct sockdiag_packet_details *details,
                                                            size_t size,
@@ -1481,9 +1464,8 @@ uint32_t sockdiag_vsock_fill_lenient_details(const uint8_t *payload, size_t leng
                                              struct sockdiag_rejections *rejections);
 
 /*
- * Parses a reply about a vsock socket leniently. Returns 0, or the code of the error of its header;
- * then header and rejections are unchanged. The only rejection can be the framing error of bytes
- * after the header.
+ * Parses a reply about a vsock socket leniently. The only rejection can be the framing error of
+ * bytes after the header.
  */
 static inline uint32_t sockdiag_vsock_get_lenient_details(const uint8_t *payload, size_t length,
                                                           struct sockdiag_vsock_header *details,
@@ -1502,10 +1484,7 @@ uint32_t sockdiag_xdp_fill_lenient_details(const uint8_t *payload, size_t length
                                            size_t later_length,
                                            struct sockdiag_rejections *rejections);
 
-/*
- * Parses a reply about an XDP socket leniently. Returns 0, or the code of the error of its header;
- * then details and rejections are unchanged.
- */
+/* Parses a reply about an XDP socket leniently. */
 static inline uint32_t sockdiag_xdp_get_lenient_details(const uint8_t *payload, size_t length,
                                                         struct sockdiag_xdp_details *details,
                                                         size_t size,
@@ -1532,23 +1511,23 @@ struct sockdiag_reply {
 };
 
 /*
- * Checks a reply about a UNIX socket, as sockdiag_unix_get_details does, and returns its header
- * only. Returns 0, or the code of the first error; then the header is unchanged.
+ * Checks a reply about a UNIX socket, as sockdiag_unix_get_details does, and stores its header
+ * only.
  */
 uint32_t sockdiag_check_unix_reply(const uint8_t *payload, size_t length,
                                    struct sockdiag_unix_header *header);
 
 /*
- * Checks a reply about an IPv4 or IPv6 socket, as sockdiag_inet_get_details does, and returns its
- * header only. Returns 0, or the code of the first error; then the header is unchanged.
+ * Checks a reply about an IPv4 or IPv6 socket, as sockdiag_inet_get_details does, and stores its
+ * header only.
  */
 uint32_t sockdiag_check_inet_reply(const uint8_t *payload, size_t length,
                                    struct sockdiag_inet_header *header);
 
 /*
  * Checks the payload of a message of this type, and stores the kind and the header of the reply.
- * The header of the other kind is unchanged. Returns 0, or the code of the first error; then the
- * reply is unchanged. A family other than AF_UNIX, AF_INET and AF_INET6 is SOCKDIAG_UNKNOWN_FAMILY.
+ * The header of the other kind is unchanged. A family other than AF_UNIX, AF_INET and AF_INET6 is
+ * SOCKDIAG_UNKNOWN_FAMILY.
  */
 uint32_t sockdiag_check_message(const uint8_t *payload, size_t length, uint16_t message_type,
                                 struct sockdiag_reply *reply);
@@ -1991,10 +1970,13 @@ struct sockdiag_inet_request {
     struct sockdiag_request_header header; /* Fields of the netlink header. */
     uint8_t family;                        /* AF_INET or AF_INET6 (sdiag_family). */
     uint8_t extensions;                    /* Attributes that the replies shall have, with the
-                                              bit 1 << (kind - 1) for each kind (idiag_ext). For
-                                              MPTCP, and for kernels without tcpi_snd_wnd, leave
-                                              out INET_DIAG_INFO, or use a lenient call:
-                                              sockdiag_inet_get_details rejects their replies. */
+                                              bit 1 << (kind - 1) for each kind (idiag_ext). That
+                                              of INET_DIAG_VEGASINFO requests what the socket's
+                                              algorithm has, also INET_DIAG_DCTCPINFO or
+                                              INET_DIAG_BBRINFO. For MPTCP, and for kernels
+                                              without tcpi_snd_wnd, leave out INET_DIAG_INFO, or
+                                              use a lenient call: sockdiag_inet_get_details
+                                              rejects their replies. */
     uint32_t protocol;                     /* Protocol, one of IPPROTO_.. (sdiag_protocol).
                                               Request one protocol at a time: replies to a
                                               request do not contain it. A protocol above 255,

@@ -9,8 +9,8 @@ use netlink_packet_sock_diag::SockDiagView;
 use netlink_packet_sock_diag::inet::InetResponseView;
 use netlink_packet_sock_diag::unix::UnixResponseView;
 
-/// Checks a reply about a UNIX socket, as `sockdiag_unix_get_details` does, and returns its header
-/// only. Returns 0, or the code of the first error; then the header is unchanged.
+/// Checks a reply about a UNIX socket, as `sockdiag_unix_get_details` does, and stores its header
+/// only.
 #[unsafe(no_mangle)]
 pub extern "C" fn sockdiag_check_unix_reply(payload: &[u8], header: &mut UnixHeader) -> u32
     ensures { IsCheckResult (unix_check payload.now)
@@ -20,8 +20,8 @@ pub extern "C" fn sockdiag_check_unix_reply(payload: &[u8], header: &mut UnixHea
     store_parsed(parsed.map(|view| UnixHeader::from(view.header())), header)
 }
 
-/// Checks a reply about an IPv4 or IPv6 socket, as `sockdiag_inet_get_details` does, and returns
-/// its header only. Returns 0, or the code of the first error; then the header is unchanged.
+/// Checks a reply about an IPv4 or IPv6 socket, as `sockdiag_inet_get_details` does, and stores its
+/// header only.
 #[unsafe(no_mangle)]
 pub extern "C" fn sockdiag_check_inet_reply(payload: &[u8], header: &mut InetHeader) -> u32
     ensures { IsCheckResult (inet_check payload.now)
@@ -37,8 +37,7 @@ pub extern "C" fn sockdiag_check_inet_reply(payload: &[u8], header: &mut InetHea
 }
 
 /// Checks the payload of a message of this type, and stores the kind and the header of the reply.
-/// The header of the other kind is unchanged. Returns 0, or the code of the first error; then the
-/// reply is unchanged. A family other than `AF_UNIX`, `AF_INET` and `AF_INET6` is
+/// The header of the other kind is unchanged. A family other than `AF_UNIX`, `AF_INET` and `AF_INET6` is
 /// `SOCKDIAG_UNKNOWN_FAMILY`.
 #[unsafe(no_mangle)]
 pub extern "C" fn sockdiag_check_message(

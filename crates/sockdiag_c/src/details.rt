@@ -187,6 +187,7 @@ pub(crate) fn store_lenient_details<'a, T: ReplyDetails<'a>>(
 
 // Stores the fields of later versions, of which the library knows none, if the code is that of
 // success. Returns the code.
+#[inline(always)]
 fn clear_later(code: u32, later: &mut [u8]) -> u32
     ensures code { result ≡ code }
     ensures zeros { code ≡ 0 → later.new ≡ padded_or_truncated (length later.old) [] }

@@ -65,19 +65,19 @@ pub extern "C" fn sockdiag_write_show_request(
     ensures message { (request.now.family ≡ AF_NETLINK) ⊎ ((request.now.family ≡ AF_PACKET)
         ⊎ (request.now.family ≡ AF_XDP)) → WritesMessage 36
         (show_message request.now.family request.now) record {
-      old = buffer.old;
-      new = buffer.new;
-      written = written.new;
-      returned = result;
-    } }
+          old = buffer.old;
+          new = buffer.new;
+          written = written.new;
+          returned = result;
+        } }
     ensures family { request.now.family ≢ AF_NETLINK → request.now.family ≢ AF_PACKET
         → request.now.family ≢ AF_XDP
         → WritesNothing 0 (error_code (DecodeError.UnknownFamily request.now.family)) record {
-      old = buffer.old;
-      new = buffer.new;
-      written = written.new;
-      returned = result;
-    } }
+          old = buffer.old;
+          new = buffer.new;
+          written = written.new;
+          returned = result;
+        } }
 {
     match request.family {
         AF_NETLINK => write_show::<AF_NETLINK>(request, buffer, written),
@@ -105,7 +105,14 @@ pub extern "C" fn sockdiag_write_vsock_request(
         states: request.states,
         cookie: request.cookie,
     };
-    write_message(SOCK_DIAG_BY_FAMILY, &request.header, &record, &[], buffer, written)
+    write_message(
+        SOCK_DIAG_BY_FAMILY,
+        &request.header,
+        &record,
+        &[],
+        buffer,
+        written,
+    )
 }
 
 // Writes a request for the sockets of this family, of 36 bytes.
@@ -127,5 +134,12 @@ fn write_show<const FAMILY: u8>(
         show: request.show,
         cookie: request.cookie,
     };
-    write_message(SOCK_DIAG_BY_FAMILY, &request.header, &record, &[], buffer, written)
+    write_message(
+        SOCK_DIAG_BY_FAMILY,
+        &request.header,
+        &record,
+        &[],
+        buffer,
+        written,
+    )
 }

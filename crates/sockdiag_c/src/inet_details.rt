@@ -78,8 +78,7 @@ pub struct InetDetails<'a> {
 
 const _: () = prove!(std::mem::size_of::<InetDetails<'static>>() == 264);
 
-/// Parses a reply about an IPv4 or IPv6 socket. Returns 0, or the code of its first error; then the
-/// details are unchanged. `INET_DIAG_INFO` is checked, and not returned:
+/// Parses a reply about an IPv4 or IPv6 socket. `INET_DIAG_INFO` is checked, and not returned:
 /// `sockdiag_inet_get_tcp_info` returns it.
 #[unsafe(no_mangle)]
 pub extern "C" fn sockdiag_inet_fill_details<'a>(

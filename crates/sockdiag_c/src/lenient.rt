@@ -108,8 +108,7 @@ impl Errors {
     }
 }
 
-/// Parses a reply about a UNIX socket leniently. Returns 0, or the code of the error of its header;
-/// then details and rejections are unchanged.
+/// Parses a reply about a UNIX socket leniently.
 #[unsafe(no_mangle)]
 pub extern "C" fn sockdiag_unix_fill_lenient_details<'a>(
     payload: &'a [u8],
@@ -126,8 +125,7 @@ pub extern "C" fn sockdiag_unix_fill_lenient_details<'a>(
     store_lenient_details(payload, details, later, rejections)
 }
 
-/// Parses a reply about an IPv4 or IPv6 socket leniently. Returns 0, or the code of the error of
-/// its header; then details and rejections are unchanged. An `INET_DIAG_INFO` of fewer than 232
+/// Parses a reply about an IPv4 or IPv6 socket leniently. An `INET_DIAG_INFO` of fewer than 232
 /// bytes, as of MPTCP, is in the rejections: `sockdiag_inet_get_tcp_info` and
 /// `sockdiag_inet_get_mptcp_info` return a value of any length.
 #[unsafe(no_mangle)]
@@ -146,8 +144,7 @@ pub extern "C" fn sockdiag_inet_fill_lenient_details<'a>(
     store_lenient_details(payload, details, later, rejections)
 }
 
-/// Parses a reply about a netlink socket leniently. Returns 0, or the code of the error of its
-/// header; then details and rejections are unchanged.
+/// Parses a reply about a netlink socket leniently.
 #[unsafe(no_mangle)]
 pub extern "C" fn sockdiag_netlink_fill_lenient_details<'a>(
     payload: &'a [u8],
@@ -164,8 +161,7 @@ pub extern "C" fn sockdiag_netlink_fill_lenient_details<'a>(
     store_lenient_details(payload, details, later, rejections)
 }
 
-/// Parses a reply about a packet socket leniently. Returns 0, or the code of the error of its
-/// header; then details and rejections are unchanged.
+/// Parses a reply about a packet socket leniently.
 #[unsafe(no_mangle)]
 pub extern "C" fn sockdiag_packet_fill_lenient_details<'a>(
     payload: &'a [u8],
@@ -182,8 +178,7 @@ pub extern "C" fn sockdiag_packet_fill_lenient_details<'a>(
     store_lenient_details(payload, details, later, rejections)
 }
 
-/// Parses a reply about a vsock socket leniently. Returns 0, or the code of the error of its
-/// header; then header and rejections are unchanged. The only rejection can be the framing error of
+/// Parses a reply about a vsock socket leniently. The only rejection can be the framing error of
 /// bytes after the header.
 #[unsafe(no_mangle)]
 pub extern "C" fn sockdiag_vsock_fill_lenient_details(
@@ -201,8 +196,7 @@ pub extern "C" fn sockdiag_vsock_fill_lenient_details(
     store_lenient_details(payload, details, later, rejections)
 }
 
-/// Parses a reply about an XDP socket leniently. Returns 0, or the code of the error of its header;
-/// then details and rejections are unchanged.
+/// Parses a reply about an XDP socket leniently.
 #[unsafe(no_mangle)]
 pub extern "C" fn sockdiag_xdp_fill_lenient_details(
     payload: &[u8],

@@ -55,8 +55,7 @@ pub struct PacketDetails<'a> {
 
 const _: () = prove!(std::mem::size_of::<PacketDetails<'static>>() == 248);
 
-/// Parses a reply about a packet socket. Returns 0, or the code of its first error; then the
-/// details are unchanged.
+/// Parses a reply about a packet socket.
 #[unsafe(no_mangle)]
 pub extern "C" fn sockdiag_packet_fill_details<'a>(
     payload: &'a [u8],

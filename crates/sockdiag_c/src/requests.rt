@@ -72,7 +72,8 @@ pub struct InetRequest {
     /// `AF_INET` or `AF_INET6` (`sdiag_family`).
     pub family: u8,
     /// Attributes that the replies shall have, with the bit `1 << (kind - 1)` for each kind
-    /// (`idiag_ext`). For MPTCP, and for kernels without `tcpi_snd_wnd`, leave out
+    /// (`idiag_ext`). That of `INET_DIAG_VEGASINFO` requests what the socket's algorithm has, also
+    /// `INET_DIAG_DCTCPINFO` or `INET_DIAG_BBRINFO`. For MPTCP, and for kernels without `tcpi_snd_wnd`, leave out
     /// `INET_DIAG_INFO`, or use a lenient call: `sockdiag_inet_get_details` rejects their replies.
     pub extensions: u8,
     /// Protocol, one of `IPPROTO_..` (`sdiag_protocol`). Request one protocol at a time: replies to
@@ -122,7 +123,14 @@ pub extern "C" fn sockdiag_write_unix_request(
         show_flags: ShowFlags::from_bits_retain(request.show),
         cookie: request.cookie,
     };
-    write_message(SOCK_DIAG_BY_FAMILY, &request.header, &record, &[], buffer, written)
+    write_message(
+        SOCK_DIAG_BY_FAMILY,
+        &request.header,
+        &record,
+        &[],
+        buffer,
+        written,
+    )
 }
 
 /// Writes a request for IPv4 or IPv6 sockets: 72 bytes, or 80 if the protocol is above 255. A family
@@ -189,7 +197,14 @@ pub(crate) fn write_inet(
     // The attribute has 8 bytes: its length, its type and, in the last four, the protocol.
     let mut attribute = [8, 0, INET_DIAG_REQ_PROTOCOL as u8, 0, 0, 0, 0, 0];
     LittleEndian::write_u32(&mut attribute[4..], request.protocol);
-    write_message(message_type, &request.header, &record, &attribute, buffer, written)
+    write_message(
+        message_type,
+        &request.header,
+        &record,
+        &attribute,
+        buffer,
+        written,
+    )
 }
 
 // Returns the record of a request for IPv4 or IPv6 sockets, `struct inet_diag_req_v2`.
@@ -245,11 +260,11 @@ pub(crate) fn write_message<R: Emitable>(
     ensures { let len = 16 + length (R.bytes value.now) + length attributes.now in
         WritesMessage len (header_bytes (request_header_of len message_type header.now)
         ++ R.bytes value.now ++ attributes.now) record {
-      old = buffer.old;
-      new = buffer.new;
-      written = written.new;
-      returned = result;
-    } }
+          old = buffer.old;
+          new = buffer.new;
+          written = written.new;
+          returned = result;
+        } }
 {
     let end = NETLINK_HEADER_LEN + value.buffer_len();
     let len = end + attributes.len();

@@ -71,6 +71,10 @@ pub(crate) fn wrong_length(got: usize, need: usize) -> DecodeError
 pub(crate) fn copy_padded(bytes: &[u8], target: &mut [u8])
     ensures { target.new ≡ padded_or_truncated (length target.old) bytes.now }
 {
+    // `fill` of no bytes is a call of memset.
+    if target.is_empty() {
+        return;
+    }
     let len = bytes.len().min(target.len());
     let (copied, zeros) = target.split_at_mut(len);
     copied.copy_from_slice(&bytes[..len]);

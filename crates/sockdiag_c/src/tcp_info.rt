@@ -36,10 +36,10 @@ pub extern "C" fn sockdiag_inet_get_tcp_info(
     ensures { (attributes : List Attribute)
         → AreInetReplyAttributes payload.now attributes
         → CopiesValue (first_bytes_of_kind INET_DIAG_INFO attributes) record {
-      old = (info.old, value_length.old);
-      new = (info.new, value_length.new);
-      returned = result;
-    } }
+          old = (info.old, value_length.old);
+          new = (info.new, value_length.new);
+          returned = result;
+        } }
 {
     copy_info(payload, info, value_length)
 }
@@ -56,10 +56,10 @@ pub extern "C" fn sockdiag_inet_get_mptcp_info(
     ensures { (attributes : List Attribute)
         → AreInetReplyAttributes payload.now attributes
         → CopiesValue (first_bytes_of_kind INET_DIAG_INFO attributes) record {
-      old = (info.old, value_length.old);
-      new = (info.new, value_length.new);
-      returned = result;
-    } }
+          old = (info.old, value_length.old);
+          new = (info.new, value_length.new);
+          returned = result;
+        } }
 {
     copy_info(payload, info, value_length)
 }
@@ -70,12 +70,15 @@ fn copy_info(payload: &[u8], info: &mut [u8], value_length: &mut usize) -> u32
     ensures { (attributes : List Attribute)
         → AreInetReplyAttributes payload.now attributes
         → CopiesValue (first_bytes_of_kind INET_DIAG_INFO attributes) record {
-      old = (info.old, value_length.old);
-      new = (info.new, value_length.new);
-      returned = result;
-    } }
+          old = (info.old, value_length.old);
+          new = (info.new, value_length.new);
+          returned = result;
+        } }
 {
-    let value = first_value(bytes_from(payload, INET_RESPONSE_HEADER_LEN), INET_DIAG_INFO);
+    let value = first_value(
+        bytes_from(payload, INET_RESPONSE_HEADER_LEN),
+        INET_DIAG_INFO,
+    );
     if value.is_empty() {
         return END;
     }

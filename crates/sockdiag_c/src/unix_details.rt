@@ -49,8 +49,7 @@ pub struct UnixDetails<'a> {
 
 const _: () = prove!(std::mem::size_of::<UnixDetails<'static>>() == 168);
 
-/// Parses a reply about a UNIX socket. Returns 0, or the code of its first error; then the details
-/// are unchanged.
+/// Parses a reply about a UNIX socket.
 #[unsafe(no_mangle)]
 pub extern "C" fn sockdiag_unix_fill_details<'a>(
     payload: &'a [u8],

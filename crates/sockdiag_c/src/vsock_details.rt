@@ -13,8 +13,8 @@ use sock_diag_families::vsock::VsockResponseHeader;
 
 const _: () = prove!(std::mem::size_of::<VsockResponseHeader>() == 32);
 
-/// Parses a reply about a vsock socket. Returns 0, or the code of its first error; then the header
-/// is unchanged. Linux sends no attributes: of bytes after the header only the framing is checked.
+/// Parses a reply about a vsock socket. Linux sends no attributes: of bytes after the header only
+/// the framing is checked.
 #[unsafe(no_mangle)]
 pub extern "C" fn sockdiag_vsock_fill_details(
     payload: &[u8],

@@ -220,7 +220,12 @@ pub extern "C" fn sockdiag_get_error_number(payload: &[u8], number: &mut i32) ->
     ensures { IsGetterResult (leading_error_number payload.now)
         record { old = number.old; new = number.new; returned = result } }
 {
-    store(error_number(payload), payload.len(), ERROR_NUMBER_LEN, number)
+    store(
+        error_number(payload),
+        payload.len(),
+        ERROR_NUMBER_LEN,
+        number,
+    )
 }
 
 /// Returns the bytes from this offset on, or no bytes if the offset is past the end.

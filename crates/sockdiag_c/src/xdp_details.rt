@@ -55,8 +55,7 @@ pub struct XdpDetails {
 
 const _: () = prove!(std::mem::size_of::<XdpDetails>() == 240);
 
-/// Parses a reply about an XDP socket. Returns 0, or the code of its first error; then the details
-/// are unchanged.
+/// Parses a reply about an XDP socket.
 #[unsafe(no_mangle)]
 pub extern "C" fn sockdiag_xdp_fill_details(
     payload: &[u8],
