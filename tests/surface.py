@@ -426,6 +426,7 @@ def constants_named(module, item):
 def header_lines(text, contracts):
     """Yields the lines of the C header. The functions have the contracts of the crate."""
     text = re.sub(r"/\*.*?\*/", "", text, flags=re.S)
+    text = re.sub(r"\s*\\\n\s*", " ", text)
     for name, value in re.findall(r"^#define (\w+(?:\(.*?\))?) +(.*?) *$", text, re.M):
         yield f"{name}: {value}, #define"
     for kind, name, body in re.findall(r"^(enum|struct) (\w+) \{(.*?)\}", text, re.M | re.S):
