@@ -30,7 +30,7 @@ INCLUDED = Path("/usr/include/linux/inet_diag.h")
 HEADERS = """stdio.h stddef.h sys/socket.h netinet/in.h linux/netlink.h linux/sock_diag.h
     linux/inet_diag.h linux/unix_diag.h linux/netlink_diag.h linux/packet_diag.h
     linux/vm_sockets_diag.h linux/xdp_diag.h linux/tcp.h linux/tls.h linux/mptcp.h linux/bpf.h
-    linux/if_link.h linux/version.h""".split()
+    linux/if_link.h linux/filter.h linux/version.h""".split()
 INCLUDES = "".join(f"#if __has_include(<{it}>)\n#include <{it}>\n#endif\n" for it in HEADERS)
 # The version of Linux that has all members and constants of the crates, and the first one that has
 # the bit fields of `tcp_info`. Older ones have other members there.
@@ -120,6 +120,10 @@ RECORDS = [
         scope_id= rest="""),
     ("stored_address", "sockaddr_in6", """family=sin6_family port=sin6_port front=sin6_flowinfo
         segments=sin6_addr scope_id=sin6_scope_id rest="""),
+    ("packet_membership", "packet_diag_mclist", """interface=pdmc_index count=pdmc_count
+        kind=pdmc_type address_length=pdmc_alen address=pdmc_addr"""),
+    ("filter_instruction", "sock_filter", """code=code jump_if_met=jt jump_if_not_met=jf
+        operand=k"""),
     ("socket_options", "inet_diag_sockopt", "bits="),
     ("mem_info", "", """receive_queue=RMEM_ALLOC receive_queue_max=RCVBUF
         bottom_send_queues=WMEM_ALLOC send_queue_max=SNDBUF cache=FWD_ALLOC send_queue=WMEM_QUEUED

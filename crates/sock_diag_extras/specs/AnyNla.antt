@@ -40,8 +40,10 @@ use Rattle.sock_diag_families.specs.declared.xdp.attributes.XdpInfo.{XdpInfo}
 use Rattle.sock_diag_families.specs.declared.xdp.attributes.XdpStatistics.{XdpStatistics}
 use Rattle.sock_diag_families.specs.declared.xdp.attributes.XdpUmem.{XdpUmem}
 use Rattle.sock_diag_extras.specs.Congestion.{bbr_info, dctcp_info, vegas_info}
+use Rattle.sock_diag_extras.specs.FilterInstruction.{filter_instruction}
 use Rattle.sock_diag_extras.specs.Md5Signature.{md5_signature}
 use Rattle.sock_diag_extras.specs.Models.{mptcp_info_bytes, nested_bytes, tcp_info_bytes}
+use Rattle.sock_diag_extras.specs.PacketMembership.{packet_membership}
 use Rattle.sock_diag_extras.specs.Pieces.{framing_error_of, pieces_in}
 use Rattle.sock_diag_extras.specs.RecordTable.{RecordTable, parse_by_table}
 use Rattle.sock_diag_extras.specs.SocketOptions.{socket_options}
@@ -222,13 +224,15 @@ netlink_rows =
 abbrev pub packet_rows : List KindRow
 packet_rows =
     row packet.PACKET_DIAG_INFO parse_packet_info packet_info ∷
-    row packet.PACKET_DIAG_MCLIST Ok memberships ∷
+    row packet.PACKET_DIAG_MCLIST (whole_records packet.PACKET_DIAG_MCLIST packet_membership)
+    memberships ∷
     row packet.PACKET_DIAG_RX_RING (parse_packet_ring packet.PACKET_DIAG_RX_RING) receive_frames ∷
     row packet.PACKET_DIAG_TX_RING (parse_packet_ring packet.PACKET_DIAG_TX_RING) send_frames ∷
     number_row packet.PACKET_DIAG_FANOUT 4 fanout ∷
     number_row packet.PACKET_DIAG_UID 4 owner ∷
     row packet.PACKET_DIAG_MEMINFO (parse_record mem_info tt) memory ∷
-    row packet.PACKET_DIAG_FILTER Ok filter ∷ []
+    row packet.PACKET_DIAG_FILTER (whole_records packet.PACKET_DIAG_FILTER filter_instruction)
+    filter ∷ []
 
 -- XDP sockets (linux/xdp_diag.h)
 abbrev pub xdp_rows : List KindRow

@@ -11,10 +11,13 @@ pub mod UlpInfo
 pub mod Records
 pub mod Pieces
 pub mod AnyNla
+pub mod AnyParts
 pub mod AnyItems
 pub mod AnyHeader
 pub mod AnyReply
 pub mod AnyAgreement
 pub mod Md5Signature
 pub mod StoredAddress
+pub mod PacketMembership
+pub mod FilterInstruction
 pub mod laws

@@ -5,7 +5,9 @@ ghost use Rattle.sock_diag_extras.specs.laws.EqualTcpField.{tcp_field_equal};
 
 use crate::any::{InfoFormat, RawTimer, Sockets};
 use crate::congestion::{BbrInfo, DctcpInfo, VegasInfo};
+use crate::filter_instruction::FilterInstruction;
 use crate::md5_signature::Md5Signature;
+use crate::membership::PacketMembership;
 use crate::mptcp_info::MptcpField;
 use crate::options::{SocketOption, SocketOptions};
 use crate::stored_address::StoredAddress;
@@ -26,6 +28,14 @@ impl Exact for BbrInfo {
 }
 
 impl Exact for Md5Signature {
+    ghost exact = { Prim.search rules };
+}
+
+impl Exact for FilterInstruction {
+    ghost exact = { Prim.search rules };
+}
+
+impl Exact for PacketMembership {
     ghost exact = { Prim.search rules };
 }
 

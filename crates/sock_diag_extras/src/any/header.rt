@@ -4,10 +4,11 @@ ghost use Rattle.std.specs.Prelude.{◌≡◌, ◌≤◌, IfOk, length};
 ghost use Rattle.netlink_core.specs.Layout.{parse_record};
 ghost use Rattle.sock_diag_records.specs.InetResponse.{inet_response_header};
 ghost use Rattle.sock_diag_extras.specs.AnyHeader.{any_header, header_of_family, header_of_type};
-ghost use Rattle.sock_diag_extras.specs.AnyHeader.{header_size, sockets_of};
+ghost use Rattle.sock_diag_extras.specs.AnyHeader.{header_size, sockets_of, timer_at};
 
 use crate::any::nla::{InfoFormat, Sockets};
 use crate::constants::{DCCPDIAG_GETSOCK, TCPDIAG_GETSOCK};
+use byteorder::{ByteOrder, LittleEndian};
 use netlink_core::{DecodeError, Record, read_record};
 use sock_diag_families::netlink::{NETLINK_RESPONSE_HEADER_LEN, NetlinkResponseHeader};
 use sock_diag_families::packet::{PACKET_RESPONSE_HEADER_LEN, PacketResponseHeader};
@@ -47,6 +48,22 @@ pub struct RawTimer {
     pub retransmits: u8,
     /// Time until the timer expires, in milliseconds (`idiag_expires`).
     pub expires: u32,
+}
+
+impl RawTimer {
+    /// Parses the timer in the header of a reply about an IPv4 or IPv6 socket. The payload must
+    /// have at least the bytes of this header.
+    pub fn parse(payload: &[u8]) -> RawTimer
+        requires { INET_RESPONSE_HEADER_LEN ≤ length payload.now }
+        ensures { result ≡ timer_at payload.now }
+    {
+        // The offsets of `idiag_timer`, `idiag_retrans` and `idiag_expires`.
+        RawTimer {
+            kind: payload[2],
+            retransmits: payload[3],
+            expires: LittleEndian::read_u32(&payload[52..]),
+        }
+    }
 }
 
 impl AnyHeader {

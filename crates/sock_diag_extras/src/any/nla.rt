@@ -21,7 +21,9 @@ use crate::constants::{
     INET_DIAG_CGROUP_ID, INET_DIAG_SK_BPF_STORAGES, INET_DIAG_SOCKOPT, INET_DIAG_ULP_INFO,
     UNIX_DIAG_UID,
 };
+use crate::filter_instruction::FilterInstruction;
 use crate::md5_signature::Md5Signature;
+use crate::membership::PacketMembership;
 use crate::mptcp_info::MptcpInfoBytes;
 use crate::nested::NestedNlas;
 use crate::options::SocketOptions;
@@ -155,8 +157,8 @@ pub enum AnyNla<'a> {
     NetlinkFlags(u32),
     /// `PACKET_DIAG_INFO`: the settings of a packet socket.
     PacketInfo(PacketInfo),
-    /// `PACKET_DIAG_MCLIST`: the memberships of a packet socket, `struct packet_diag_mclist`, 44
-    /// bytes each. The length is not checked.
+    /// `PACKET_DIAG_MCLIST`: the memberships of a packet socket, whole records
+    /// [`PacketMembership`], which `AttributeRecords` yields.
     Memberships(&'a [u8]),
     /// `PACKET_DIAG_RX_RING`: the receive ring.
     ReceiveFrames(PacketRing),
@@ -165,8 +167,8 @@ pub enum AnyNla<'a> {
     /// `PACKET_DIAG_FANOUT`: the id of the fanout group in the low 16 bits, and its mode in the
     /// high 16 bits.
     Fanout(u32),
-    /// `PACKET_DIAG_FILTER`: the instructions of the socket filter, `struct sock_filter`, 8 bytes
-    /// each. The length is not checked.
+    /// `PACKET_DIAG_FILTER`: the instructions of the socket filter, whole records
+    /// [`FilterInstruction`], which `AttributeRecords` yields.
     Filter(&'a [u8]),
     /// `XDP_DIAG_INFO`: the interface and the queue that an XDP socket is bound to.
     XdpInfo(XdpInfo),
@@ -348,13 +350,13 @@ fn read_packet<'a>(nla: &NlaBuffer<'a>) -> Result<AnyNla<'a>, DecodeError>
     let (kind, value) = (nla.kind(), nla.value());
     Ok(match kind {
         PACKET_DIAG_INFO => AnyNla::PacketInfo(PacketInfo::parse(value)?),
-        PACKET_DIAG_MCLIST => AnyNla::Memberships(value),
+        PACKET_DIAG_MCLIST => AnyNla::Memberships(whole_records::<PacketMembership>(nla)?),
         PACKET_DIAG_RX_RING => AnyNla::ReceiveFrames(PacketRing::parse(value, kind)?),
         PACKET_DIAG_TX_RING => AnyNla::SendFrames(PacketRing::parse(value, kind)?),
         PACKET_DIAG_FANOUT => AnyNla::Fanout(parse_u32(nla)?),
         PACKET_DIAG_UID => AnyNla::Owner(parse_u32(nla)?),
         PACKET_DIAG_MEMINFO => AnyNla::Memory(MemInfo::parse(value)?),
-        PACKET_DIAG_FILTER => AnyNla::Filter(value),
+        PACKET_DIAG_FILTER => AnyNla::Filter(whole_records::<FilterInstruction>(nla)?),
         _ => AnyNla::Unknown(*nla),
     })
 }

@@ -8,7 +8,6 @@ ghost use Rattle.sock_diag_extras.specs.AnyItems.{items_in, items_left};
 use crate::any::header::{AnyHeader, RawTimer};
 use crate::any::nla::InfoFormat;
 use crate::any::nlas::AnyNlas;
-use byteorder::{ByteOrder, LittleEndian};
 use netlink_core::DecodeError;
 
 /// A borrowed reply about a socket of any family. Its attributes are not checked until they are
@@ -46,12 +45,7 @@ impl<'a> AnyReply<'a> {
         ensures { result ≡ timer_of (reply_header self.now) (reply_bytes self.now) }
     {
         match self.header {
-            // The offsets of `idiag_timer`, `idiag_retrans` and `idiag_expires`.
-            AnyHeader::Inet(_) => Some(RawTimer {
-                kind: self.payload[2],
-                retransmits: self.payload[3],
-                expires: LittleEndian::read_u32(&self.payload[52..]),
-            }),
+            AnyHeader::Inet(_) => Some(RawTimer::parse(self.payload)),
             _ => None,
         }
     }

@@ -7,9 +7,9 @@ use netlink_core::{DecodeError, NlaBuffer, NlasIterator};
 use sock_diag_extras::any::{AnyReply, InfoFormat};
 use sock_diag_extras::{
     AckAttributes, AckView, AttributeRecord, AttributeRecords, BbrInfo, BpfStorage, DctcpInfo,
-    Md5Signature, MptcpField, MptcpInfoBytes, NestedNlas, SocketOption, SocketOptions,
-    StoredAddress, SubflowField, SubflowInfo, TcpField, TcpInfoBytes, TlsField, TlsInfo, UlpInfo,
-    VegasInfo, read_attribute_record, write_attribute_record,
+    FilterInstruction, Md5Signature, MptcpField, MptcpInfoBytes, NestedNlas, PacketMembership,
+    SocketOption, SocketOptions, StoredAddress, SubflowField, SubflowInfo, TcpField, TcpInfoBytes,
+    TlsField, TlsInfo, UlpInfo, VegasInfo, read_attribute_record, write_attribute_record,
 };
 use std::alloc::Global;
 use std::fmt::Debug;
@@ -229,6 +229,8 @@ fn content_text(rt: &impl Abort, alloc: Global, word: &str, bytes: &[u8]) -> Str
         "dctcp" => record::<DctcpInfo>(rt, alloc, bytes),
         "bbr" => record::<BbrInfo>(rt, alloc, bytes),
         "options" => record::<SocketOptions>(rt, alloc, bytes),
+        "instruction" => record::<FilterInstruction>(rt, alloc, bytes),
+        "membership" => record::<PacketMembership>(rt, alloc, bytes),
         "address" => address(rt, alloc, bytes),
         "storages" => storages(rt, alloc, bytes),
         "ulp" => upper_protocol_or_error(rt, alloc, bytes),
@@ -303,6 +305,12 @@ DctcpInfo { enabled: 1, ce_state: 2, alpha: 3, marked_bytes: 4, acked_bytes: 5 }
 bbr 0100000002000000030000000400000005000000|\
 BbrInfo { bandwidth: 8589934593, min_rtt: 3, pacing_gain: 4, window_gain: 5 } true
 options 0504|SocketOptions { bits: 1029 } true
+instruction 1500000800080000|\
+FilterInstruction { code: 21, jump_if_met: 0, jump_if_not_met: 8, operand: 2048 } true
+membership 0200000001000000000006000180c200000300000000000000000000000000000000000000000000\
+00000000|\
+PacketMembership { interface: 2, count: 1, kind: 0, address_length: 6, address: [1, 128, 194, 0, \
+0, 3, 0, 0, 0, 0, 0, 0, 0, 0, 0, 0, 0, 0, 0, 0, 0, 0, 0, 0, 0, 0, 0, 0, 0, 0, 0, 0] } true
 512 \
 deffffff2800000013000500070000000000000000000000010000000000000000000000060004006162000027000100\
 417474726962757465206661696c656420706f6c6963792076616c69646174696f6e0000080002002000000024000480\
