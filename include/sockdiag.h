@@ -1166,12 +1166,12 @@ struct sockdiag_packet_details {
     struct sockdiag_packet_info info;         /* Settings of the socket (PACKET_DIAG_INFO, type
                                                  0). */
     struct sockdiag_text addresses;           /* Memberships of the socket
-                                                 (PACKET_ADD_MEMBERSHIP, packet(7)), 44 bytes
-                                                 each, struct packet_diag_mclist
-                                                 (PACKET_DIAG_MCLIST, type 1): addresses that it
-                                                 also receives, and promiscuous or all-multicast
-                                                 mode, which have no address. The kind of the
-                                                 text is SOCKDIAG_BYTES. */
+                                                 (PACKET_ADD_MEMBERSHIP, packet(7);
+                                                 PACKET_DIAG_MCLIST, type 1), 44 bytes each,
+                                                 which sockdiag_next_membership reads: addresses
+                                                 that it also receives, and promiscuous or
+                                                 all-multicast mode, which have no address. The
+                                                 kind of the text is SOCKDIAG_BYTES. */
     uint32_t has_receive_ring;                /* 1 if receive_ring is set, else 0. */
     struct sockdiag_packet_ring receive_ring; /* Receive ring (PACKET_DIAG_RX_RING, type 2). */
     uint32_t has_send_ring;                   /* 1 if send_ring is set, else 0. */
@@ -1181,9 +1181,10 @@ struct sockdiag_packet_details {
                                                  4). */
     struct sockdiag_number owner;             /* User id of the owner (PACKET_DIAG_UID, type 5). */
     struct sockdiag_memory memory;            /* Socket memory (PACKET_DIAG_MEMINFO, type 6). */
-    struct sockdiag_text filter;              /* Instructions of the socket filter, 8 bytes each,
-                                                 struct sock_filter (PACKET_DIAG_FILTER, type 7).
-                                                 The kind of the text is SOCKDIAG_BYTES. */
+    struct sockdiag_text filter;              /* Instructions of the socket filter
+                                                 (PACKET_DIAG_FILTER, type 7), 8 bytes each,
+                                                 which sockdiag_next_instruction reads. The kind
+                                                 of the text is SOCKDIAG_BYTES. */
 };
 #define SOCKDIAG_PACKET_DETAILS_SIZE_1_0 248
 
@@ -1364,8 +1365,7 @@ static inline uint32_t sockdiag_xdp_get_details(const uint8_t *payload, size_t l
  *   INET_DIAG_PROTOCOL (10), INET_DIAG_SKV6ONLY (11), INET_DIAG_MARK (15) and INET_DIAG_CLASS_ID
  *   (17);
  * - netlink sockets: NETLINK_DIAG_MEMINFO (0) and NETLINK_DIAG_FLAGS (4) of linux/netlink_diag.h;
- * - packet sockets: PACKET_DIAG_INFO (0), PACKET_DIAG_RX_RING (2), PACKET_DIAG_TX_RING (3),
- *   PACKET_DIAG_FANOUT (4), PACKET_DIAG_UID (5) and PACKET_DIAG_MEMINFO (6) of linux/packet_diag.h;
+ * - packet sockets: 0 to 7, from PACKET_DIAG_INFO to PACKET_DIAG_FILTER of linux/packet_diag.h;
  * - vsock sockets: none;
  * - XDP sockets: 1 to 9, from XDP_DIAG_INFO to XDP_DIAG_STATS of linux/xdp_diag.h.
  */
@@ -1842,6 +1842,51 @@ struct sockdiag_stored_address {
  */
 uint32_t sockdiag_next_address(const uint8_t *value, size_t length, struct sockdiag_cursor *cursor,
                                struct sockdiag_stored_address *address);
+
+/*
+ * An address that a packet socket also receives: one of the records in the value of
+ * PACKET_DIAG_MCLIST, struct packet_diag_mclist of linux/packet_diag.h, 44 bytes. The numbers are
+ * little-endian.
+ */
+struct sockdiag_packet_membership {
+    uint32_t interface;      /* Index of the interface, pdmc_index, at offset 0. */
+    uint32_t count;          /* Number of times that the address was added, pdmc_count, at offset
+                                4. */
+    uint16_t kind;           /* Type of the membership, pdmc_type, at offset 8: one of
+                                PACKET_MR_.. of linux/if_packet.h. */
+    uint16_t address_length; /* Length of the address, pdmc_alen, at offset 10, in bytes. */
+    uint8_t address[32];     /* Address, pdmc_addr, at offset 12. Only the first address_length
+                                bytes are used. */
+};
+
+/*
+ * Iterates over the memberships of a packet socket, of 44 bytes each, in the value of
+ * PACKET_DIAG_MCLIST, the field addresses of its details.
+ */
+uint32_t sockdiag_next_membership(const uint8_t *value, size_t length,
+                                  struct sockdiag_cursor *cursor,
+                                  struct sockdiag_packet_membership *membership);
+
+/*
+ * An instruction of a socket filter: one of the records in the value of PACKET_DIAG_FILTER, struct
+ * sock_filter of linux/filter.h, 8 bytes. The numbers are little-endian.
+ */
+struct sockdiag_filter_instruction {
+    uint16_t code;           /* What the instruction does, code, at offset 0. */
+    uint8_t jump_if_met;     /* Number of instructions to skip if its condition is met, jt, at
+                                offset 2. */
+    uint8_t jump_if_not_met; /* Number of instructions to skip if its condition is not met, jf,
+                                at offset 3. */
+    uint32_t operand;        /* Operand, k, at offset 4. */
+};
+
+/*
+ * Iterates over the instructions of the filter of a packet socket, of 8 bytes each, in the value of
+ * PACKET_DIAG_FILTER, the field filter of its details.
+ */
+uint32_t sockdiag_next_instruction(const uint8_t *value, size_t length,
+                                   struct sockdiag_cursor *cursor,
+                                   struct sockdiag_filter_instruction *instruction);
 
 /* ---- errors with their fields
  *

@@ -405,6 +405,45 @@ static void reads_addresses(void) {
     check(sockdiag_next_address(NULL, 0, &cursor, &it) == SOCKDIAG_END, "no addresses");
 }
 
+static void reads_memberships_and_filters(void) {
+    uint8_t bytes[96];
+    struct sockdiag_packet_membership it;
+    struct sockdiag_filter_instruction step;
+    struct sockdiag_cursor cursor = {44};
+    number_bytes(bytes, sizeof bytes);
+    check(sockdiag_next_membership(bytes, 96, &cursor, &it) == SOCKDIAG_ITEM &&
+          cursor.offset == 88, "a membership");
+    FIELD(it.interface, bytes + 44);
+    FIELD(it.count, bytes + 48);
+    FIELD(it.kind, bytes + 52);
+    FIELD(it.address_length, bytes + 54);
+    check(memcmp(it.address, bytes + 56, 32) == 0, "it.address");
+    check(sockdiag_next_membership(bytes, 96, &cursor, &it) == SOCKDIAG_WRONG_LENGTH &&
+          cursor.offset == 96, "8 bytes after the memberships");
+    cursor.offset = 8;
+    check(sockdiag_next_instruction(bytes, 16, &cursor, &step) == SOCKDIAG_ITEM &&
+          cursor.offset == 16, "an instruction");
+    FIELD(step.code, bytes + 8);
+    FIELD(step.jump_if_met, bytes + 10);
+    FIELD(step.jump_if_not_met, bytes + 11);
+    FIELD(step.operand, bytes + 12);
+    check(sockdiag_next_instruction(bytes, 16, &cursor, &step) == SOCKDIAG_END, "the last one");
+}
+
+static void reads_numbers(void) {
+    uint8_t bytes[9];
+    size_t length;
+    number_bytes(bytes, sizeof bytes);
+    bytes[0] = 0xff;
+    for (length = 0; length <= 9; length++) {
+        const int is_width = length == 1 || length == 2 || length == 4 || length == 8;
+        uint64_t number = 7;
+        check(sockdiag_get_number(bytes, length, &number) ==
+                  (is_width ? SOCKDIAG_OK : SOCKDIAG_WRONG_LENGTH), "the length of a number");
+        check(number == (is_width ? number_at(bytes, length) : 7), "a number");
+    }
+}
+
 static void explains_headers_and_framing(void) {
     uint8_t bytes[128];
     memcpy(bytes, unix_header, 16);
@@ -522,6 +561,8 @@ int main(void) {
     reads_pending_connections();
     reads_md5_signatures();
     reads_addresses();
+    reads_memberships_and_filters();
+    reads_numbers();
     explains_headers_and_framing();
     explains_other_replies();
     explains_messages();

@@ -214,6 +214,8 @@ static void write_requests(const uint8_t *bytes, size_t length) {
     WALK(sockdiag_next_pending, uint32_t, value)                                                \
     WALK(sockdiag_next_md5_signature, struct sockdiag_md5_signature, value)                     \
     WALK(sockdiag_next_address, struct sockdiag_stored_address, value)                          \
+    WALK(sockdiag_next_membership, struct sockdiag_packet_membership, value)                    \
+    WALK(sockdiag_next_instruction, struct sockdiag_filter_instruction, value)                  \
     REWRITE(sockdiag_rewrite_unix_reply, , unix_empty, unix_peers, unix_path, unix_pending)     \
     REWRITE(sockdiag_rewrite_inet_reply, , inet_empty, inet_marks, inet_text)                   \
     OTHER(write_request, , attributes)                                                          \

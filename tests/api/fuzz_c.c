@@ -213,6 +213,10 @@ static void try_values(const uint8_t *bytes, size_t length) {
     STEPS(uint32_t, sockdiag_next_pending, 4);
     STEPS(struct sockdiag_md5_signature, sockdiag_next_md5_signature, 100);
     STEPS(struct sockdiag_stored_address, sockdiag_next_address, 128);
+    STEPS(struct sockdiag_packet_membership, sockdiag_next_membership, 44);
+    STEPS(struct sockdiag_filter_instruction, sockdiag_next_instruction, 8);
+    VALUE(uint64_t, sockdiag_get_number,
+          length == 1 || length == 2 || length == 4 || length == 8);
 }
 
 /* The value, with a struct of each size. The value of MPTCP is the same attribute. */

@@ -4,7 +4,9 @@
 ghost use Rattle.std.specs.Prelude.{◌≡◌, ◌≢◌, ◌+◌, ◌≤◌, [], MatchOption, MatchResult, length};
 ghost use Rattle.byteorder.specs.Endian.{little_number};
 ghost use Rattle.sock_diag_extras.specs.Congestion.{bbr_info, dctcp_info, vegas_info};
+ghost use Rattle.sock_diag_extras.specs.FilterInstruction.{filter_instruction};
 ghost use Rattle.sock_diag_extras.specs.Md5Signature.{md5_signature};
+ghost use Rattle.sock_diag_extras.specs.PacketMembership.{packet_membership};
 ghost use Rattle.sock_diag_extras.specs.RecordTable.{parse_by_table};
 ghost use Rattle.sock_diag_extras.specs.StoredAddress.{stored_address};
 ghost use Rattle.sockdiag_c.specs.Answers.{IsStoredIf};
@@ -16,8 +18,8 @@ use crate::walks::{Cursor, bytes_from};
 use byteorder::{ByteOrder, LittleEndian};
 use netlink_core::DecodeError;
 use sock_diag_extras::{
-    AttributeRecord, BbrInfo, DctcpInfo, Md5Signature, StoredAddress, VegasInfo,
-    read_attribute_record,
+    AttributeRecord, BbrInfo, DctcpInfo, FilterInstruction, Md5Signature, PacketMembership,
+    StoredAddress, VegasInfo, read_attribute_record,
 };
 
 const _: () = prove!(std::mem::size_of::<VegasInfo>() == 16);
@@ -29,6 +31,10 @@ const _: () = prove!(std::mem::size_of::<BbrInfo>() == 24);
 const _: () = prove!(std::mem::size_of::<Md5Signature>() == 100);
 
 const _: () = prove!(std::mem::size_of::<StoredAddress>() == 128);
+
+const _: () = prove!(std::mem::size_of::<PacketMembership>() == 44);
+
+const _: () = prove!(std::mem::size_of::<FilterInstruction>() == 8);
 
 /// Stores a number, the value of an attribute: little-endian, of 1, 2, 4 or 8 bytes. Another length
 /// is `SOCKDIAG_WRONG_LENGTH`.
@@ -141,6 +147,46 @@ pub extern "C" fn sockdiag_next_pending(value: &[u8], cursor: &mut Cursor, inode
         Some(Err(error)) => u32::from(error.number()),
         None => END,
     }
+}
+
+/// Iterates over the memberships of a packet socket, of 44 bytes each, in the value of
+/// `PACKET_DIAG_MCLIST`, the field `addresses` of its details.
+#[unsafe(no_mangle)]
+pub extern "C" fn sockdiag_next_membership(
+    value: &[u8],
+    cursor: &mut Cursor,
+    membership: &mut PacketMembership,
+) -> u32
+    ensures { StepsOverItem packet_membership.size (parse_by_table packet_membership) record {
+      bytes = value.now;
+      old_cursor = cursor.old;
+      new_cursor = cursor.new;
+      old_item = membership.old;
+      new_item = membership.new;
+      returned = result;
+    } }
+{
+    next_record(value, cursor, membership)
+}
+
+/// Iterates over the instructions of the filter of a packet socket, of 8 bytes each, in the value of
+/// `PACKET_DIAG_FILTER`, the field `filter` of its details.
+#[unsafe(no_mangle)]
+pub extern "C" fn sockdiag_next_instruction(
+    value: &[u8],
+    cursor: &mut Cursor,
+    instruction: &mut FilterInstruction,
+) -> u32
+    ensures { StepsOverItem filter_instruction.size (parse_by_table filter_instruction) record {
+      bytes = value.now;
+      old_cursor = cursor.old;
+      new_cursor = cursor.new;
+      old_item = instruction.old;
+      new_item = instruction.new;
+      returned = result;
+    } }
+{
+    next_record(value, cursor, instruction)
 }
 
 // Stores the record at the start of the value, and returns 0. If the value is shorter, returns the

@@ -38,8 +38,7 @@ pub const REJECTION_KINDS: usize = 32;
 ///   `INET_DIAG_CLASS_ID` (17);
 /// - netlink sockets: `NETLINK_DIAG_MEMINFO` (0) and `NETLINK_DIAG_FLAGS` (4) of
 ///   `linux/netlink_diag.h`;
-/// - packet sockets: `PACKET_DIAG_INFO` (0), `PACKET_DIAG_RX_RING` (2), `PACKET_DIAG_TX_RING` (3),
-///   `PACKET_DIAG_FANOUT` (4), `PACKET_DIAG_UID` (5) and `PACKET_DIAG_MEMINFO` (6) of
+/// - packet sockets: 0 to 7, from `PACKET_DIAG_INFO` to `PACKET_DIAG_FILTER` of
 ///   `linux/packet_diag.h`;
 /// - vsock sockets: none;
 /// - XDP sockets: 1 to 9, from `XDP_DIAG_INFO` to `XDP_DIAG_STATS` of `linux/xdp_diag.h`.

@@ -28,9 +28,9 @@ pub struct PacketDetails<'a> {
     pub has_info: u32,
     /// Settings of the socket (`PACKET_DIAG_INFO`, type 0).
     pub info: PacketInfo,
-    /// Memberships of the socket (`PACKET_ADD_MEMBERSHIP`, packet(7)), 44 bytes each, `struct
-    /// packet_diag_mclist` (`PACKET_DIAG_MCLIST`, type 1): addresses that it also receives, and
-    /// promiscuous or all-multicast mode, which have no address. The kind of the text is
+    /// Memberships of the socket (`PACKET_ADD_MEMBERSHIP`, packet(7); `PACKET_DIAG_MCLIST`, type
+    /// 1), 44 bytes each, which `sockdiag_next_membership` reads: addresses that it also receives,
+    /// and promiscuous or all-multicast mode, which have no address. The kind of the text is
     /// `SOCKDIAG_BYTES`.
     pub addresses: Text<'a>,
     /// 1 if `receive_ring` is set, else 0.
@@ -48,8 +48,8 @@ pub struct PacketDetails<'a> {
     pub owner: Number,
     /// Socket memory (`PACKET_DIAG_MEMINFO`, type 6).
     pub memory: Memory,
-    /// Instructions of the socket filter, 8 bytes each, `struct sock_filter` (`PACKET_DIAG_FILTER`,
-    /// type 7). The kind of the text is `SOCKDIAG_BYTES`.
+    /// Instructions of the socket filter (`PACKET_DIAG_FILTER`, type 7), 8 bytes each, which
+    /// `sockdiag_next_instruction` reads. The kind of the text is `SOCKDIAG_BYTES`.
     pub filter: Text<'a>,
 }
 
