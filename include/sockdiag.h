@@ -13,11 +13,11 @@
  * steps 1 to 3.
  *
  * Each call returns 0 (SOCKDIAG_OK) if it has succeeded, or a positive code, which
- * sockdiag_error_text takes. Calls named sockdiag_next_.. iterate: they return SOCKDIAG_ITEM,
- * SOCKDIAG_END, or the code of an error. Calls named sockdiag_write_.. and sockdiag_rewrite_..
- * store the number of bytes that they wrote, and with SOCKDIAG_NO_SPACE the number that the buffer
- * has to have. Only sockdiag_version, and the tests named sockdiag_is_.. and sockdiag_ends_..,
- * which return 1 or 0, return no code.
+ * sockdiag_error_text takes. Calls with _next_ in their names iterate: they return SOCKDIAG_ITEM,
+ * SOCKDIAG_END, or the code of an error. Calls with _write_ or _rewrite_ store the number of bytes
+ * that they wrote, and with SOCKDIAG_NO_SPACE the number that the buffer has to have. Four calls
+ * return no code: sockdiag_version, and the tests sockdiag_is_answer, sockdiag_is_interrupted and
+ * sockdiag_ends_answer, which return 1 or 0.
  *
  * The structs named sockdiag_.._details, and sockdiag_vsock_header, sockdiag_tcp_info and
  * sockdiag_mptcp_info, may get more fields at their end in a later version; no others do. A call
@@ -87,16 +87,19 @@ extern "C" {
  */
 uint32_t sockdiag_version(void);
 
-#define SOCKDIAG_OK 0                 /* The call has succeeded. */
-#define SOCKDIAG_ITEM 100             /* An iterator has stored an item. */
-#define SOCKDIAG_END 101              /* An iterator is at the end, or the reply lacks the value
-                                         that the call copies. */
-#define SOCKDIAG_NO_SPACE 102         /* The buffer is shorter than the message, whose length is
-                                         stored. */
-#define SOCKDIAG_TOO_LONG 103         /* A message or an attribute is too long for its length
-                                         field. */
-#define SOCKDIAG_INVALID_ARGUMENT 104 /* The size of a struct is below that of version 1.0, or
-                                         what is unknown. */
+/* Return values of the calls, next to the codes of decode errors. */
+enum sockdiag_result {
+    SOCKDIAG_OK = 0,                /* The call has succeeded. */
+    SOCKDIAG_ITEM = 100,            /* An iterator has stored an item. */
+    SOCKDIAG_END = 101,             /* An iterator is at the end, or the reply lacks the value
+                                       that the call copies. */
+    SOCKDIAG_NO_SPACE = 102,        /* The buffer is shorter than the message, whose length is
+                                       stored. */
+    SOCKDIAG_TOO_LONG = 103,        /* A message or an attribute is too long for its length
+                                       field. */
+    SOCKDIAG_INVALID_ARGUMENT = 104 /* The size of a struct is below that of version 1.0, or what
+                                       is unknown. */
+};
 
 /*
  * Decode errors: why bytes are rejected. If bytes have several errors, a call returns the first.
@@ -1695,7 +1698,7 @@ uint32_t sockdiag_ends_answer(const struct sockdiag_message *message);
  * SOCKDIAG_WRONG_LENGTH, and no bytes are left. The time for all items of a value is proportional
  * to its length.
  *
- * The values of INET_DIAG_ULP_INFO, INET_DIAG_SK_BPF_STORAGES, and of attributes in them, consist of
+ * The values of INET_DIAG_ULP_INFO, INET_DIAG_SK_BPF_STORAGES and attributes in them consist of
  * attributes: iterate over a value by sockdiag_next_attribute from the offset 0, and read a number
  * by sockdiag_get_number. This prints the version of TLS of a socket:
  *

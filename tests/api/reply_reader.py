@@ -200,7 +200,8 @@ NETLINK_ATTRIBUTES = {
     4: (U32[0], {"flags": U32[1]}),
 }
 # PACKET_DIAG_INFO, _MCLIST, _RX_RING, _TX_RING, _FANOUT, _UID, _MEMINFO and _FILTER. struct
-# packet_diag_info has 6 u32, and struct packet_diag_ring 7. Memberships and instructions are records.
+# packet_diag_info has 6 u32, and struct packet_diag_ring 7. Memberships have 44 bytes each, and
+# instructions 8.
 PACKET_ATTRIBUTES = {
     0: (family_record(AF_PACKET, 24), {"info": numbers("6I")}),
     1: (records(44), {"addresses": raw}),

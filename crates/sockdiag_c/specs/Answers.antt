@@ -73,9 +73,9 @@ FillsStruct HasContents IsCode call =
     → HasContents call.new.0 × (call.new.1 ≡ padded_or_truncated (length call.old.1) []))
     × (call.returned ≢ 0 → IsCode call.returned × (call.new ≡ call.old))
 
--- `CopiesValue value call`: a call copies the value of an attribute to a struct of the caller, whose
--- bytes are the first component of `call.new`, and stores the length of the value, the second one.
--- If there is no value (`[]`), the return value is END, and nothing is stored.
+-- `CopiesValue value call`: a call copies the value of an attribute to a struct of the caller,
+-- whose bytes are the first component of `call.new`, and stores the length of the value, the second
+-- one. If there is no value (`[]`), the return value is END, and nothing is stored.
 abbrev pub CopiesValue : List ℕ → Call (List ℕ × ℕ) → Type 0
 CopiesValue value call =
     (value ≢ [] → (call.returned ≡ 0)

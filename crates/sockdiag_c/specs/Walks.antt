@@ -122,8 +122,8 @@ StoresMessage step =
     × (step.new_item.offset ≡ step.old_cursor.offset + 16)
 
 -- `StoresCheckedMessage step`: StoresMessage holds, and the return value is the result of the check
--- of the payload: ITEM if it is accepted, else the code of its first error. The message is stored in
--- both cases.
+-- of the payload: ITEM if it is accepted, else the code of its first error. The message is stored
+-- in both cases.
 abbrev pub StoresCheckedMessage : IterationStep MessageRange → Type 0
 StoresCheckedMessage step =
     StoresMessage step
@@ -132,8 +132,8 @@ StoresCheckedMessage step =
 
 -- `StepsOverMessage step`: one of:
 -- - No bytes are left, and the return value is END (`IterationEnds`).
--- - A message is stored, and the return value is ITEM, or the code of the first error of its payload
---   (`StoresCheckedMessage`).
+-- - A message is stored, and the return value is ITEM, or the code of the first error of its
+--   payload (`StoresCheckedMessage`).
 -- - The bytes left do not begin with a message, and the return value is the code of the framing
 --   error (`IterationFails`).
 abbrev pub StepsOverMessage : IterationStep MessageRange → Type 0

@@ -169,8 +169,8 @@ pub extern "C" fn sockdiag_next_membership(
     next_record(value, cursor, membership)
 }
 
-/// Iterates over the instructions of the filter of a packet socket, of 8 bytes each, in the value of
-/// `PACKET_DIAG_FILTER`, the field `filter` of its details.
+/// Iterates over the instructions of the filter of a packet socket, of 8 bytes each, in the value
+/// of `PACKET_DIAG_FILTER`, the field `filter` of its details.
 #[unsafe(no_mangle)]
 pub extern "C" fn sockdiag_next_instruction(
     value: &[u8],

@@ -37,8 +37,8 @@ pub extern "C" fn sockdiag_check_inet_reply(payload: &[u8], header: &mut InetHea
 }
 
 /// Checks the payload of a message of this type, and stores the kind and the header of the reply.
-/// The header of the other kind is unchanged. A family other than `AF_UNIX`, `AF_INET` and `AF_INET6` is
-/// `SOCKDIAG_UNKNOWN_FAMILY`.
+/// The header of the other kind is unchanged. A family other than `AF_UNIX`, `AF_INET` and
+/// `AF_INET6` is `SOCKDIAG_UNKNOWN_FAMILY`.
 #[unsafe(no_mangle)]
 pub extern "C" fn sockdiag_check_message(
     payload: &[u8],

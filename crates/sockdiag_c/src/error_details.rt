@@ -162,8 +162,8 @@ fn explain<T: Drop>(parsed: Result<T, DecodeError>, error: &mut ErrorDetails) ->
 ///   `SOCKDIAG_UNKNOWN_FAMILY`;
 /// - `SOCKDIAG_EXPLAIN_MESSAGE`: the payload of a message of type `SOCK_DIAG_BY_FAMILY`, which
 ///   `sockdiag_next_message` rejects;
-/// - `SOCKDIAG_EXPLAIN_DATAGRAM`: the rest of a datagram, from the offset that the cursor had before
-///   `sockdiag_next_any_message` rejected it;
+/// - `SOCKDIAG_EXPLAIN_DATAGRAM`: the rest of a datagram, from the offset that the cursor had
+///   before `sockdiag_next_any_message` rejected it;
 /// - `SOCKDIAG_EXPLAIN_UNIX_ATTRIBUTE` or `SOCKDIAG_EXPLAIN_INET_ATTRIBUTE`: a part of a reply that
 ///   begins with an attribute, which a lenient call rejects. Only this attribute is checked.
 ///

@@ -39,8 +39,9 @@ pub fn a_step_passes_the_first_attribute()
 {}
 
 /// States that a call of `sockdiag_next_message` stores the first message of the bytes left, and
-/// leaves the others (`next`); that it returns END if no bytes are left (`end`); and that it returns
-/// the code of the framing error if bytes are left that do not begin with a message (`error`).
+/// leaves the others (`next`); that it returns END if no bytes are left (`end`); and that it
+/// returns the code of the framing error if bytes are left that do not begin with a message
+/// (`error`).
 pub fn a_step_passes_the_first_message()
     ensures next { (step : IterationStep MessageRange)
         (message : List ℕ) (later : List (List ℕ)) (end : Option DecodeError)

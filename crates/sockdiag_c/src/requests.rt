@@ -73,8 +73,9 @@ pub struct InetRequest {
     pub family: u8,
     /// Attributes that the replies shall have, with the bit `1 << (kind - 1)` for each kind
     /// (`idiag_ext`). That of `INET_DIAG_VEGASINFO` requests what the socket's algorithm has, also
-    /// `INET_DIAG_DCTCPINFO` or `INET_DIAG_BBRINFO`. For MPTCP, and for kernels without `tcpi_snd_wnd`, leave out
-    /// `INET_DIAG_INFO`, or use a lenient call: `sockdiag_inet_get_details` rejects their replies.
+    /// `INET_DIAG_DCTCPINFO` or `INET_DIAG_BBRINFO`. For MPTCP, and for kernels without
+    /// `tcpi_snd_wnd`, leave out `INET_DIAG_INFO`, or use a lenient call:
+    /// `sockdiag_inet_get_details` rejects their replies.
     pub extensions: u8,
     /// Protocol, one of `IPPROTO_..` (`sdiag_protocol`). Request one protocol at a time: replies to
     /// a request do not contain it. A protocol above 255, such as `IPPROTO_MPTCP`, is written as an
@@ -133,8 +134,8 @@ pub extern "C" fn sockdiag_write_unix_request(
     )
 }
 
-/// Writes a request for IPv4 or IPv6 sockets: 72 bytes, or 80 if the protocol is above 255. A family
-/// other than `AF_INET` and `AF_INET6` is `SOCKDIAG_UNSUPPORTED_FAMILY`.
+/// Writes a request for IPv4 or IPv6 sockets: 72 bytes, or 80 if the protocol is above 255. A
+/// family other than `AF_INET` and `AF_INET6` is `SOCKDIAG_UNSUPPORTED_FAMILY`.
 #[unsafe(no_mangle)]
 pub extern "C" fn sockdiag_write_inet_request(
     request: &InetRequest,

@@ -1,5 +1,6 @@
 //! The canonical form of replies. Equivalent replies, which differ only in ignored bits, have the
-//! same canonical form. In the contracts `take written.new buffer.new` are the bytes that were written.
+//! same canonical form. In the contracts `take written.new buffer.new` are the bytes that were
+//! written.
 
 ghost use Rattle.std.specs.Prelude.{◌≡◌, take};
 ghost use Rattle.netlink_core.specs.Errors.{error_code};

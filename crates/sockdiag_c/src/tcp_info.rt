@@ -64,8 +64,8 @@ pub extern "C" fn sockdiag_inet_get_mptcp_info(
     copy_info(payload, info, value_length)
 }
 
-// Copies the value of the first `INET_DIAG_INFO` after the header of a reply to `info`, truncated to
-// its length or followed by zeros, and stores the length of the whole value.
+// Copies the value of the first `INET_DIAG_INFO` after the header of a reply to `info`, truncated
+// to its length or followed by zeros, and stores the length of the whole value.
 fn copy_info(payload: &[u8], info: &mut [u8], value_length: &mut usize) -> u32
     ensures { (attributes : List Attribute)
         → AreInetReplyAttributes payload.now attributes

@@ -1,17 +1,22 @@
 //! The contents of a reply about a UNIX socket, as a C struct.
 
-ghost use Rattle.std.specs.Prelude.{◌≡◌, ◌≢◌};
-ghost use Rattle.sock_diag_extras.specs.AnyNla.{any_model};
+ghost use Rattle.std.specs.Prelude.{◌≡◌, Err};
+ghost use Rattle.netlink_core.specs.Errors.{map_ok};
+ghost use Rattle.netlink_core.specs.Walk.{buffered_attribute};
+ghost use Rattle.sock_diag_attributes.specs.UnixAttributes.{unix_attribute_set};
+ghost use Rattle.sock_diag_extras.specs.AnyNla.{any_model, read_any};
+ghost use Rattle.sock_diag_extras.specs.declared.any.nla.Sockets.TheVariants.{Unix};
+ghost use Rattle.sockdiag_c.specs.CheckedKinds.{read_checked};
 ghost use Rattle.sockdiag_c.specs.Family.{StoresDetails};
 ghost use Rattle.sockdiag_c.specs.UnixDetails.{unix_family};
 
 use crate::details::{ABSTRACT, Number, ReplyDetails, TEXT, Text, store_details};
-use crate::family_values::{Memory, reject, split_header};
+use crate::family_values::{Memory, split_header};
 use crate::headers::UnixHeader;
 use netlink_core::{DecodeError, NlaBuffer};
-use netlink_packet_sock_diag::constants::UNIX_DIAG_SHUTDOWN;
 use netlink_packet_sock_diag::unix::UnixResponseHeader;
 use netlink_packet_sock_diag::unix::nlas::NameView;
+use sock_diag_attributes::unix::nlas::NlaView as UnixNlaView;
 use sock_diag_extras::any::{AnyNla, Sockets};
 
 /// Everything that a reply contains about a UNIX socket, except the connections that wait to be
@@ -84,8 +89,7 @@ impl<'a> ReplyDetails<'a> for UnixDetails<'a> {
     fn read(nla: &NlaBuffer<'a>) -> Result<AnyNla<'a>, DecodeError> {
         match AnyNla::read(Sockets::Unix, nla) {
             Ok(value) => Ok(value),
-            // The kinds that a check knows are 0 to 6.
-            Err(error) => reject(nla.kind() <= UNIX_DIAG_SHUTDOWN, nla, error),
+            Err(_) => reject_if_checked(nla),
         }
     }
 
@@ -110,5 +114,18 @@ impl<'a> ReplyDetails<'a> for UnixDetails<'a> {
             // These have no field: `sockdiag_next_attribute` returns them.
             _ => {}
         }
+    }
+}
+
+// Returns the error of an attribute with an invalid value. If the checks do not know its kind,
+// returns `AnyNla::Unknown`, and no error.
+fn reject_if_checked<'a>(nla: &NlaBuffer<'a>) -> Result<AnyNla<'a>, DecodeError>
+    // An attribute with a valid value is not passed.
+    ensures { let a = buffered_attribute nla.now in (e : DecodeError) → read_any Unix a ≡ Err e
+        → map_ok any_model result ≡ read_checked unix_attribute_set Unix a }
+{
+    match UnixNlaView::parse(nla) {
+        Ok(_) => Ok(AnyNla::Unknown(*nla)),
+        Err(error) => Err(error),
     }
 }
