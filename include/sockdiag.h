@@ -1431,10 +1431,9 @@ uint32_t sockdiag_netlink_fill_lenient_details(const uint8_t *payload, size_t le
                                                struct sockdiag_rejections *rejections);
 
 /* Parses a reply about a netlink socket leniently. */
-static inline uint32_t sockdiag_netlink_get_lenient_details(const uint8_t *payload, size_t length,
-                                                            struct sockdiag_netlink_details *details,
-                                                            size_t size,
-                                                            struct sockdiag_rejections *rejections)
+static inline uint32_t sockdiag_netlink_get_lenient_details(
+    const uint8_t *payload, size_t length, struct sockdiag_netlink_details *details, size_t size,
+    struct sockdiag_rejections *rejections)
 {
     if (size < SOCKDIAG_NETLINK_DETAILS_SIZE_1_0)
         return SOCKDIAG_INVALID_ARGUMENT;
