@@ -19,10 +19,11 @@
  * return no code: sockdiag_version, and the tests sockdiag_is_answer, sockdiag_is_interrupted and
  * sockdiag_ends_answer, which return 1 or 0.
  *
- * The structs named sockdiag_.._details, and sockdiag_vsock_header, sockdiag_tcp_info and
- * sockdiag_mptcp_info, may get more fields at their end in a later version; no others do. A call
- * that fills one takes its size, sizeof *details. It fills at most this number of bytes, and sets
- * fields that the library does not know to 0. So a program runs with older and newer libraries.
+ * The structs of the details of a reply (struct sockdiag_vsock_header for vsock sockets), struct
+ * sockdiag_tcp_info and struct sockdiag_mptcp_info may get more fields at their end in a later
+ * version; no others do. A call that fills one takes its size, sizeof *details. It fills at most
+ * this number of bytes, and sets fields that the library does not know to 0. So a program runs with
+ * older and newer libraries.
  *
  * The library does not allocate, opens no files or sockets, and has no state between calls. So any
  * thread may call it at any time, with memory that meets the requirements below. It needs at most
@@ -43,12 +44,11 @@
  * returns SOCKDIAG_OK or SOCKDIAG_ITEM, and it is unchanged otherwise. The padding between fields
  * may have any contents, so do not compare structs by memcmp.
  *
- * Messages are parsed and written as kernels of little-endian processors have them, with addresses
- * of eight bytes (x86-64, arm64). Numbers in structs are in the byte order of the host, ports
- * included. Addresses are in network
- * byte order, as inet_ntop expects them. A cookie of eight bytes is a copy of the bytes in the
- * message. The cookie of a netlink, packet, vsock or XDP socket is a number, which is little-endian
- * in the message. Offsets in comments are those in the kernel's structs.
+ * Messages have the byte order of the kernel's processor, which has to be little-endian. Numbers in
+ * structs are in the byte order of the host, ports included. Addresses are in network byte order,
+ * as inet_ntop expects them. A cookie of eight bytes is a copy of the bytes in the message. The
+ * cookie of a netlink, packet, vsock or XDP socket is a number. Offsets in comments are those in
+ * the kernel's structs.
  *
  * The kind of an attribute is its type without the two flag bits, as SOCKDIAG_UNIX_DIAG_NAME; the
  * field kind of the header of a reply is the type of the socket, SOCK_STREAM and so on. A port id

@@ -1,3 +1,4 @@
+use Rattle.netlink_core.specs.Walk.{buffered_attribute}
 use Rattle.sock_diag_attributes.specs.UnixAttributes.{unix_attribute_set}
 use Rattle.sock_diag_extras.specs.declared.any.nla.Sockets.TheVariants.{Unix}
 use Rattle.sockdiag_c.proofs.CheckedKinds.{rejected, unchecked}
@@ -8,4 +9,5 @@ returns-in-Ok c e read =
     unchecked unix_attribute_set Unix _ e _ read c.in-Ok.ensures
 
 pub returns-in-Err : goal.returns-in-Err
-returns-in-Err c e read = rejected unix_attribute_set Unix _ _ c.in-Err.ensures
+returns-in-Err c e read =
+    rejected unix_attribute_set Unix (buffered_attribute c.args.nla.now) _ c.in-Err.ensures
