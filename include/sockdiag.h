@@ -19,8 +19,8 @@
  * return no code: sockdiag_version, and the tests sockdiag_is_answer, sockdiag_is_interrupted and
  * sockdiag_ends_answer, which return 1 or 0.
  *
- * The structs of the details of a reply (struct sockdiag_vsock_header for vsock sockets), struct
- * sockdiag_tcp_info and struct sockdiag_mptcp_info may get more fields at their end in a later
+ * The structs named sockdiag_.._details, and struct sockdiag_vsock_header, sockdiag_tcp_info and
+ * sockdiag_mptcp_info, may get more fields at their end in a later
  * version; no others do. A call that fills one takes its size, sizeof *details. It fills at most
  * this number of bytes, and sets fields that the library does not know to 0. So a program runs with
  * older and newer libraries.
@@ -1941,6 +1941,7 @@ struct sockdiag_error_details {
     size_t index;                /* Index of the first NUL in a pathname
                                     (SOCKDIAG_NAME_INNER_ZERO). */
 };
+#define SOCKDIAG_ERROR_DETAILS_SIZE_1_0 56
 
 #define SOCKDIAG_EXPLAIN_MESSAGE 256        /* what of sockdiag_explain: the payload of a
                                                message. */
@@ -1950,6 +1951,10 @@ struct sockdiag_error_details {
                                                socket. */
 #define SOCKDIAG_EXPLAIN_INET_ATTRIBUTE 259 /* what of sockdiag_explain: an attribute of an IPv4
                                                or IPv6 socket. */
+
+uint32_t sockdiag_fill_explain(uint32_t what, const uint8_t *bytes, size_t length,
+                               struct sockdiag_error_details *error, uint8_t *later,
+                               size_t later_length);
 
 /*
  * Stores the error of bytes that another call rejected, with its fields, and returns its code.
@@ -1965,8 +1970,15 @@ struct sockdiag_error_details {
  *
  * Any other number is SOCKDIAG_INVALID_ARGUMENT.
  */
-uint32_t sockdiag_explain(uint32_t what, const uint8_t *bytes, size_t length,
-                          struct sockdiag_error_details *error);
+static inline uint32_t sockdiag_explain(uint32_t what, const uint8_t *bytes, size_t length,
+                                        struct sockdiag_error_details *error, size_t size)
+{
+    if (size < SOCKDIAG_ERROR_DETAILS_SIZE_1_0)
+        return SOCKDIAG_INVALID_ARGUMENT;
+    return sockdiag_fill_explain(
+        what, bytes, length, error, (uint8_t *)error + SOCKDIAG_ERROR_DETAILS_SIZE_1_0,
+        size - SOCKDIAG_ERROR_DETAILS_SIZE_1_0);
+}
 
 /* ---- requests
  *

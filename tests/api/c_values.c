@@ -500,8 +500,9 @@ static void explains_messages(void) {
     EXPLAINS(explain_message, other, 16, OTHER(SOCKDIAG_UNKNOWN_FAMILY, 17));
     EXPLAINS(explain_other_family, unix_header, 16, OTHER(SOCKDIAG_UNKNOWN_FAMILY, 43));
     memset(&error, UNTOUCHED, sizeof error);
-    check(sockdiag_explain(SOCKDIAG_EXPLAIN_INET_ATTRIBUTE + 1, NULL, 0, &error) ==
-              SOCKDIAG_INVALID_ARGUMENT && is_untouched(&error, sizeof error), "an unknown what");
+    check(sockdiag_explain(SOCKDIAG_EXPLAIN_INET_ATTRIBUTE + 1, NULL, 0, &error,
+                           sizeof error) == SOCKDIAG_INVALID_ARGUMENT &&
+          is_untouched(&error, sizeof error), "an unknown what");
     EXPLAINS(explain_message, unix_header, 12, SMALL(SOCKDIAG_RECORD_UNIX_RESPONSE_HEADER, 12, 16));
     EXPLAINS(explain_message, inet_header, 12, SMALL(SOCKDIAG_RECORD_INET_RESPONSE_HEADER, 12, 72));
 }

@@ -11,12 +11,11 @@
 /* The fields that a later version appends to each details struct: more of a later header. */
 static const uint32_t later_fields[4] = {1, 2, 3, 4};
 
-/* Stores the fields of a later version that a struct of this size has, after a call that returned
- * this code. */
-static inline uint32_t fill_later(uint32_t code, uint8_t *later, size_t length) {
-    if (code == SOCKDIAG_OK && length > 0)
+/* Stores the fields of a later version that a struct of this size has, after a call that has stored
+ * the other ones. */
+static inline void fill_later(int has_stored, uint8_t *later, size_t length) {
+    if (has_stored && length > 0)
         memcpy(later, later_fields, length < sizeof later_fields ? length : sizeof later_fields);
-    return code;
 }
 
 #ifdef LATER_LIBRARY
@@ -29,10 +28,25 @@ static inline uint32_t fill_later(uint32_t code, uint8_t *later, size_t length) 
     uint32_t __wrap_sockdiag_##family##_fill_details(const uint8_t *payload, size_t length,     \
                                                      struct it *details, uint8_t *later,        \
                                                      size_t later_length) {                     \
-        return fill_later(__real_sockdiag_##family##_fill_details(payload, length, details,     \
-                                                                  later, later_length),         \
-                          later, later_length);                                                 \
+        const uint32_t code = __real_sockdiag_##family##_fill_details(payload, length, details, \
+                                                                      later, later_length);     \
+        fill_later(code == SOCKDIAG_OK, later, later_length);                                   \
+        return code;                                                                            \
     }
+
+uint32_t __real_sockdiag_fill_explain(uint32_t, const uint8_t *, size_t,
+                                      struct sockdiag_error_details *, uint8_t *, size_t);
+uint32_t __wrap_sockdiag_fill_explain(uint32_t what, const uint8_t *bytes, size_t length,
+                                      struct sockdiag_error_details *error, uint8_t *later,
+                                      size_t later_length);
+uint32_t __wrap_sockdiag_fill_explain(uint32_t what, const uint8_t *bytes, size_t length,
+                                      struct sockdiag_error_details *error, uint8_t *later,
+                                      size_t later_length) {
+    const uint32_t code =
+        __real_sockdiag_fill_explain(what, bytes, length, error, later, later_length);
+    fill_later(code != SOCKDIAG_OK && code != SOCKDIAG_INVALID_ARGUMENT, later, later_length);
+    return code;
+}
 #else
 #define WRAP(family, it)
 #endif
@@ -110,6 +124,21 @@ FAMILY(packet, sockdiag_packet_details, numbered, 16)
 FAMILY(vsock, sockdiag_vsock_header, numbered, 32)
 FAMILY(xdp, sockdiag_xdp_details, numbered, 16)
 
+static void try_explaining(void) {
+    struct sockdiag_error_details *error =
+        (struct sockdiag_error_details *)malloc(sizeof *error);
+    if (error == NULL)
+        exit(1);
+    memset(error, UNTOUCHED, sizeof *error);
+    check(sockdiag_explain(1, numbered, 3, error, 8) == SOCKDIAG_INVALID_ARGUMENT &&
+              sockdiag_explain(1, numbered, 16, error, sizeof *error) == SOCKDIAG_OK &&
+              is_untouched(error, sizeof *error), "nothing to explain");
+    check(sockdiag_explain(1, numbered, 3, error, sizeof *error) == SOCKDIAG_BUFFER_TOO_SMALL &&
+              error->got == 3 && error->index == 0, "an explained error");
+    EXPECT_LATER(error);
+    free(error);
+}
+
 int main(void) {
     number_bytes(numbered, sizeof numbered);
     number_bytes(inet, sizeof inet);
@@ -120,5 +149,6 @@ int main(void) {
     try_packet();
     try_vsock();
     try_xdp();
+    try_explaining();
     return end_of_tests("later_fields");
 }

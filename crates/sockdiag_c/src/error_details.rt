@@ -1,6 +1,6 @@
 //! Decode errors with their fields, as a C struct. The other calls return the code only.
 
-ghost use Rattle.std.specs.Prelude.{◌≡◌, ◌<◌, MatchResult};
+ghost use Rattle.std.specs.Prelude.{◌≡◌, ◌≢◌, ◌⊎◌, [], MatchResult, length};
 ghost use Rattle.netlink_core.specs.Errors.{error_code};
 ghost use Rattle.netlink_core.specs.Header.{HasHeader, IsMessageError};
 ghost use Rattle.netlink_core.specs.Response.{response_codec};
@@ -9,15 +9,16 @@ ghost use Rattle.sock_diag_replies.specs.InetResponseSpec.{inet_response_spec};
 ghost use Rattle.sock_diag_replies.specs.UnixResponseSpec.{unix_response_spec};
 ghost use Rattle.sock_diag_attributes.specs.InetAttributes.{inet_attribute_set};
 ghost use Rattle.sock_diag_attributes.specs.UnixAttributes.{unix_attribute_set};
+ghost use Rattle.sockdiag_c.specs.Answers.{padded_or_truncated};
 ghost use Rattle.sockdiag_c.specs.ErrorDetails.{IsExplained, IsItemExplained, error_details_of};
-ghost use Rattle.sockdiag_c.specs.ExplainedReplies.{IsReplyExplained};
+ghost use Rattle.sockdiag_c.specs.ExplainedReplies.{IsErrorExplained, IsReplyExplained};
 ghost use Rattle.sockdiag_c.specs.ErrorDetails.{record_code, record_family, record_kind};
 ghost use Rattle.sockdiag_c.specs.Family.{AreDetailsOf, IsFirstError};
 
 use crate::details::{Number, ReplyDetails, strict_details};
 use crate::netlink_details::NetlinkDetails;
 use crate::packet_details::PacketDetails;
-use crate::results::{INVALID_ARGUMENT, OK};
+use crate::results::{INVALID_ARGUMENT, OK, copy_padded};
 use crate::xdp_details::XdpDetails;
 use netlink_core::{DecodeError, FamilyView, NetlinkHeader, NlasIterator, RecordName};
 use netlink_packet_sock_diag::constants::{AF_INET, AF_INET6, AF_UNIX, SOCK_DIAG_BY_FAMILY};
@@ -169,24 +170,29 @@ fn explain<T: Drop>(parsed: Result<T, DecodeError>, error: &mut ErrorDetails) ->
 ///
 /// Any other number is `SOCKDIAG_INVALID_ARGUMENT`.
 #[unsafe(no_mangle)]
-pub extern "C" fn sockdiag_explain(what: u32, bytes: &[u8], error: &mut ErrorDetails) -> u32
-    ensures reply { what < EXPLAIN_MESSAGE → IsReplyExplained what bytes.now
+pub extern "C" fn sockdiag_fill_explain(
+    what: u32,
+    bytes: &[u8],
+    error: &mut ErrorDetails,
+    later: &mut [u8],
+) -> u32
+    ensures error { IsErrorExplained what bytes.now
         record { old = error.old; new = error.new; returned = result } }
-    ensures message { what ≡ EXPLAIN_MESSAGE
-        → IsExplained (message_codec.parses bytes.now SOCK_DIAG_BY_FAMILY)
-        (message_codec.rejects bytes.now SOCK_DIAG_BY_FAMILY)
+    ensures later { result ≢ 0 → result ≢ INVALID_ARGUMENT
+        → later.new ≡ padded_or_truncated (length later.old) [] }
+    ensures unchanged { (result ≡ 0) ⊎ (result ≡ INVALID_ARGUMENT) → later.new ≡ later.old }
+{
+    let code = explain_bytes(what, bytes, error);
+    if code != OK && code != INVALID_ARGUMENT {
+        copy_padded(&[], later);
+    }
+    code
+}
+
+// Explains the first error of the bytes, which are what `what` says.
+fn explain_bytes(what: u32, bytes: &[u8], error: &mut ErrorDetails) -> u32
+    ensures { IsErrorExplained what bytes.now
         record { old = error.old; new = error.new; returned = result } }
-    ensures datagram { what ≡ EXPLAIN_DATAGRAM
-        → IsExplained (HasHeader bytes.now) (IsMessageError bytes.now)
-        record { old = error.old; new = error.new; returned = result } }
-    ensures unix_attribute { what ≡ EXPLAIN_UNIX_ATTRIBUTE
-        → IsItemExplained unix_attribute_set bytes.now
-        record { old = error.old; new = error.new; returned = result } }
-    ensures inet_attribute { what ≡ EXPLAIN_INET_ATTRIBUTE
-        → IsItemExplained inet_attribute_set bytes.now
-        record { old = error.old; new = error.new; returned = result } }
-    ensures other { EXPLAIN_INET_ATTRIBUTE < what
-        → (result ≡ INVALID_ARGUMENT) × (error.new ≡ error.old) }
 {
     match what {
         EXPLAIN_MESSAGE => explain_message(bytes, error),
