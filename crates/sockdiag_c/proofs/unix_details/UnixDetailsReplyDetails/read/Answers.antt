@@ -1,4 +1,5 @@
 use Rattle.std.proofs.Common.{sym}
+use Rattle.netlink_core.specs.Walk.{buffered_attribute}
 use Rattle.sock_diag_attributes.specs.UnixAttributes.{unix_attribute_set}
 use Rattle.sock_diag_extras.specs.declared.any.nla.Sockets.TheVariants.{Unix}
 use Rattle.sock_diag_extras.proofs.AnyAgreement.{unix_errors}
@@ -7,7 +8,8 @@ use Rattle.sockdiag_c.proofs.unix_details.UnixDetailsReplyDetails.read.Goals as 
 
 pub returns-in-Ok : goal.returns-in-Ok
 returns-in-Ok c =
-    valid unix_attribute_set Unix unix_errors _ _ (sym c.in-Ok.ensures)
+    valid unix_attribute_set Unix unix_errors (buffered_attribute c.args.nla.now) _
+    (sym c.in-Ok.ensures)
 
 pub returns-in-Err : goal.returns-in-Err
 returns-in-Err c = c.reject_if_checked.ensures _ (sym c.in-Err.ensures)
