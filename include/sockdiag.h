@@ -87,25 +87,13 @@ extern "C" {
  */
 uint32_t sockdiag_version(void);
 
-/* Return values of the calls, next to the codes of decode errors. */
-enum sockdiag_result {
-    SOCKDIAG_OK = 0,                /* The call has succeeded. */
-    SOCKDIAG_ITEM = 100,            /* An iterator has stored an item. */
-    SOCKDIAG_END = 101,             /* An iterator is at the end, or the reply lacks the value
-                                       that the call copies. */
-    SOCKDIAG_NO_SPACE = 102,        /* The buffer is shorter than the message, whose length is
-                                       stored. */
-    SOCKDIAG_TOO_LONG = 103,        /* A message or an attribute is too long for its length
-                                       field. */
-    SOCKDIAG_INVALID_ARGUMENT = 104 /* The size of a struct is below that of version 1.0, or what
-                                       is unknown. */
-};
-
 /*
- * Decode errors: why bytes are rejected. If bytes have several errors, a call returns the first.
- * The only text that has to be valid UTF-8 is the name of a congestion control algorithm.
+ * Return values of the calls. 2 to 18 are decode errors: why bytes are rejected. If bytes have
+ * several errors, a call returns the first. The only text that has to be valid UTF-8 is the name of
+ * a congestion control algorithm.
  */
-enum sockdiag_error {
+enum sockdiag_code {
+    SOCKDIAG_OK = 0,                        /* The call has succeeded. */
     SOCKDIAG_BUFFER_TOO_SMALL = 2,          /* A record has fewer bytes than it needs. */
     SOCKDIAG_UNSUPPORTED_FAMILY = 3,        /* The family of an internet socket is neither
                                                AF_INET nor AF_INET6. */
@@ -132,8 +120,17 @@ enum sockdiag_error {
                                                netlink header. */
     SOCKDIAG_ENVELOPE_LENGTH_UNDER_16 = 17, /* The length field of a message is below 16, the
                                                length of its netlink header. */
-    SOCKDIAG_ENVELOPE_LENGTH_PAST = 18      /* The length field of a message is above the number
+    SOCKDIAG_ENVELOPE_LENGTH_PAST = 18,     /* The length field of a message is above the number
                                                of bytes. */
+    SOCKDIAG_ITEM = 100,                    /* An iterator has stored an item. */
+    SOCKDIAG_END = 101,                     /* An iterator is at the end, or the reply lacks the
+                                               value that the call copies. */
+    SOCKDIAG_NO_SPACE = 102,                /* The buffer is shorter than the message, whose
+                                               length is stored. */
+    SOCKDIAG_TOO_LONG = 103,                /* A message or an attribute is too long for its
+                                               length field. */
+    SOCKDIAG_INVALID_ARGUMENT = 104         /* The size of a struct is below that of version 1.0,
+                                               or what is unknown. */
 };
 
 /*
@@ -1921,7 +1918,7 @@ enum sockdiag_record {
 
 /* A decode error with its fields. A field that the error does not have is 0. */
 struct sockdiag_error_details {
-    uint32_t code;               /* Code of the error, one of enum sockdiag_error. */
+    uint32_t code;               /* Code of the error, one of enum sockdiag_code. */
     uint32_t record_name;        /* Record that has too few bytes, one of SOCKDIAG_RECORD_..
                                     (SOCKDIAG_BUFFER_TOO_SMALL). SOCKDIAG_RECORD_MEM_INFO is also
                                     the memory of a netlink, packet or XDP socket. */

@@ -46,7 +46,7 @@ pub(crate) const EXPLAIN_INET_ATTRIBUTE: u32 = 259;
 #[repr(C)]
 #[derive(Clone, Copy, Default)]
 pub struct ErrorDetails {
-    /// Code of the error, one of `enum sockdiag_error`.
+    /// Code of the error, one of `enum sockdiag_code`.
     pub code: u32,
     /// Record that has too few bytes, one of `SOCKDIAG_RECORD_..`
     /// (`SOCKDIAG_BUFFER_TOO_SMALL`). `SOCKDIAG_RECORD_MEM_INFO` is also the memory of a netlink,
