@@ -1,5 +1,5 @@
 -- The bytes that are written for a reply are the canonical form of all equivalent replies.
-use Rattle.std.proofs.Common.{◌≡◌, ◌<◌, ℕ, inl, inr, List, refl}
+use Rattle.std.proofs.Common.{◌≡◌, ℕ, inl, inr, List, refl}
 use Rattle.std.proofs.Common.{arith, take}
 use Rattle.std.specs.Prelude.{◌↔◌}
 use Rattle.std.proofs.lemmas.List.{take_at}

@@ -183,17 +183,17 @@ module _ {D E : Type 0} (Holds : D × E → Type 0) (rejects : DecodeError → T
       })
   both_filled (Ok found) old new other_old other_new before after code answer how holds rejected
       other same zeros kept = (
-    λ ok. (subst (λ (d : D). Holds (d, other_new)) (sym how.1) holds, zeros how.0),
-    λ bad. absurd (bad (same ∙ how.0)),
-  )
+        λ ok. (subst (λ (d : D). Holds (d, other_new)) (sym how.1) holds, zeros how.0),
+        λ bad. absurd (bad (same ∙ how.0)),
+      )
   both_filled (Err e) old new other_old other_new before after code answer how holds rejected
       other same zeros kept = (
-    λ ok. absurd (code_is_not_zero e (sym how.0 ∙ sym same ∙ ok)),
-    λ bad. (
-      (e, rejected, same ∙ how.0),
-      λ i. ((how.1 i, other i), kept (λ zero. code_is_not_zero e (sym how.0 ∙ zero)) i),
-    ),
-  )
+        λ ok. absurd (code_is_not_zero e (sym how.0 ∙ sym same ∙ ok)),
+        λ bad. (
+          (e, rejected, same ∙ how.0),
+          λ i. ((how.1 i, other i), kept (λ zero. code_is_not_zero e (sym how.0 ∙ zero)) i),
+        ),
+      )
 
 -- ---- the attributes so far
 

@@ -10,12 +10,12 @@ use Rattle.sockdiag_c.proofs.laws.every_rejected_kind_has_a_code.Goals as goal
 
 pub returns-clause-unix : goal.returns-clause-unix
 returns-clause-unix c a e is =
-    rejected_kind_is_below unix_attribute_set 32 (grind arith) a e 
+    rejected_kind_is_below unix_attribute_set 32 (grind arith) a e
     (sym (error_is unix_attribute_set Unix a) ∙ is)
 
 pub returns-clause-inet : goal.returns-clause-inet
 returns-clause-inet c a e is =
-    rejected_kind_is_below inet_attribute_set 32 (grind arith) a e 
+    rejected_kind_is_below inet_attribute_set 32 (grind arith) a e
     (sym (error_is inet_attribute_set (Inet Unknown) a) ∙ is)
 
 pub returns-clause-netlink : goal.returns-clause-netlink
