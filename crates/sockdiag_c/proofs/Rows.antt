@@ -165,36 +165,6 @@ module _ {D : Type 0} (Holds : D → Type 0) (rejects : DecodeError → Type 0) 
     ),
   )
 
--- The same with a second struct, which is stored before.
-module _ {D E : Type 0} (Holds : D × E → Type 0) (rejects : DecodeError → Type 0) where
-  pub both_filled : (r : Result D DecodeError) (old new : D) (other_old other_new : E)
-      (before after : List ℕ) (code answer : ℕ)
-      → MatchResult r (λ found. (code ≡ 0) × (new ≡ found))
-      (λ e. (code ≡ error_code e) × (new ≡ old))
-      → IfOk r (λ d. Holds (d, other_new)) → IfErr r rejects
-      → IfErr r (λ _. other_new ≡ other_old) → answer ≡ code
-      → (code ≡ 0 → after ≡ padded_or_truncated (length before) [])
-      → (code ≢ 0 → after ≡ before)
-      → FillsStruct Holds (IsCodeOf rejects)
-      (record {
-        old = ((old, other_old), before);
-        new = ((new, other_new), after);
-        returned = answer;
-      })
-  both_filled (Ok found) old new other_old other_new before after code answer how holds rejected
-      other same zeros kept = (
-        λ ok. (subst (λ (d : D). Holds (d, other_new)) (sym how.1) holds, zeros how.0),
-        λ bad. absurd (bad (same ∙ how.0)),
-      )
-  both_filled (Err e) old new other_old other_new before after code answer how holds rejected
-      other same zeros kept = (
-        λ ok. absurd (code_is_not_zero e (sym how.0 ∙ sym same ∙ ok)),
-        λ bad. (
-          (e, rejected, same ∙ how.0),
-          λ i. ((how.1 i, other i), kept (λ zero. code_is_not_zero e (sym how.0 ∙ zero)) i),
-        ),
-      )
-
 -- ---- the attributes so far
 
 -- the bytes have the attributes so far, and then those of the bytes left

@@ -181,8 +181,17 @@ pub(crate) fn store_lenient_details<'a, T: ReplyDetails<'a>>(
       returned = result;
     } }
 {
-    let code = store_parsed(lenient_details::<T>(payload, rejections), details);
-    clear_later(code, later)
+    let (found, attributes) = match T::parse_header(payload) {
+        Ok(parts) => parts,
+        Err(error) => return u32::from(error.number()),
+    };
+    // The struct of the caller is filled in place: it is not copied.
+    *details = found;
+    let mut errors = Errors::default();
+    set_values(attributes, details, &mut errors);
+    *rejections = errors.rejections;
+    copy_padded(&[], later);
+    OK
 }
 
 // Stores the fields of later versions, of which the library knows none, if the code is that of
@@ -197,24 +206,6 @@ fn clear_later(code: u32, later: &mut [u8]) -> u32
         copy_padded(&[], later);
     }
     code
-}
-
-// Parses the reply. Returns its contents, and stores the codes of its errors in the rejections.
-// Fails with the error of the header; then the rejections are unchanged.
-fn lenient_details<'a, T: ReplyDetails<'a>>(
-    payload: &'a [u8],
-    rejections: &mut Rejections,
-) -> Result<T, DecodeError>
-    ensures details { IfOk result (λ details.
-        LenientDetailsAre T.family payload.entry.now (details, rejections.new)) }
-    ensures error { IfErr result (IsHeaderError T.family payload.entry.now) }
-    ensures unchanged { IfErr result (λ _. rejections.new ≡ rejections.old) }
-{
-    let (mut details, attributes) = T::parse_header(payload)?;
-    let mut errors = Errors::default();
-    set_values(attributes, &mut details, &mut errors);
-    *rejections = errors.rejections;
-    Ok(details)
 }
 
 // Reads each attribute up to a framing error. Sets the fields of the valid ones, unless they are
