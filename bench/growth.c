@@ -54,8 +54,8 @@ static void fill(void) {
 static int parse_attributes(size_t number) {
     struct sockdiag_unix_details details;
     const size_t length = sizeof reply.header + number * sizeof reply.attributes[0];
-    return sockdiag_unix_get_details((const uint8_t *)&reply, length, &details) == SOCKDIAG_OK &&
-           details.peer.value == 7;
+    return sockdiag_unix_get_details((const uint8_t *)&reply, length, &details,
+                                     sizeof details) == SOCKDIAG_OK && details.peer.value == 7;
 }
 
 /* Parses this number of messages. Returns whether all were accepted. */
@@ -68,7 +68,7 @@ static int parse_messages(size_t number) {
     while (sockdiag_next_any_message(bytes, number * sizeof datagram[0], &cursor, &message) ==
            SOCKDIAG_ITEM)
         accepted += sockdiag_unix_get_details(bytes + message.offset, message.length,
-                                              &details) == SOCKDIAG_OK;
+                                              &details, sizeof details) == SOCKDIAG_OK;
     return accepted == number;
 }
 

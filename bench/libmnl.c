@@ -69,11 +69,11 @@ static uint32_t strict(struct dumps *dumps, const uint8_t *payload, size_t lengt
     struct sockdiag_inet_details inet_details;
     uint32_t error;
     if (payload[0] == AF_UNIX) {
-        error = sockdiag_unix_get_details(payload, length, &unix_details);
+        error = sockdiag_unix_get_details(payload, length, &unix_details, sizeof unix_details);
         if (error == SOCKDIAG_OK)
             add_unix(dumps, &unix_details);
     } else {
-        error = sockdiag_inet_get_details(payload, length, &inet_details);
+        error = sockdiag_inet_get_details(payload, length, &inet_details, sizeof inet_details);
         if (error == SOCKDIAG_OK)
             add_inet(dumps, &inet_details);
     }
@@ -86,11 +86,15 @@ static uint32_t lenient(struct dumps *dumps, const uint8_t *payload, size_t leng
     struct sockdiag_rejections rejections;
     uint32_t error;
     if (payload[0] == AF_UNIX) {
-        error = sockdiag_unix_get_lenient_details(payload, length, &unix_details, &rejections);
+        error = sockdiag_unix_get_lenient_details(payload, length, &unix_details,
+                                                  sizeof unix_details,
+                                                 &rejections);
         if (error == SOCKDIAG_OK)
             add_unix(dumps, &unix_details);
     } else {
-        error = sockdiag_inet_get_lenient_details(payload, length, &inet_details, &rejections);
+        error = sockdiag_inet_get_lenient_details(payload, length, &inet_details,
+                                                  sizeof inet_details,
+                                                 &rejections);
         if (error == SOCKDIAG_OK)
             add_inet(dumps, &inet_details);
     }

@@ -58,7 +58,7 @@ static int dump_store(struct dump *dump, const uint8_t *reply, size_t length) {
 /* Returns the state that an NLMSG_ERROR or an NLMSG_DONE leads to. */
 static int dump_end(const struct dump *dump, const uint8_t *payload, size_t length) {
     int32_t number;
-    if (sockdiag_get_error_number(payload, length, &number) != SOCKDIAG_ITEM || number > 0
+    if (sockdiag_get_error_number(payload, length, &number) != SOCKDIAG_OK || number > 0
         || number < -4095)
         return EPROTO;
     return number == 0 && dump->is_interrupted != 0 ? EAGAIN : -number;

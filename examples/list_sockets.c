@@ -85,7 +85,8 @@ static void end_line(const struct sockdiag_rejections *rejections) {
 static uint32_t print_unix(const uint8_t *payload, size_t length) {
     struct sockdiag_unix_details it;
     struct sockdiag_rejections rejections;
-    const uint32_t error = sockdiag_unix_get_lenient_details(payload, length, &it, &rejections);
+    const uint32_t error =
+        sockdiag_unix_get_lenient_details(payload, length, &it, sizeof it, &rejections);
     if (error != SOCKDIAG_OK)
         return error;
     printf("unix type %u state %u inode %u", it.header.kind, it.header.state, it.header.inode);
@@ -104,7 +105,9 @@ static uint32_t print_inet(const char *protocol, const uint8_t *payload, size_t 
     struct sockdiag_inet_details it;
     struct sockdiag_rejections rejections;
     struct sockdiag_tcp_info info;
-    const uint32_t error = sockdiag_inet_get_lenient_details(payload, length, &it, &rejections);
+    size_t info_length;
+    const uint32_t error =
+        sockdiag_inet_get_lenient_details(payload, length, &it, sizeof it, &rejections);
     if (error != SOCKDIAG_OK)
         return error;
     inet_ntop(it.header.family, it.header.source_address, source, sizeof source);
@@ -116,9 +119,10 @@ static uint32_t print_inet(const char *protocol, const uint8_t *payload, size_t 
     print_number("mark", it.mark);
     /* Each kernel sends struct tcp_info in its own size, and a short one is rejected. Does it
      * contain this field? An MPTCP socket has struct mptcp_info there. */
-    if (strcmp(protocol, "tcp") == 0 &&
-        SOCKDIAG_HAS(sockdiag_inet_get_tcp_info(payload, length, &info, sizeof info), info,
-                     rtt)) {
+    if (strcmp(protocol, "tcp") == 0
+        && sockdiag_inet_get_tcp_info(payload, length, &info, sizeof info, &info_length)
+               == SOCKDIAG_OK
+        && SOCKDIAG_HAS(info_length, info, rtt)) {
         rejections.errors[SOCKDIAG_INET_DIAG_INFO] = SOCKDIAG_OK;
         /* 0: not measured, as of a socket that listens. */
         if (info.rtt != 0)
@@ -143,7 +147,8 @@ static void print_groups(const struct sockdiag_text *groups) {
 static uint32_t print_netlink(const uint8_t *payload, size_t length) {
     struct sockdiag_netlink_details it;
     struct sockdiag_rejections rejections;
-    const uint32_t error = sockdiag_netlink_get_lenient_details(payload, length, &it, &rejections);
+    const uint32_t error =
+        sockdiag_netlink_get_lenient_details(payload, length, &it, sizeof it, &rejections);
     if (error != SOCKDIAG_OK)
         return error;
     printf("netlink protocol %u port %u inode %u", it.header.protocol, it.header.port,
@@ -157,7 +162,8 @@ static uint32_t print_netlink(const uint8_t *payload, size_t length) {
 static uint32_t print_packet(const uint8_t *payload, size_t length) {
     struct sockdiag_packet_details it;
     struct sockdiag_rejections rejections;
-    const uint32_t error = sockdiag_packet_get_lenient_details(payload, length, &it, &rejections);
+    const uint32_t error =
+        sockdiag_packet_get_lenient_details(payload, length, &it, sizeof it, &rejections);
     if (error != SOCKDIAG_OK)
         return error;
     printf("packet type %u protocol %u", it.header.kind, it.header.protocol);
@@ -195,10 +201,14 @@ static void print_reply(void *context, const uint8_t *payload, size_t length) {
 }
 
 /* Requests a dump, and prints its sockets. Returns 0 if it is complete, and no reply is rejected. A
- * kernel that lacks the protocol or the family sends ENOENT or EINVAL. */
-static int list(const char *protocol, uint8_t *request, size_t length) {
+ * kernel that lacks the protocol or the family sends ENOENT or EINVAL. The code is that of the call
+ * that wrote the request. */
+static int list(const char *protocol, uint32_t code, uint8_t *request, size_t length) {
     struct listing listing = {protocol, 0};
-    const int error = dump_replies(request, length, print_reply, &listing);
+    int error;
+    if (code != SOCKDIAG_OK)
+        return fprintf(stderr, "list_sockets: %s: %s\n", protocol, sockdiag_error_text(code)), -1;
+    error = dump_replies(request, length, print_reply, &listing);
     if (error != 0)
         fprintf(stderr, "list_sockets: %s: %s\n", protocol, dump_error_text(error));
     if (error != 0 && error != ENOENT && error != EINVAL)
@@ -209,12 +219,15 @@ static int list(const char *protocol, uint8_t *request, size_t length) {
 static int list_unix(const struct selection *selection) {
     uint8_t bytes[SOCKDIAG_UNIX_REQUEST_LENGTH];
     struct sockdiag_unix_request request;
+    size_t length;
+    uint32_t code;
     memset(&request, 0, sizeof request);
     request.header.flags = SOCKDIAG_NLM_F_REQUEST | SOCKDIAG_NLM_F_DUMP;
     request.states = selection->only_listening ? 1u << SOCKDIAG_TCP_LISTEN : UINT32_MAX;
     request.show = SOCKDIAG_UDIAG_SHOW_NAME | SOCKDIAG_UDIAG_SHOW_PEER | SOCKDIAG_UDIAG_SHOW_ICONS
                  | SOCKDIAG_UDIAG_SHOW_RQLEN;
-    return list("unix", bytes, sockdiag_write_unix_request(&request, bytes, sizeof bytes));
+    code = sockdiag_write_unix_request(&request, bytes, sizeof bytes, &length);
+    return list("unix", code, bytes, length);
 }
 
 /* A filter, INET_DIAG_REQ_BYTECODE: two operations, each followed by its operand. */
@@ -241,7 +254,8 @@ static int list_inet(const char *name, uint32_t protocol, uint8_t extensions, ui
     const size_t filter_length = port != 0 ? sizeof filter : 0;
     uint8_t bytes[SOCKDIAG_INET_REQUEST_LENGTH + sizeof filter];
     struct sockdiag_inet_request request;
-    struct sockdiag_outcome outcome;
+    size_t length;
+    uint32_t code;
     int index, failed = 0;
     memset(&request, 0, sizeof request);
     request.header.flags = SOCKDIAG_NLM_F_REQUEST | SOCKDIAG_NLM_F_DUMP;
@@ -249,12 +263,11 @@ static int list_inet(const char *name, uint32_t protocol, uint8_t extensions, ui
     request.extensions = extensions;
     request.states = states;
     for (index = 0; index < 2; index++) {
-        size_t length;
         request.family = families[index];
-        length = sockdiag_write_inet_request_with_attributes(&request, (const uint8_t *)&filter,
-                                                             filter_length, bytes, sizeof bytes,
-                                                             &outcome);
-        failed |= list(name, bytes, length);
+        code = sockdiag_write_inet_request_with_attributes(&request, (const uint8_t *)&filter,
+                                                           filter_length, bytes, sizeof bytes,
+                                                           &length);
+        failed |= list(name, code, bytes, length);
     }
     return failed;
 }
@@ -264,12 +277,15 @@ static int list_inet(const char *name, uint32_t protocol, uint8_t extensions, ui
 static int list_family(const char *name, uint8_t family, uint8_t protocol, uint32_t show) {
     uint8_t bytes[SOCKDIAG_SHOW_REQUEST_LENGTH];
     struct sockdiag_show_request request;
+    size_t length;
+    uint32_t code;
     memset(&request, 0, sizeof request);
     request.header.flags = SOCKDIAG_NLM_F_REQUEST | SOCKDIAG_NLM_F_DUMP;
     request.family = family;
     request.protocol = protocol;
     request.show = show;
-    return list(name, bytes, sockdiag_write_show_request(&request, bytes, sizeof bytes));
+    code = sockdiag_write_show_request(&request, bytes, sizeof bytes, &length);
+    return list(name, code, bytes, length);
 }
 
 /* Lists netlink sockets of all protocols, and packet sockets. The protocol 0 of a request for

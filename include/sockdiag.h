@@ -3,11 +3,27 @@
  * memory. To list sockets:
  * 1. Write a request, by sockdiag_write_inet_request and its siblings, and send it to a socket of
  *    NETLINK_SOCK_DIAG.
- * 2. Receive datagrams, and iterate over the messages of each by sockdiag_next_any_message, until
- *    sockdiag_ends_answer.
- * 3. Parse the payload of each message by the lenient call of its family, the first byte, such as
- *    sockdiag_inet_get_lenient_details.
- * A payload is the bytes of a message after its netlink header.
+ * 2. Receive datagrams. recv(2) with MSG_TRUNC returns the length of a datagram that exceeds the
+ *    buffer, and fails with ENOBUFS if datagrams were lost: request the dump again.
+ * 3. Iterate over the messages of each by sockdiag_next_any_message. Skip a message for which
+ *    sockdiag_is_answer is 0, and end at one for which sockdiag_ends_answer is 1.
+ * 4. Parse the payload of each message of type SOCK_DIAG_BY_FAMILY by the lenient call of its
+ *    family, the first byte, such as sockdiag_inet_get_lenient_details.
+ * A payload is the bytes of a message after its netlink header. dump.h of the examples does the
+ * steps 1 to 3.
+ *
+ * Each call returns 0 (SOCKDIAG_OK) if it has succeeded, or a positive code, which
+ * sockdiag_error_text takes. Calls with _next_ in their names iterate: they return SOCKDIAG_ITEM,
+ * SOCKDIAG_END, or the code of an error. Calls with _write_ or _rewrite_ store the number of bytes
+ * that they wrote, and with SOCKDIAG_NO_SPACE the number that the buffer has to have. Four calls
+ * return no code: sockdiag_version, and the tests sockdiag_is_answer, sockdiag_is_interrupted and
+ * sockdiag_ends_answer, which return 1 or 0.
+ *
+ * The structs named sockdiag_.._details, and struct sockdiag_vsock_header, sockdiag_tcp_info and
+ * sockdiag_mptcp_info, may get more fields at their end in a later
+ * version; no others do. A call that fills one takes its size, sizeof *details. It fills at most
+ * this number of bytes, and sets fields that the library does not know to 0. So a program runs with
+ * older and newer libraries.
  *
  * The library does not allocate, opens no files or sockets, and has no state between calls. So any
  * thread may call it at any time, with memory that meets the requirements below. It needs at most
@@ -24,22 +40,24 @@
  *   a call only reads is not written during the call.
  *
  * A struct or number that a call returns need not be initialized: no return value depends on its
- * contents. Unless the comment of a call says otherwise, it is unchanged if the call returns the
- * code of an error, or 0 for a missing item, and all of its fields are set if the call succeeds.
- * The padding between fields may have any contents, so do not compare structs by memcmp.
+ * contents. Unless the comment of a call says otherwise, all of its fields are set if the call
+ * returns SOCKDIAG_OK or SOCKDIAG_ITEM, and it is unchanged otherwise. The padding between fields
+ * may have any contents, so do not compare structs by memcmp.
  *
- * Numbers in structs are in the byte order of the host, ports included. Addresses are in network
- * byte order, as inet_ntop expects them. A cookie of eight bytes is a copy of the bytes in the
- * message. The cookie of a netlink, packet, vsock or XDP socket is a number, which is little-endian
- * in the message. Offsets in comments are those in the kernel's structs.
+ * Messages have the byte order of the kernel's processor, which has to be little-endian. Numbers in
+ * structs are in the byte order of the host, ports included. Addresses are in network byte order,
+ * as inet_ntop expects them. A cookie of eight bytes is a copy of the bytes in the message. The
+ * cookie of a netlink, packet, vsock or XDP socket is a number. Offsets in comments are those in
+ * the kernel's structs.
  *
  * The kind of an attribute is its type without the two flag bits, as SOCKDIAG_UNIX_DIAG_NAME; the
  * field kind of the header of a reply is the type of the socket, SOCK_STREAM and so on. A port id
  * is the address of a netlink socket, and not a port number.
  *
  * tools/bindings of the sources writes this file from the crate sockdiag_c. What it says of a call
- * is proved there, by the contract of the function of the same name, and by those of the functions
- * in src/laws.rt: a_step_passes_the_first_attribute, a_step_passes_the_first_message,
+ * is proved there, by the contract of the function of the same name (sockdiag_.._fill_.. for an
+ * inline function, which only splits the struct at its size in version 1.0), and by those of the
+ * functions in src/laws.rt: a_step_passes_the_first_attribute, a_step_passes_the_first_message,
  * lenient_calls_agree_with_strict_calls, strict_calls_agree_with_checks and
  * every_rejected_kind_has_a_code. No contract states that the library does not allocate and has no
  * state, how long a call takes, where the pointer of a text points, that a call does not read the
@@ -69,18 +87,13 @@ extern "C" {
  */
 uint32_t sockdiag_version(void);
 
-#define SOCKDIAG_OK 0   /* Return value of a check that accepts the bytes. */
-#define SOCKDIAG_END 0  /* Return value of an iteration at its end, and of a getter that finds no
-                           value. */
-#define SOCKDIAG_ITEM 1 /* Return value of an iteration that returns an item, and of a getter
-                           that returns a value. It is not the code of an error here: code 1 is
-                           an allocation failure, which cannot happen. */
-
 /*
- * Decode errors: why bytes are rejected. If bytes have several errors, a call returns the first.
- * The only text that has to be valid UTF-8 is the name of a congestion control algorithm.
+ * Return values of the calls. 2 to 18 are decode errors: why bytes are rejected. If bytes have
+ * several errors, a call returns the first. The only text that has to be valid UTF-8 is the name of
+ * a congestion control algorithm.
  */
-enum sockdiag_error {
+enum sockdiag_code {
+    SOCKDIAG_OK = 0,                        /* The call has succeeded. */
     SOCKDIAG_BUFFER_TOO_SMALL = 2,          /* A record has fewer bytes than it needs. */
     SOCKDIAG_UNSUPPORTED_FAMILY = 3,        /* The family of an internet socket is neither
                                                AF_INET nor AF_INET6. */
@@ -107,20 +120,38 @@ enum sockdiag_error {
                                                netlink header. */
     SOCKDIAG_ENVELOPE_LENGTH_UNDER_16 = 17, /* The length field of a message is below 16, the
                                                length of its netlink header. */
-    SOCKDIAG_ENVELOPE_LENGTH_PAST = 18      /* The length field of a message is above the number
+    SOCKDIAG_ENVELOPE_LENGTH_PAST = 18,     /* The length field of a message is above the number
                                                of bytes. */
+    SOCKDIAG_ITEM = 100,                    /* An iterator has stored an item. */
+    SOCKDIAG_END = 101,                     /* An iterator is at the end, or the reply lacks the
+                                               value that the call copies. */
+    SOCKDIAG_NO_SPACE = 102,                /* The buffer is shorter than the message, whose
+                                               length is stored. */
+    SOCKDIAG_TOO_LONG = 103,                /* A message or an attribute is too long for its
+                                               length field. */
+    SOCKDIAG_INVALID_ARGUMENT = 104         /* The size of a struct is below that of version 1.0,
+                                               or what is unknown. */
 };
 
 /*
- * Returns the text of a decode error: a constant string in English, the text of DecodeError in
- * crates/netlink_core of the sources without the values. Any number may be passed. The text of 0 is
- * "no error". The text of a number that is not the code of an error is "unknown error code".
+ * Returns the text of a code: a constant string in English. Any number may be passed: the text of
+ * one that no call returns is "unknown error code".
  */
 static inline const char *sockdiag_error_text(uint32_t error)
 {
     switch (error) {
     case SOCKDIAG_OK:
         return "no error";
+    case SOCKDIAG_ITEM:
+        return "an item";
+    case SOCKDIAG_END:
+        return "no more items";
+    case SOCKDIAG_NO_SPACE:
+        return "buffer is shorter than the message";
+    case SOCKDIAG_TOO_LONG:
+        return "too long for a length field";
+    case SOCKDIAG_INVALID_ARGUMENT:
+        return "invalid argument";
     case SOCKDIAG_BUFFER_TOO_SMALL:
         return "buffer of too few bytes";
     case SOCKDIAG_UNSUPPORTED_FAMILY:
@@ -276,7 +307,9 @@ enum sockdiag_unix_attribute {
 
 /*
  * Kinds of attributes in replies about IPv4 and IPv6 sockets. A request selects a kind up to 8 by
- * its bit, such as 1u << (SOCKDIAG_INET_DIAG_INFO - 1). The kernel sends some others unasked.
+ * its bit, such as 1u << (SOCKDIAG_INET_DIAG_INFO - 1). The bit of INET_DIAG_VEGASINFO selects what
+ * the socket's algorithm has: also INET_DIAG_DCTCPINFO or INET_DIAG_BBRINFO. The kernel sends some
+ * others unasked.
  */
 enum sockdiag_inet_attribute {
     SOCKDIAG_INET_DIAG_NONE = 0,             /* No attribute. */
@@ -509,9 +542,11 @@ enum sockdiag_xdp_attribute {
  * the library does not accept, an INET_DIAG_INFO of fewer than 232 bytes (of MPTCP, and of TCP from
  * kernels without tcpi_snd_wnd) and a UNIX_DIAG_MEMINFO of fewer than 36 bytes.
  *
+ * A call that takes the size of its struct is an inline function. It passes the struct of version
+ * 1.0, and the bytes after it, to the function sockdiag_.._fill_.. of the library.
+ *
  * For all of them:
- * - If the return value is 0, all fields are set: a number, text or record that the reply does not
- *   contain is all 0. If it is the code of an error, nothing is written.
+ * - A number, text or record that the reply does not contain is all 0.
  * - Of several attributes of a kind the first valid one counts.
  * - An attribute without a field is not an error: sockdiag_next_attribute returns it.
  * - Bytes after the last field of a record are ignored, since newer kernels send more. A shorter
@@ -617,13 +652,22 @@ struct sockdiag_unix_details {
     struct sockdiag_number owner;       /* User id of the owner (UNIX_DIAG_UID). It is not set if
                                            the value does not have 4 bytes. */
 };
+#define SOCKDIAG_UNIX_DETAILS_SIZE_1_0 168
 
-/*
- * Parses a reply about a UNIX socket. Returns 0, or the code of its first error; then the details
- * are unchanged.
- */
-uint32_t sockdiag_unix_get_details(const uint8_t *payload, size_t length,
-                                   struct sockdiag_unix_details *details);
+uint32_t sockdiag_unix_fill_details(const uint8_t *payload, size_t length,
+                                    struct sockdiag_unix_details *details, uint8_t *later,
+                                    size_t later_length);
+
+/* Parses a reply about a UNIX socket. */
+static inline uint32_t sockdiag_unix_get_details(const uint8_t *payload, size_t length,
+                                                 struct sockdiag_unix_details *details, size_t size)
+{
+    if (size < SOCKDIAG_UNIX_DETAILS_SIZE_1_0)
+        return SOCKDIAG_INVALID_ARGUMENT;
+    return sockdiag_unix_fill_details(
+        payload, length, details, (uint8_t *)details + SOCKDIAG_UNIX_DETAILS_SIZE_1_0,
+        size - SOCKDIAG_UNIX_DETAILS_SIZE_1_0);
+}
 
 /* ---- IPv4 and IPv6 sockets */
 
@@ -728,14 +772,25 @@ struct sockdiag_inet_details {
                                                     are not set if the value has fewer than 2
                                                     bytes. */
 };
+#define SOCKDIAG_INET_DETAILS_SIZE_1_0 264
+
+uint32_t sockdiag_inet_fill_details(const uint8_t *payload, size_t length,
+                                    struct sockdiag_inet_details *details, uint8_t *later,
+                                    size_t later_length);
 
 /*
- * Parses a reply about an IPv4 or IPv6 socket. Returns 0, or the code of its first error; then the
- * details are unchanged. INET_DIAG_INFO is checked, and not returned: sockdiag_inet_get_tcp_info
- * returns it.
+ * Parses a reply about an IPv4 or IPv6 socket. INET_DIAG_INFO is checked, and not returned:
+ * sockdiag_inet_get_tcp_info returns it.
  */
-uint32_t sockdiag_inet_get_details(const uint8_t *payload, size_t length,
-                                   struct sockdiag_inet_details *details);
+static inline uint32_t sockdiag_inet_get_details(const uint8_t *payload, size_t length,
+                                                 struct sockdiag_inet_details *details, size_t size)
+{
+    if (size < SOCKDIAG_INET_DETAILS_SIZE_1_0)
+        return SOCKDIAG_INVALID_ARGUMENT;
+    return sockdiag_inet_fill_details(
+        payload, length, details, (uint8_t *)details + SOCKDIAG_INET_DETAILS_SIZE_1_0,
+        size - SOCKDIAG_INET_DETAILS_SIZE_1_0);
+}
 
 /*
  * The state of a TCP connection: struct tcp_info of linux/tcp.h in Linux 7.2. Later versions of
@@ -901,19 +956,20 @@ struct sockdiag_tcp_info {
 };
 
 /*
- * Returns whether the kernel sent a field of the struct info. The length is the return value of
- * sockdiag_inet_get_tcp_info or sockdiag_inet_get_mptcp_info. The last four fields of struct
- * sockdiag_tcp_info are bit fields, which this macro does not take: the kernel sent them if the
- * length is at least 280.
+ * Returns whether the kernel sent a field of the struct info. value_length is the number that
+ * sockdiag_inet_get_tcp_info or sockdiag_inet_get_mptcp_info has stored. The last four fields of
+ * struct sockdiag_tcp_info are bit fields, which this macro does not take: the kernel sent them if
+ * value_length is at least 280.
  */
-#define SOCKDIAG_HAS(length, info, field)                                                         \
-    ((length) >= (size_t)((const char *)&(info).field - (const char *)&(info))                    \
-                     + sizeof((info).field))
+#define SOCKDIAG_HAS(value_length, info, field)                                                   \
+    ((value_length) >= (size_t)((const char *)&(info).field - (const char *)&(info))              \
+                           + sizeof((info).field))
 
 /*
  * Copies the TCP connection of a reply about an IPv4 or IPv6 socket: the value of the first
  * INET_DIAG_INFO. info_size is sizeof *info: at most as many bytes are copied, and the remaining
- * ones are set to 0. Returns the length of the value in bytes, or 0 if there is none.
+ * ones are set to 0. Stores the length of the value in bytes. Returns SOCKDIAG_END if the reply has
+ * no value; then nothing is stored.
  *
  * Each kernel sends the struct in its own length, which may also be longer: SOCKDIAG_HAS tests
  * whether the value contains a field. A value of any length is accepted, also one that
@@ -925,8 +981,9 @@ struct sockdiag_tcp_info {
  * If the protocol that was requested is not TCP, the value is another struct, struct mptcp_info or
  * struct sctp_info.
  */
-size_t sockdiag_inet_get_tcp_info(const uint8_t *payload, size_t length,
-                                  struct sockdiag_tcp_info *info, size_t info_size);
+uint32_t sockdiag_inet_get_tcp_info(const uint8_t *payload, size_t length,
+                                    struct sockdiag_tcp_info *info, size_t info_size,
+                                    size_t *value_length);
 
 /*
  * The state of an MPTCP connection: struct mptcp_info of linux/mptcp.h in Linux 7.2. Later versions
@@ -991,12 +1048,11 @@ struct sockdiag_mptcp_info {
 
 /*
  * Copies the MPTCP connection of a reply to a request for MPTCP, as sockdiag_inet_get_tcp_info
- * copies that of TCP: the value of the first INET_DIAG_INFO, at most info_size bytes, followed by
- * zeros. Returns the length of the value in bytes, or 0 if there is none. All fields of a socket
- * that listens are 0, except subflows_max of Linux 6.1.
+ * copies that of TCP. All fields of a socket that listens are 0, except subflows_max of Linux 6.1.
  */
-size_t sockdiag_inet_get_mptcp_info(const uint8_t *payload, size_t length,
-                                    struct sockdiag_mptcp_info *info, size_t info_size);
+uint32_t sockdiag_inet_get_mptcp_info(const uint8_t *payload, size_t length,
+                                      struct sockdiag_mptcp_info *info, size_t info_size,
+                                      size_t *value_length);
 
 /* ---- netlink, packet, vsock and XDP sockets */
 
@@ -1035,13 +1091,26 @@ struct sockdiag_netlink_details {
     struct sockdiag_number flags;          /* The bits NDIAG_FLAG_.. (NETLINK_DIAG_FLAGS, type
                                               4). */
 };
+#define SOCKDIAG_NETLINK_DETAILS_SIZE_1_0 136
+
+uint32_t sockdiag_netlink_fill_details(const uint8_t *payload, size_t length,
+                                       struct sockdiag_netlink_details *details, uint8_t *later,
+                                       size_t later_length);
 
 /*
- * Parses a reply about a netlink socket. Returns 0, or the code of its first error; then the
- * details are unchanged. Linux 6.18 lists a netlink socket twice if it is a member of a group.
+ * Parses a reply about a netlink socket. Linux 6.18 lists a netlink socket twice if it is a member
+ * of a group.
  */
-uint32_t sockdiag_netlink_get_details(const uint8_t *payload, size_t length,
-                                      struct sockdiag_netlink_details *details);
+static inline uint32_t sockdiag_netlink_get_details(const uint8_t *payload, size_t length,
+                                                    struct sockdiag_netlink_details *details,
+                                                    size_t size)
+{
+    if (size < SOCKDIAG_NETLINK_DETAILS_SIZE_1_0)
+        return SOCKDIAG_INVALID_ARGUMENT;
+    return sockdiag_netlink_fill_details(
+        payload, length, details, (uint8_t *)details + SOCKDIAG_NETLINK_DETAILS_SIZE_1_0,
+        size - SOCKDIAG_NETLINK_DETAILS_SIZE_1_0);
+}
 
 /* The header of a reply about a packet socket: struct packet_diag_msg of linux/packet_diag.h. */
 struct sockdiag_packet_header {
@@ -1097,12 +1166,12 @@ struct sockdiag_packet_details {
     struct sockdiag_packet_info info;         /* Settings of the socket (PACKET_DIAG_INFO, type
                                                  0). */
     struct sockdiag_text addresses;           /* Memberships of the socket
-                                                 (PACKET_ADD_MEMBERSHIP, packet(7)), 44 bytes
-                                                 each, struct packet_diag_mclist
-                                                 (PACKET_DIAG_MCLIST, type 1): addresses that it
-                                                 also receives, and promiscuous or all-multicast
-                                                 mode, which have no address. The kind of the
-                                                 text is SOCKDIAG_BYTES. */
+                                                 (PACKET_ADD_MEMBERSHIP, packet(7);
+                                                 PACKET_DIAG_MCLIST, type 1), 44 bytes each,
+                                                 which sockdiag_next_membership reads: addresses
+                                                 that it also receives, and promiscuous or
+                                                 all-multicast mode, which have no address. The
+                                                 kind of the text is SOCKDIAG_BYTES. */
     uint32_t has_receive_ring;                /* 1 if receive_ring is set, else 0. */
     struct sockdiag_packet_ring receive_ring; /* Receive ring (PACKET_DIAG_RX_RING, type 2). */
     uint32_t has_send_ring;                   /* 1 if send_ring is set, else 0. */
@@ -1112,17 +1181,28 @@ struct sockdiag_packet_details {
                                                  4). */
     struct sockdiag_number owner;             /* User id of the owner (PACKET_DIAG_UID, type 5). */
     struct sockdiag_memory memory;            /* Socket memory (PACKET_DIAG_MEMINFO, type 6). */
-    struct sockdiag_text filter;              /* Instructions of the socket filter, 8 bytes each,
-                                                 struct sock_filter (PACKET_DIAG_FILTER, type 7).
-                                                 The kind of the text is SOCKDIAG_BYTES. */
+    struct sockdiag_text filter;              /* Instructions of the socket filter
+                                                 (PACKET_DIAG_FILTER, type 7), 8 bytes each,
+                                                 which sockdiag_next_instruction reads. The kind
+                                                 of the text is SOCKDIAG_BYTES. */
 };
+#define SOCKDIAG_PACKET_DETAILS_SIZE_1_0 248
 
-/*
- * Parses a reply about a packet socket. Returns 0, or the code of its first error; then the details
- * are unchanged.
- */
-uint32_t sockdiag_packet_get_details(const uint8_t *payload, size_t length,
-                                     struct sockdiag_packet_details *details);
+uint32_t sockdiag_packet_fill_details(const uint8_t *payload, size_t length,
+                                      struct sockdiag_packet_details *details, uint8_t *later,
+                                      size_t later_length);
+
+/* Parses a reply about a packet socket. */
+static inline uint32_t sockdiag_packet_get_details(const uint8_t *payload, size_t length,
+                                                   struct sockdiag_packet_details *details,
+                                                   size_t size)
+{
+    if (size < SOCKDIAG_PACKET_DETAILS_SIZE_1_0)
+        return SOCKDIAG_INVALID_ARGUMENT;
+    return sockdiag_packet_fill_details(
+        payload, length, details, (uint8_t *)details + SOCKDIAG_PACKET_DETAILS_SIZE_1_0,
+        size - SOCKDIAG_PACKET_DETAILS_SIZE_1_0);
+}
 
 /*
  * The header of a reply about a vsock socket: struct vsock_diag_msg of linux/vm_sockets_diag.h.
@@ -1143,13 +1223,26 @@ struct sockdiag_vsock_header {
     uint64_t cookie;              /* Cookie that distinguishes sockets with the same inode number
                                      (vdiag_cookie), at offset 24. */
 };
+#define SOCKDIAG_VSOCK_HEADER_SIZE_1_0 32
+
+uint32_t sockdiag_vsock_fill_details(const uint8_t *payload, size_t length,
+                                     struct sockdiag_vsock_header *details, uint8_t *later,
+                                     size_t later_length);
 
 /*
- * Parses a reply about a vsock socket. Returns 0, or the code of its first error; then the header
- * is unchanged. Linux sends no attributes: of bytes after the header only the framing is checked.
+ * Parses a reply about a vsock socket. Linux sends no attributes: of bytes after the header only
+ * the framing is checked.
  */
-uint32_t sockdiag_vsock_get_details(const uint8_t *payload, size_t length,
-                                    struct sockdiag_vsock_header *details);
+static inline uint32_t sockdiag_vsock_get_details(const uint8_t *payload, size_t length,
+                                                  struct sockdiag_vsock_header *details,
+                                                  size_t size)
+{
+    if (size < SOCKDIAG_VSOCK_HEADER_SIZE_1_0)
+        return SOCKDIAG_INVALID_ARGUMENT;
+    return sockdiag_vsock_fill_details(
+        payload, length, details, (uint8_t *)details + SOCKDIAG_VSOCK_HEADER_SIZE_1_0,
+        size - SOCKDIAG_VSOCK_HEADER_SIZE_1_0);
+}
 
 /* The header of a reply about an XDP socket: struct xdp_diag_msg of linux/xdp_diag.h. */
 struct sockdiag_xdp_header {
@@ -1227,21 +1320,33 @@ struct sockdiag_xdp_details {
     struct sockdiag_xdp_statistics statistics; /* Counters of the socket (XDP_DIAG_STATS, type
                                                   9). */
 };
+#define SOCKDIAG_XDP_DETAILS_SIZE_1_0 240
 
-/*
- * Parses a reply about an XDP socket. Returns 0, or the code of its first error; then the details
- * are unchanged.
- */
-uint32_t sockdiag_xdp_get_details(const uint8_t *payload, size_t length,
-                                  struct sockdiag_xdp_details *details);
+uint32_t sockdiag_xdp_fill_details(const uint8_t *payload, size_t length,
+                                   struct sockdiag_xdp_details *details, uint8_t *later,
+                                   size_t later_length);
+
+/* Parses a reply about an XDP socket. */
+static inline uint32_t sockdiag_xdp_get_details(const uint8_t *payload, size_t length,
+                                                struct sockdiag_xdp_details *details, size_t size)
+{
+    if (size < SOCKDIAG_XDP_DETAILS_SIZE_1_0)
+        return SOCKDIAG_INVALID_ARGUMENT;
+    return sockdiag_xdp_fill_details(
+        payload, length, details, (uint8_t *)details + SOCKDIAG_XDP_DETAILS_SIZE_1_0,
+        size - SOCKDIAG_XDP_DETAILS_SIZE_1_0);
+}
 
 /* ---- lenient calls
  *
- * After such a call this prints each kind that is rejected, with its first error:
+ * After such a call this prints each kind that is rejected, with its first error, and the framing
+ * error:
  *
  *     for (kind = 0; kind < SOCKDIAG_REJECTION_KINDS; kind++)
  *         if (rejections.errors[kind] != 0)
  *             printf("%d: %s\n", kind, sockdiag_error_text(rejections.errors[kind]));
+ *     if (rejections.framing != 0)
+ *         printf("the rest: %s\n", sockdiag_error_text(rejections.framing));
  */
 
 #define SOCKDIAG_REJECTION_KINDS 32 /* Number of elements of errors of struct
@@ -1260,8 +1365,7 @@ uint32_t sockdiag_xdp_get_details(const uint8_t *payload, size_t length,
  *   INET_DIAG_PROTOCOL (10), INET_DIAG_SKV6ONLY (11), INET_DIAG_MARK (15) and INET_DIAG_CLASS_ID
  *   (17);
  * - netlink sockets: NETLINK_DIAG_MEMINFO (0) and NETLINK_DIAG_FLAGS (4) of linux/netlink_diag.h;
- * - packet sockets: PACKET_DIAG_INFO (0), PACKET_DIAG_RX_RING (2), PACKET_DIAG_TX_RING (3),
- *   PACKET_DIAG_FANOUT (4), PACKET_DIAG_UID (5) and PACKET_DIAG_MEMINFO (6) of linux/packet_diag.h;
+ * - packet sockets: 0 to 7, from PACKET_DIAG_INFO to PACKET_DIAG_FILTER of linux/packet_diag.h;
  * - vsock sockets: none;
  * - XDP sockets: 1 to 9, from XDP_DIAG_INFO to XDP_DIAG_STATS of linux/xdp_diag.h.
  */
@@ -1278,56 +1382,119 @@ struct sockdiag_rejections {
                            bytes of the attribute. */
 };
 
-/*
- * Parses a reply about a UNIX socket leniently. Returns 0, or the code of the error of its header;
- * then details and rejections are unchanged.
- */
-uint32_t sockdiag_unix_get_lenient_details(const uint8_t *payload, size_t length,
-                                           struct sockdiag_unix_details *details,
-                                           struct sockdiag_rejections *rejections);
+uint32_t sockdiag_unix_fill_lenient_details(const uint8_t *payload, size_t length,
+                                            struct sockdiag_unix_details *details, uint8_t *later,
+                                            size_t later_length,
+                                            struct sockdiag_rejections *rejections);
 
-/*
- * Parses a reply about an IPv4 or IPv6 socket leniently. Returns 0, or the code of the error of its
- * header; then details and rejections are unchanged. An INET_DIAG_INFO of fewer than 232 bytes, as
- * of MPTCP, is in the rejections: sockdiag_inet_get_tcp_info and sockdiag_inet_get_mptcp_info
- * return a value of any length.
- */
-uint32_t sockdiag_inet_get_lenient_details(const uint8_t *payload, size_t length,
-                                           struct sockdiag_inet_details *details,
-                                           struct sockdiag_rejections *rejections);
+/* Parses a reply about a UNIX socket leniently. */
+static inline uint32_t sockdiag_unix_get_lenient_details(const uint8_t *payload, size_t length,
+                                                         struct sockdiag_unix_details *details,
+                                                         size_t size,
+                                                         struct sockdiag_rejections *rejections)
+{
+    if (size < SOCKDIAG_UNIX_DETAILS_SIZE_1_0)
+        return SOCKDIAG_INVALID_ARGUMENT;
+    return sockdiag_unix_fill_lenient_details(
+        payload, length, details, (uint8_t *)details + SOCKDIAG_UNIX_DETAILS_SIZE_1_0,
+        size - SOCKDIAG_UNIX_DETAILS_SIZE_1_0, rejections);
+}
 
-/*
- * Parses a reply about a netlink socket leniently. Returns 0, or the code of the error of its
- * header; then details and rejections are unchanged.
- */
-uint32_t sockdiag_netlink_get_lenient_details(const uint8_t *payload, size_t length,
-                                              struct sockdiag_netlink_details *details,
-                                              struct sockdiag_rejections *rejections);
-
-/*
- * Parses a reply about a packet socket leniently. Returns 0, or the code of the error of its
- * header; then details and rejections are unchanged.
- */
-uint32_t sockdiag_packet_get_lenient_details(const uint8_t *payload, size_t length,
-                                             struct sockdiag_packet_details *details,
-                                             struct sockdiag_rejections *rejections);
-
-/*
- * Parses a reply about a vsock socket leniently. Returns 0, or the code of the error of its header;
- * then header and rejections are unchanged. The only rejection can be the framing error of bytes
- * after the header.
- */
-uint32_t sockdiag_vsock_get_lenient_details(const uint8_t *payload, size_t length,
-                                            struct sockdiag_vsock_header *details,
+uint32_t sockdiag_inet_fill_lenient_details(const uint8_t *payload, size_t length,
+                                            struct sockdiag_inet_details *details, uint8_t *later,
+                                            size_t later_length,
                                             struct sockdiag_rejections *rejections);
 
 /*
- * Parses a reply about an XDP socket leniently. Returns 0, or the code of the error of its header;
- * then details and rejections are unchanged.
+ * Parses a reply about an IPv4 or IPv6 socket leniently. An INET_DIAG_INFO of fewer than 232 bytes,
+ * as of MPTCP, is in the rejections: sockdiag_inet_get_tcp_info and sockdiag_inet_get_mptcp_info
+ * return a value of any length.
  */
-uint32_t sockdiag_xdp_get_lenient_details(const uint8_t *payload, size_t length,
-                                          struct sockdiag_xdp_details *details,
-                                          struct sockdiag_rejections *rejections);
+static inline uint32_t sockdiag_inet_get_lenient_details(const uint8_t *payload, size_t length,
+                                                         struct sockdiag_inet_details *details,
+                                                         size_t size,
+                                                         struct sockdiag_rejections *rejections)
+{
+    if (size < SOCKDIAG_INET_DETAILS_SIZE_1_0)
+        return SOCKDIAG_INVALID_ARGUMENT;
+    return sockdiag_inet_fill_lenient_details(
+        payload, length, details, (uint8_t *)details + SOCKDIAG_INET_DETAILS_SIZE_1_0,
+        size - SOCKDIAG_INET_DETAILS_SIZE_1_0, rejections);
+}
+
+uint32_t sockdiag_netlink_fill_lenient_details(const uint8_t *payload, size_t length,
+                                               struct sockdiag_netlink_details *details,
+                                               uint8_t *later, size_t later_length,
+                                               struct sockdiag_rejections *rejections);
+
+/* Parses a reply about a netlink socket leniently. */
+static inline uint32_t sockdiag_netlink_get_lenient_details(
+    const uint8_t *payload, size_t length, struct sockdiag_netlink_details *details, size_t size,
+    struct sockdiag_rejections *rejections)
+{
+    if (size < SOCKDIAG_NETLINK_DETAILS_SIZE_1_0)
+        return SOCKDIAG_INVALID_ARGUMENT;
+    return sockdiag_netlink_fill_lenient_details(
+        payload, length, details, (uint8_t *)details + SOCKDIAG_NETLINK_DETAILS_SIZE_1_0,
+        size - SOCKDIAG_NETLINK_DETAILS_SIZE_1_0, rejections);
+}
+
+uint32_t sockdiag_packet_fill_lenient_details(const uint8_t *payload, size_t length,
+                                              struct sockdiag_packet_details *details,
+                                              uint8_t *later, size_t later_length,
+                                              struct sockdiag_rejections *rejections);
+
+/* Parses a reply about a packet socket leniently. */
+static inline uint32_t sockdiag_packet_get_lenient_details(const uint8_t *payload, size_t length,
+                                                           struct sockdiag_packet_details *details,
+                                                           size_t size,
+                                                           struct sockdiag_rejections *rejections)
+{
+    if (size < SOCKDIAG_PACKET_DETAILS_SIZE_1_0)
+        return SOCKDIAG_INVALID_ARGUMENT;
+    return sockdiag_packet_fill_lenient_details(
+        payload, length, details, (uint8_t *)details + SOCKDIAG_PACKET_DETAILS_SIZE_1_0,
+        size - SOCKDIAG_PACKET_DETAILS_SIZE_1_0, rejections);
+}
+
+uint32_t sockdiag_vsock_fill_lenient_details(const uint8_t *payload, size_t length,
+                                             struct sockdiag_vsock_header *details, uint8_t *later,
+                                             size_t later_length,
+                                             struct sockdiag_rejections *rejections);
+
+/*
+ * Parses a reply about a vsock socket leniently. The only rejection can be the framing error of
+ * bytes after the header.
+ */
+static inline uint32_t sockdiag_vsock_get_lenient_details(const uint8_t *payload, size_t length,
+                                                          struct sockdiag_vsock_header *details,
+                                                          size_t size,
+                                                          struct sockdiag_rejections *rejections)
+{
+    if (size < SOCKDIAG_VSOCK_HEADER_SIZE_1_0)
+        return SOCKDIAG_INVALID_ARGUMENT;
+    return sockdiag_vsock_fill_lenient_details(
+        payload, length, details, (uint8_t *)details + SOCKDIAG_VSOCK_HEADER_SIZE_1_0,
+        size - SOCKDIAG_VSOCK_HEADER_SIZE_1_0, rejections);
+}
+
+uint32_t sockdiag_xdp_fill_lenient_details(const uint8_t *payload, size_t length,
+                                           struct sockdiag_xdp_details *details, uint8_t *later,
+                                           size_t later_length,
+                                           struct sockdiag_rejections *rejections);
+
+/* Parses a reply about an XDP socket leniently. */
+static inline uint32_t sockdiag_xdp_get_lenient_details(const uint8_t *payload, size_t length,
+                                                        struct sockdiag_xdp_details *details,
+                                                        size_t size,
+                                                        struct sockdiag_rejections *rejections)
+{
+    if (size < SOCKDIAG_XDP_DETAILS_SIZE_1_0)
+        return SOCKDIAG_INVALID_ARGUMENT;
+    return sockdiag_xdp_fill_lenient_details(
+        payload, length, details, (uint8_t *)details + SOCKDIAG_XDP_DETAILS_SIZE_1_0,
+        size - SOCKDIAG_XDP_DETAILS_SIZE_1_0, rejections);
+}
 
 /* ---- checks without details */
 
@@ -1343,23 +1510,23 @@ struct sockdiag_reply {
 };
 
 /*
- * Checks a reply about a UNIX socket, as sockdiag_unix_get_details does, and returns its header
- * only. Returns 0, or the code of the first error; then the header is unchanged.
+ * Checks a reply about a UNIX socket, as sockdiag_unix_get_details does, and stores its header
+ * only.
  */
 uint32_t sockdiag_check_unix_reply(const uint8_t *payload, size_t length,
                                    struct sockdiag_unix_header *header);
 
 /*
- * Checks a reply about an IPv4 or IPv6 socket, as sockdiag_inet_get_details does, and returns its
- * header only. Returns 0, or the code of the first error; then the header is unchanged.
+ * Checks a reply about an IPv4 or IPv6 socket, as sockdiag_inet_get_details does, and stores its
+ * header only.
  */
 uint32_t sockdiag_check_inet_reply(const uint8_t *payload, size_t length,
                                    struct sockdiag_inet_header *header);
 
 /*
  * Checks the payload of a message of this type, and stores the kind and the header of the reply.
- * The header of the other kind is unchanged. Returns 0, or the code of the first error; then the
- * reply is unchanged. A family other than AF_UNIX, AF_INET and AF_INET6 is SOCKDIAG_UNKNOWN_FAMILY.
+ * The header of the other kind is unchanged. A family other than AF_UNIX, AF_INET and AF_INET6 is
+ * SOCKDIAG_UNKNOWN_FAMILY.
  */
 uint32_t sockdiag_check_message(const uint8_t *payload, size_t length, uint16_t message_type,
                                 struct sockdiag_reply *reply);
@@ -1391,13 +1558,13 @@ struct sockdiag_attribute {
 /*
  * Stores the attribute at the cursor, and advances the cursor past it and its padding. The value of
  * the attribute is not checked. Returns one of:
- * - 1 if an attribute was stored;
- * - 0 if no bytes are left, and then nothing is written;
+ * - SOCKDIAG_ITEM if an attribute was stored;
+ * - SOCKDIAG_END if no bytes are left, and then nothing is written;
  * - the code of the framing error at the cursor, 7 to 9; then the attribute is unchanged, and no
  *   bytes are left.
  *
- * In a checked reply, starting at the end of its header, the return value is 1 for each attribute,
- * in order, and then 0.
+ * In a checked reply, starting at the end of its header, the calls return each attribute, in order,
+ * and then SOCKDIAG_END.
  */
 uint32_t sockdiag_next_attribute(const uint8_t *bytes, size_t length,
                                  struct sockdiag_cursor *cursor,
@@ -1426,9 +1593,9 @@ struct sockdiag_message {
 /*
  * Stores the message at the cursor, and advances the cursor past it and its padding. Returns one
  * of:
- * - 1 if the message has one of the four NLMSG_.. types, or is a reply that sockdiag_check_message
- *   accepts;
- * - 0 if no bytes are left, and then nothing is written;
+ * - SOCKDIAG_ITEM if the message has one of the four NLMSG_.. types, or is a reply that
+ *   sockdiag_check_message accepts;
+ * - SOCKDIAG_END if no bytes are left, and then nothing is written;
  * - the code of the first error of the payload of a message of any other type; the message is set,
  *   and the iteration may continue;
  * - the code of the framing error at the cursor, 16 to 18; then the message is unchanged, and no
@@ -1444,8 +1611,8 @@ uint32_t sockdiag_next_message(const uint8_t *datagram, size_t length,
 /*
  * Stores the message at the cursor, and advances the cursor past it and its padding. Returns one
  * of:
- * - 1 if a message was stored, whatever its type and its payload;
- * - 0 if no bytes are left, and then nothing is written;
+ * - SOCKDIAG_ITEM if a message was stored, whatever its type and its payload;
+ * - SOCKDIAG_END if no bytes are left, and then nothing is written;
  * - the code of the framing error at the cursor, 16 to 18; then the message is unchanged, and no
  *   bytes are left. The rest of the datagram is lost, and with it possibly the end of the dump:
  *   request the dump again, on another socket, instead of waiting for its end.
@@ -1460,8 +1627,8 @@ uint32_t sockdiag_next_any_message(const uint8_t *datagram, size_t length,
 
 /*
  * Stores the error number at the start of the payload of an NLMSG_ERROR or NLMSG_DONE: 0 for
- * success, else -errno. Returns 1; or 0 if the payload has fewer than four bytes, and then the
- * number is unchanged.
+ * success, else -errno. If the payload has fewer than four bytes, the error is
+ * SOCKDIAG_WRONG_LENGTH.
  *
  * An NLMSG_ERROR with 0 is an acknowledgement. A dump that failed also ends with NLMSG_DONE, so
  * look at the number there too. A kernel that lacks the protocol answers a request for it with
@@ -1477,13 +1644,11 @@ uint32_t sockdiag_get_error_number(const uint8_t *payload, size_t length, int32_
  * with the same bytes and this cursor. The kernel sends them to a socket with the option
  * NETLINK_EXT_ACK.
  *
- * Returns 1 if the cursor was set. If the flags lack NLM_F_ACK_TLVS, there are no attributes, and
- * no bytes are left after the cursor. Returns 0 if the cursor is unchanged, for one of these
- * reasons:
- * - The message has another type.
- * - An NLMSG_DONE has fewer than 4 bytes.
- * - An NLMSG_ERROR has fewer than 20 bytes, or does not contain the whole request although it
- *   should.
+ * If the flags lack NLM_F_ACK_TLVS, there are no attributes, and no bytes are left after the
+ * cursor. The errors, after which the cursor is unchanged, are:
+ * - SOCKDIAG_UNKNOWN_MESSAGE_TYPE: the message has another type;
+ * - SOCKDIAG_WRONG_LENGTH: an NLMSG_DONE has fewer than 4 bytes; or an NLMSG_ERROR has fewer than
+ *   20 bytes, or does not contain the whole request although it should.
  */
 uint32_t sockdiag_find_error_attributes(const uint8_t *payload, size_t length,
                                         uint16_t message_type, uint16_t flags,
@@ -1521,18 +1686,46 @@ uint32_t sockdiag_ends_answer(const struct sockdiag_message *message);
  * These attributes are not in the details of a reply. sockdiag_next_attribute returns them: pass
  * the bytes of its value, which are payload + attribute.offset and attribute.length. The caller
  * chooses the call by the kind, attribute.type_word & SOCKDIAG_NLA_TYPE_MASK. A value that is
- * longer than the struct is accepted, since newer kernels may append fields; a number has exactly
- * its length.
+ * longer than the struct is accepted, since newer kernels may append fields. A shorter one is
+ * SOCKDIAG_WRONG_LENGTH.
  *
- * A value that is an array is read by steps, from a cursor with the offset 0, while the call
- * returns SOCKDIAG_ITEM. The time for all items of a value is proportional to its length.
+ * A value that is an array is read from a cursor with the offset 0, while the call returns
+ * SOCKDIAG_ITEM. If the rest of the value is shorter than an item, the call returns
+ * SOCKDIAG_WRONG_LENGTH, and no bytes are left. The time for all items of a value is proportional
+ * to its length.
+ *
+ * The values of INET_DIAG_ULP_INFO, INET_DIAG_SK_BPF_STORAGES and attributes in them consist of
+ * attributes: iterate over a value by sockdiag_next_attribute from the offset 0, and read a number
+ * by sockdiag_get_number. This prints the version of TLS of a socket:
+ *
+ *     static void print_tls(const uint8_t *ulp, size_t length)
+ *     {
+ *         struct sockdiag_cursor outer = {0}, inner;
+ *         struct sockdiag_attribute it, field;
+ *         uint64_t number;
+ *         while (sockdiag_next_attribute(ulp, length, &outer, &it) == SOCKDIAG_ITEM) {
+ *             const uint8_t *tls = ulp + it.offset;
+ *             if ((it.type_word & SOCKDIAG_NLA_TYPE_MASK) != SOCKDIAG_INET_ULP_INFO_TLS)
+ *                 continue;
+ *             inner.offset = 0;
+ *             while (sockdiag_next_attribute(tls, it.length, &inner, &field) == SOCKDIAG_ITEM)
+ *                 if ((field.type_word & SOCKDIAG_NLA_TYPE_MASK) == SOCKDIAG_TLS_INFO_VERSION
+ *                     && sockdiag_get_number(tls + field.offset, field.length, &number)
+ *                            == SOCKDIAG_OK)
+ *                     printf("version %#lx\n", (unsigned long)number);
+ *         }
+ *     }
  */
 
 /*
- * Stores the inode at the cursor, and advances the cursor by its 4 bytes. The bytes are the value
- * of UNIX_DIAG_ICONS: the inodes of the sockets that connected to a UNIX socket, and were not yet
- * accepted; 0 for one that was closed since. Returns 1; or 0 if fewer bytes are left, and then
- * nothing is written. The time for a whole list is proportional to its length.
+ * Stores a number, the value of an attribute: little-endian, of 1, 2, 4 or 8 bytes. Another length
+ * is SOCKDIAG_WRONG_LENGTH.
+ */
+uint32_t sockdiag_get_number(const uint8_t *value, size_t length, uint64_t *number);
+
+/*
+ * Iterates over the inodes, of 4 bytes each, in the value of UNIX_DIAG_ICONS: of the sockets that
+ * connected to a UNIX socket, and were not yet accepted; 0 for one that was closed since.
  */
 uint32_t sockdiag_next_pending(const uint8_t *value, size_t length, struct sockdiag_cursor *cursor,
                                uint32_t *inode);
@@ -1550,8 +1743,8 @@ struct sockdiag_vegas_info {
 };
 
 /*
- * Stores the measurements of TCP Vegas and of similar algorithms: the value of INET_DIAG_VEGASINFO,
- * at least 16 bytes. Returns 1; or 0 if the value is shorter, and then the struct is unchanged.
+ * Stores the measurements of TCP Vegas and of similar algorithms: the value of INET_DIAG_VEGASINFO.
+ * If it has fewer than 16 bytes, the error is SOCKDIAG_WRONG_LENGTH.
  */
 uint32_t sockdiag_get_vegas_info(const uint8_t *value, size_t length,
                                  struct sockdiag_vegas_info *info);
@@ -1572,8 +1765,8 @@ struct sockdiag_dctcp_info {
 };
 
 /*
- * Stores the measurements of DCTCP: the value of INET_DIAG_DCTCPINFO, at least 16 bytes. Returns 1;
- * or 0 if the value is shorter, and then the struct is unchanged.
+ * Stores the measurements of DCTCP: the value of INET_DIAG_DCTCPINFO. If it has fewer than 16
+ * bytes, the error is SOCKDIAG_WRONG_LENGTH.
  */
 uint32_t sockdiag_get_dctcp_info(const uint8_t *value, size_t length,
                                  struct sockdiag_dctcp_info *info);
@@ -1590,8 +1783,8 @@ struct sockdiag_bbr_info {
 };
 
 /*
- * Stores the measurements of BBR: the value of INET_DIAG_BBRINFO, at least 20 bytes. Returns 1; or
- * 0 if the value is shorter, and then the struct is unchanged.
+ * Stores the measurements of BBR: the value of INET_DIAG_BBRINFO. If it has fewer than 20 bytes,
+ * the error is SOCKDIAG_WRONG_LENGTH.
  */
 uint32_t sockdiag_get_bbr_info(const uint8_t *value, size_t length, struct sockdiag_bbr_info *info);
 
@@ -1614,9 +1807,8 @@ struct sockdiag_md5_signature {
 };
 
 /*
- * Stores the MD5 signature key at the cursor, and advances the cursor by its 100 bytes. The bytes
- * are the value of INET_DIAG_MD5SIG, an array of such keys. Returns 1; or 0 if fewer bytes are
- * left, and then nothing is written. The kernel sends keys only to processes with CAP_NET_ADMIN.
+ * Iterates over the MD5 signature keys, of 100 bytes each, in the value of INET_DIAG_MD5SIG. The
+ * kernel sends keys only to processes with CAP_NET_ADMIN.
  */
 uint32_t sockdiag_next_md5_signature(const uint8_t *value, size_t length,
                                      struct sockdiag_cursor *cursor,
@@ -1644,17 +1836,63 @@ struct sockdiag_stored_address {
 };
 
 /*
- * Stores the address at the cursor, and advances the cursor by its 128 bytes. The bytes are the
- * value of INET_DIAG_LOCALS or INET_DIAG_PEERS, an array of the addresses of an SCTP association.
- * Returns 1; or 0 if fewer bytes are left, and then nothing is written.
+ * Iterates over the addresses of an SCTP association, of 128 bytes each, in the value of
+ * INET_DIAG_LOCALS or INET_DIAG_PEERS.
  */
 uint32_t sockdiag_next_address(const uint8_t *value, size_t length, struct sockdiag_cursor *cursor,
                                struct sockdiag_stored_address *address);
 
+/*
+ * An address that a packet socket also receives: one of the records in the value of
+ * PACKET_DIAG_MCLIST, struct packet_diag_mclist of linux/packet_diag.h, 44 bytes. The numbers are
+ * little-endian.
+ */
+struct sockdiag_packet_membership {
+    uint32_t interface;      /* Index of the interface, pdmc_index, at offset 0. */
+    uint32_t count;          /* Number of times that the address was added, pdmc_count, at offset
+                                4. */
+    uint16_t kind;           /* Type of the membership, pdmc_type, at offset 8: one of
+                                PACKET_MR_.. of linux/if_packet.h. */
+    uint16_t address_length; /* Length of the address, pdmc_alen, at offset 10, in bytes. */
+    uint8_t address[32];     /* Address, pdmc_addr, at offset 12. Only the first address_length
+                                bytes are used. */
+};
+
+/*
+ * Iterates over the memberships of a packet socket, of 44 bytes each, in the value of
+ * PACKET_DIAG_MCLIST, the field addresses of its details.
+ */
+uint32_t sockdiag_next_membership(const uint8_t *value, size_t length,
+                                  struct sockdiag_cursor *cursor,
+                                  struct sockdiag_packet_membership *membership);
+
+/*
+ * An instruction of a socket filter: one of the records in the value of PACKET_DIAG_FILTER, struct
+ * sock_filter of linux/filter.h, 8 bytes. The numbers are little-endian.
+ */
+struct sockdiag_filter_instruction {
+    uint16_t code;           /* What the instruction does, code, at offset 0. */
+    uint8_t jump_if_met;     /* Number of instructions to skip if its condition is met, jt, at
+                                offset 2. */
+    uint8_t jump_if_not_met; /* Number of instructions to skip if its condition is not met, jf,
+                                at offset 3. */
+    uint32_t operand;        /* Operand, k, at offset 4. */
+};
+
+/*
+ * Iterates over the instructions of the filter of a packet socket, of 8 bytes each, in the value of
+ * PACKET_DIAG_FILTER, the field filter of its details.
+ */
+uint32_t sockdiag_next_instruction(const uint8_t *value, size_t length,
+                                   struct sockdiag_cursor *cursor,
+                                   struct sockdiag_filter_instruction *instruction);
+
 /* ---- errors with their fields
  *
  * All other calls return the code of an error. sockdiag_explain checks bytes that they rejected
- * again, and returns the error with the lengths, kinds and numbers that belong to it.
+ * again, and returns the error with the lengths, kinds and numbers that belong to it. It does not
+ * return where the error is: of an attribute of a UNIX, IPv4 or IPv6 socket that is explained by
+ * itself, the caller of sockdiag_next_attribute knows the offset.
  */
 
 /* Records that can have too few bytes: the numbers of the field record_name. */
@@ -1680,7 +1918,7 @@ enum sockdiag_record {
 
 /* A decode error with its fields. A field that the error does not have is 0. */
 struct sockdiag_error_details {
-    uint32_t code;               /* Code of the error, one of enum sockdiag_error. */
+    uint32_t code;               /* Code of the error, one of enum sockdiag_code. */
     uint32_t record_name;        /* Record that has too few bytes, one of SOCKDIAG_RECORD_..
                                     (SOCKDIAG_BUFFER_TOO_SMALL). SOCKDIAG_RECORD_MEM_INFO is also
                                     the memory of a netlink, packet or XDP socket. */
@@ -1693,13 +1931,14 @@ struct sockdiag_error_details {
                                     (SOCKDIAG_RECORD_FAMILY_ATTRIBUTE). Not set for other
                                     records, such as memory counters. */
     size_t got;                  /* Number of bytes that were found: of the record, value or
-                                    message; or, for an attribute whose header or length field is
-                                    invalid, up to the end. */
+                                    message; or, for an attribute whose header is cut or whose
+                                    length field is too large, up to the end. */
     size_t need;                 /* Number of bytes that are needed. */
     size_t length;               /* Length field of the attribute or of the message. */
     size_t index;                /* Index of the first NUL in a pathname
                                     (SOCKDIAG_NAME_INNER_ZERO). */
 };
+#define SOCKDIAG_ERROR_DETAILS_SIZE_1_0 56
 
 #define SOCKDIAG_EXPLAIN_MESSAGE 256        /* what of sockdiag_explain: the payload of a
                                                message. */
@@ -1710,28 +1949,40 @@ struct sockdiag_error_details {
 #define SOCKDIAG_EXPLAIN_INET_ATTRIBUTE 259 /* what of sockdiag_explain: an attribute of an IPv4
                                                or IPv6 socket. */
 
+uint32_t sockdiag_fill_explain(uint32_t what, const uint8_t *bytes, size_t length,
+                               struct sockdiag_error_details *error, uint8_t *later,
+                               size_t later_length);
+
 /*
- * Stores the error of bytes that another call rejected, with its fields. Returns its code; or 0 if
- * the bytes are accepted, and then the error is unchanged. what says what the bytes are:
- * - a family, such as AF_INET: a whole reply about a socket of this family, which
- *   sockdiag_.._get_details rejects. It is the first byte of the reply. If it is another family,
- *   the error is SOCKDIAG_UNKNOWN_FAMILY;
+ * Stores the error of bytes that another call rejected, with its fields, and returns its code.
+ * Returns 0 if the bytes are accepted; then the error is unchanged. what says what the bytes are:
+ * - a family, such as AF_INET: a whole reply about a socket of this family, which is its first
+ *   byte, and which sockdiag_.._get_details rejects. Another family is SOCKDIAG_UNKNOWN_FAMILY;
  * - SOCKDIAG_EXPLAIN_MESSAGE: the payload of a message of type SOCK_DIAG_BY_FAMILY, which
  *   sockdiag_next_message rejects;
- * - SOCKDIAG_EXPLAIN_DATAGRAM: a datagram from the cursor on, whose framing
- *   sockdiag_next_any_message rejects;
+ * - SOCKDIAG_EXPLAIN_DATAGRAM: the rest of a datagram, from the offset that the cursor had before
+ *   sockdiag_next_any_message rejected it;
  * - SOCKDIAG_EXPLAIN_UNIX_ATTRIBUTE or SOCKDIAG_EXPLAIN_INET_ATTRIBUTE: a part of a reply that
- *   begins with the attribute, which a lenient call rejects. No bytes are accepted;
- * - any other number: returns 0.
+ *   begins with an attribute, which a lenient call rejects. Only this attribute is checked.
+ *
+ * Any other number is SOCKDIAG_INVALID_ARGUMENT.
  */
-uint32_t sockdiag_explain(uint32_t what, const uint8_t *bytes, size_t length,
-                          struct sockdiag_error_details *error);
+static inline uint32_t sockdiag_explain(uint32_t what, const uint8_t *bytes, size_t length,
+                                        struct sockdiag_error_details *error, size_t size)
+{
+    if (size < SOCKDIAG_ERROR_DETAILS_SIZE_1_0)
+        return SOCKDIAG_INVALID_ARGUMENT;
+    return sockdiag_fill_explain(
+        what, bytes, length, error, (uint8_t *)error + SOCKDIAG_ERROR_DETAILS_SIZE_1_0,
+        size - SOCKDIAG_ERROR_DETAILS_SIZE_1_0);
+}
 
 /* ---- requests
  *
- * A call writes a whole netlink message at the start of the buffer, and leaves the bytes after it
- * unchanged. If it returns 0, nothing is written. For a buffer of SOCKDIAG_.._REQUEST_LENGTH bytes,
- * 0 means that the family is invalid. All bits of flags and of bit sets are written unchanged.
+ * A call writes a whole netlink message at the start of the buffer, stores its length, and leaves
+ * the bytes after it unchanged. If the buffer is shorter, it returns SOCKDIAG_NO_SPACE, and stores
+ * the length that it needs; SOCKDIAG_.._REQUEST_LENGTH bytes suffice. After other errors it stores
+ * 0. Nothing is written then. All bits of flags and of bit sets are written unchanged.
  */
 
 /*
@@ -1775,10 +2026,13 @@ struct sockdiag_inet_request {
     struct sockdiag_request_header header; /* Fields of the netlink header. */
     uint8_t family;                        /* AF_INET or AF_INET6 (sdiag_family). */
     uint8_t extensions;                    /* Attributes that the replies shall have, with the
-                                              bit 1 << (kind - 1) for each kind (idiag_ext). For
-                                              MPTCP, and for kernels without tcpi_snd_wnd, leave
-                                              out INET_DIAG_INFO, or use a lenient call:
-                                              sockdiag_inet_get_details rejects their replies. */
+                                              bit 1 << (kind - 1) for each kind (idiag_ext). That
+                                              of INET_DIAG_VEGASINFO requests what the socket's
+                                              algorithm has, also INET_DIAG_DCTCPINFO or
+                                              INET_DIAG_BBRINFO. For MPTCP, and for kernels
+                                              without tcpi_snd_wnd, leave out INET_DIAG_INFO, or
+                                              use a lenient call: sockdiag_inet_get_details
+                                              rejects their replies. */
     uint32_t protocol;                     /* Protocol, one of IPPROTO_.. (sdiag_protocol).
                                               Request one protocol at a time: replies to a
                                               request do not contain it. A protocol above 255,
@@ -1812,24 +2066,24 @@ struct sockdiag_inet_request {
 #define SOCKDIAG_UNIX_REQUEST_LENGTH 40
 #define SOCKDIAG_INET_REQUEST_LENGTH 80
 
-/* Writes a request for UNIX sockets: 40 bytes. Returns 40, or 0 if the buffer is shorter. */
-size_t sockdiag_write_unix_request(const struct sockdiag_unix_request *request, uint8_t *buffer,
-                                   size_t length);
+/* Writes a request for UNIX sockets: 40 bytes. */
+uint32_t sockdiag_write_unix_request(const struct sockdiag_unix_request *request, uint8_t *buffer,
+                                     size_t length, size_t *written);
 
 /*
- * Writes a request for IPv4 or IPv6 sockets: 72 bytes, or 80 if the protocol is above 255. Returns
- * this number; or 0 if the buffer is shorter, or if the family is neither AF_INET nor AF_INET6.
+ * Writes a request for IPv4 or IPv6 sockets: 72 bytes, or 80 if the protocol is above 255. A family
+ * other than AF_INET and AF_INET6 is SOCKDIAG_UNSUPPORTED_FAMILY.
  */
-size_t sockdiag_write_inet_request(const struct sockdiag_inet_request *request, uint8_t *buffer,
-                                   size_t length);
+uint32_t sockdiag_write_inet_request(const struct sockdiag_inet_request *request, uint8_t *buffer,
+                                     size_t length, size_t *written);
 
 /*
  * Writes a request for the kernel to close the selected IPv4 or IPv6 sockets, of type SOCK_DESTROY,
  * and else as sockdiag_write_inet_request. The flags are NLM_F_REQUEST, and NLM_F_ACK to have
  * success acknowledged. Linux closes TCP, UDP and raw sockets if the caller has CAP_NET_ADMIN.
  */
-size_t sockdiag_write_inet_destroy(const struct sockdiag_inet_request *request, uint8_t *buffer,
-                                   size_t length);
+uint32_t sockdiag_write_inet_destroy(const struct sockdiag_inet_request *request, uint8_t *buffer,
+                                     size_t length, size_t *written);
 
 /*
  * A request for netlink, packet or XDP sockets: struct netlink_diag_req, packet_diag_req or
@@ -1868,64 +2122,54 @@ struct sockdiag_vsock_request {
 #define SOCKDIAG_VSOCK_REQUEST_LENGTH 40
 
 /*
- * Writes a request for netlink, packet or XDP sockets: 36 bytes. Returns 36; or 0 if the buffer is
- * shorter, or if the family is none of AF_NETLINK, AF_PACKET and AF_XDP.
+ * Writes a request for netlink, packet or XDP sockets: 36 bytes. A family other than AF_NETLINK,
+ * AF_PACKET and AF_XDP is SOCKDIAG_UNKNOWN_FAMILY.
  */
-size_t sockdiag_write_show_request(const struct sockdiag_show_request *request, uint8_t *buffer,
-                                   size_t length);
+uint32_t sockdiag_write_show_request(const struct sockdiag_show_request *request, uint8_t *buffer,
+                                     size_t length, size_t *written);
 
-/* Writes a request for vsock sockets: 40 bytes. Returns 40, or 0 if the buffer is shorter. */
-size_t sockdiag_write_vsock_request(const struct sockdiag_vsock_request *request, uint8_t *buffer,
-                                    size_t length);
-
-/*
- * Outcome of a call that writes bytes derived from the caller's bytes. It is set in any case. If
- * nothing was written, it says why: the caller's bytes are rejected (error is not 0), they are too
- * long for a length field (both are 0), or the buffer is shorter than needed.
- */
-struct sockdiag_outcome {
-    uint32_t error; /* Code of the first error if the caller's bytes are rejected, else 0. */
-    size_t needed;  /* Number of bytes to write; 0 if the caller's bytes are rejected, or cannot
-                       be serialized. */
-};
+/* Writes a request for vsock sockets: 40 bytes. */
+uint32_t sockdiag_write_vsock_request(const struct sockdiag_vsock_request *request, uint8_t *buffer,
+                                      size_t length, size_t *written);
 
 /*
  * Writes a request as sockdiag_write_inet_request does, followed by the attributes and by zeros up
- * to a multiple of 4. Returns the number of bytes that were written, or 0: see outcome. The bytes
- * have to be a sequence of complete attributes, whose values are not checked. If the family is
- * neither AF_INET nor AF_INET6, outcome.error is SOCKDIAG_UNSUPPORTED_FAMILY.
+ * to a multiple of 4. The bytes have to be a sequence of complete attributes, whose values are not
+ * checked: else the error is that of their framing. SOCKDIAG_TOO_LONG is returned for attributes of
+ * 4 GiB.
  *
  * One such attribute is the bytecode of a filter, INET_DIAG_REQ_BYTECODE, which the kernel runs on
  * each socket. It answers with -EINVAL if a jump of the filter leads into the middle of an
  * operation, or more than 4 bytes past the end, and with -EPERM if the filter has an
  * INET_DIAG_BC_MARK_COND and the caller lacks CAP_NET_ADMIN.
  */
-size_t sockdiag_write_inet_request_with_attributes(const struct sockdiag_inet_request *request,
-                                                   const uint8_t *attributes, size_t length,
-                                                   uint8_t *buffer, size_t buffer_length,
-                                                   struct sockdiag_outcome *outcome);
+uint32_t sockdiag_write_inet_request_with_attributes(const struct sockdiag_inet_request *request,
+                                                     const uint8_t *attributes, size_t length,
+                                                     uint8_t *buffer, size_t buffer_length,
+                                                     size_t *written);
 
 /* ---- the canonical form
  *
  * All replies that differ only in ignored bits have the same canonical form. Ignored bits are
  * undefined flags, pad fields, padding, and bytes that no parser reads, for example; of a timer the
  * time if it is 3 (TIME_WAIT), and the number of retransmissions if it is not 1. The form is
- * written at the start of the buffer; bytes after it are unchanged.
+ * written at the start of the buffer, and its length is stored, as those of a request.
  */
 
 /*
- * Writes the canonical form of a reply about a UNIX socket. Returns the number of bytes that were
- * written, or 0: see outcome.
+ * Writes the canonical form of a reply about a UNIX socket. The errors are SOCKDIAG_NO_SPACE,
+ * SOCKDIAG_TOO_LONG if an attribute or the reply is too long to be serialized, and the first error
+ * of the reply.
  */
-size_t sockdiag_rewrite_unix_reply(const uint8_t *payload, size_t length, uint8_t *buffer,
-                                   size_t buffer_length, struct sockdiag_outcome *outcome);
+uint32_t sockdiag_rewrite_unix_reply(const uint8_t *payload, size_t length, uint8_t *buffer,
+                                     size_t buffer_length, size_t *written);
 
 /*
- * Writes the canonical form of a reply about an IPv4 or IPv6 socket. Returns the number of bytes
- * that were written, or 0: see outcome.
+ * Writes the canonical form of a reply about an IPv4 or IPv6 socket. The errors are those of
+ * sockdiag_rewrite_unix_reply.
  */
-size_t sockdiag_rewrite_inet_reply(const uint8_t *payload, size_t length, uint8_t *buffer,
-                                   size_t buffer_length, struct sockdiag_outcome *outcome);
+uint32_t sockdiag_rewrite_inet_reply(const uint8_t *payload, size_t length, uint8_t *buffer,
+                                     size_t buffer_length, size_t *written);
 
 #ifdef __cplusplus
 }

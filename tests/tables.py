@@ -106,12 +106,13 @@ def members_of(text):
 
 
 def functions():
-    """Returns the functions in the synopsis, and those that the header declares or defines. A macro
-    without parameters is the function that it calls."""
+    """Returns the functions in the synopsis, and those that the header declares or defines, without
+    those that inline functions call. A macro without parameters is the function that it calls."""
     synopsis = LIBRARY_PAGE.partition(".Sh SYNOPSIS")[2].partition(".Sh DESCRIPTION")[0]
     text = re.sub(r"\s+", " ", re.sub(r"(?m)^\..*$", "", synopsis)).replace("( ", "(")
     start = r"(?m)^(?:static inline )?((?:const )?\w+ \*?sockdiag_\w+\([^;{]*\))(?:;|\n\{)"
-    prototypes = [re.sub(r"\s+", " ", it) for it in re.findall(start, HEADER)]
+    found = [re.sub(r"\s+", " ", it).replace("( ", "(") for it in re.findall(start, HEADER)]
+    prototypes = [it for it in found if "_fill_" not in it]
     for macro, called in re.findall(r"(?m)^#define (sockdiag_\w+)\(\) (sockdiag_\w+)\(", HEADER):
         index, found = next(it for it in enumerate(prototypes) if f" {called}(" in it[1])
         prototypes.insert(index + 1, f"{found.partition(' ')[0]} {macro}(void)")

@@ -261,6 +261,8 @@ class Library:
         for name, row in FIELD_STRUCTS.items():
             self.structs[name] = self.field_struct(name, *row)
         self.functions = {it[2]: self.function(*it) for it in FUNCTION.findall(text)}
+        # The structs whose later fields a call fills by themselves.
+        self.sized = {*re.findall(r"&mut (\w+)(?:<'a>)?,\s+later: &mut \[u8\]", self.code)}
         for name, struct in self.structs.items():
             size = self.layout(struct.fields)["the end"]
             if self.sizes.get(name) != str(size):

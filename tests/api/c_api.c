@@ -101,7 +101,8 @@ static void tells_unix_details(void) {
     struct sockdiag_unix_details details, none;
     size_t end;
     memset(&details, 0, sizeof details);
-    check(sockdiag_unix_get_details(unix_reply, sizeof unix_reply, &details) == SOCKDIAG_OK,
+    check(sockdiag_unix_get_details(unix_reply, sizeof unix_reply, &details, sizeof details) ==
+          SOCKDIAG_OK,
           "details of a UNIX reply");
     check(details.header.kind == 1 && details.header.inode == 0x11223344, "a header in details");
     check(details.name.kind == SOCKDIAG_TEXT && details.name.length == 2, "a pathname");
@@ -117,7 +118,7 @@ static void tells_unix_details(void) {
     end = put(bytes, end, 5, memory, 36);
     end = put(bytes, end, 6, "\10", 1);
     end = put(bytes, end, 2, "\14\0\0\0", 4);
-    check(sockdiag_unix_get_details(bytes, end, &details) == SOCKDIAG_OK,
+    check(sockdiag_unix_get_details(bytes, end, &details, sizeof details) == SOCKDIAG_OK,
           "all details of a UNIX reply");
     check(details.name.kind == SOCKDIAG_ABSTRACT && details.name.length == 3, "an abstract name");
     check(memcmp(details.name.bytes, "a\0b", 3) == 0, "an abstract name's bytes");
@@ -129,16 +130,18 @@ static void tells_unix_details(void) {
           is(details.memory.send_queue, 11) && is(details.memory.drops, 12), "memory");
     check(details.owner.is_set == 0, "no owner");
     end = put(bytes, end, 7, "\1\0\0", 3);
-    check(sockdiag_unix_get_details(bytes, end, &details) == SOCKDIAG_OK &&
+    check(sockdiag_unix_get_details(bytes, end, &details, sizeof details) == SOCKDIAG_OK &&
           details.owner.is_set == 0, "an owner of 3 bytes");
     end = put(bytes, end, 7, "\350\3\0\0", 4);
-    check(sockdiag_unix_get_details(bytes, end, &details) == SOCKDIAG_OK && is(details.owner, 1000),
+    check(sockdiag_unix_get_details(bytes, end, &details, sizeof details) == SOCKDIAG_OK &&
+          is(details.owner, 1000),
           "the first valid owner");
     none = details;
-    check(sockdiag_unix_get_details(bytes, 22, &details) == SOCKDIAG_ATTRIBUTE_LENGTH_PAST,
+    check(sockdiag_unix_get_details(bytes, 22, &details, sizeof details) ==
+          SOCKDIAG_ATTRIBUTE_LENGTH_PAST,
           "details of a truncated reply");
     check(memcmp(&none, &details, sizeof none) == 0, "details are written for a rejected reply");
-    check(sockdiag_unix_get_details(NULL, 0, &details) == SOCKDIAG_BUFFER_TOO_SMALL,
+    check(sockdiag_unix_get_details(NULL, 0, &details, sizeof details) == SOCKDIAG_BUFFER_TOO_SMALL,
           "no bytes at a null pointer");
 }
 
@@ -146,7 +149,7 @@ static void tells_inet_details(void) {
     uint8_t bytes[512], value[240];
     struct sockdiag_inet_details details;
     struct sockdiag_tcp_info info;
-    size_t end;
+    size_t end, length;
     memset(&details, 0, sizeof details);
     memcpy(bytes, inet_reply, 72);
     end = put(bytes, 72, 4, "cubic", 6);
@@ -157,7 +160,7 @@ static void tells_inet_details(void) {
     end = put(bytes, end, 11, "\5", 1);
     end = put(bytes, end, 15, "\6\0\0\0", 4);
     end = put(bytes, end, 17, "\7\0\0\0", 4);
-    check(sockdiag_inet_get_details(bytes, end, &details) == SOCKDIAG_OK,
+    check(sockdiag_inet_get_details(bytes, end, &details, sizeof details) == SOCKDIAG_OK,
           "details of an internet reply");
     check(details.header.inode == 12345 && details.congestion.kind == SOCKDIAG_TEXT,
           "header and algorithm");
@@ -173,22 +176,24 @@ static void tells_inet_details(void) {
     end = put(bytes, end, 21, "\1\2\3\4\5\6\7\10", 8);
     end = put(bytes, end, 22, "\1", 1);
     end = put(bytes, end, 22, "\1\2\3", 3);
-    check(sockdiag_inet_get_details(bytes, end, &details) == SOCKDIAG_OK &&
+    check(sockdiag_inet_get_details(bytes, end, &details, sizeof details) == SOCKDIAG_OK &&
           details.has_cgroup_id == 1 && details.cgroup_id == 0x807060504030201 &&
           is(details.options, 0x201), "the first valid control group and options");
-    check(sockdiag_inet_get_tcp_info(bytes, end, &info, sizeof info) == 0 && info.state == 0,
+    check(sockdiag_inet_get_tcp_info(bytes, end, &info, sizeof info, &length) == SOCKDIAG_END,
           "no TCP connection");
     check(details.has_legacy_memory == 0 && details.memory.receive_queue.is_set == 0, "no memory");
     number_bytes(value, sizeof value);
     end = put(bytes, end, 2, value, sizeof value);
-    check(sockdiag_inet_get_details(bytes, end, &details) == SOCKDIAG_OK, "a TCP connection");
-    check(sockdiag_inet_get_tcp_info(bytes, end, &info, sizeof info) == 240 &&
-          memcmp(&info, value, 240) == 0 && info.total_rto == 0 && info.options2 == 0, "its bytes");
+    check(sockdiag_inet_get_details(bytes, end, &details, sizeof details) == SOCKDIAG_OK,
+          "a TCP connection");
+    check(sockdiag_inet_get_tcp_info(bytes, end, &info, sizeof info, &length) == SOCKDIAG_OK &&
+          length == 240 && memcmp(&info, value, 240) == 0 && info.total_rto == 0 &&
+              info.options2 == 0, "its bytes");
     check(info.rtt == 0x47464544 && info.pacing_rate == 0x6f6e6d6c6b6a6968 &&
           info.snd_wnd == 0xe7e6e5e4, "its fields");
     end = put(bytes, end, 7, value, 32);
     end = put(bytes, end, 1, value, 17);
-    check(sockdiag_inet_get_details(bytes, end, &details) == SOCKDIAG_OK, "memory");
+    check(sockdiag_inet_get_details(bytes, end, &details, sizeof details) == SOCKDIAG_OK, "memory");
     check(is(details.memory.receive_queue, 0x03020100) &&
           is(details.memory.backlog_queue_length, 0x1f1e1d1c), "its words");
     check(details.memory.drops.is_set == 0, "a field that is absent");
@@ -197,21 +202,22 @@ static void tells_inet_details(void) {
           details.legacy_memory.cache == 0x0b0a0908 &&
           details.legacy_memory.bottom_send_queues == 0x0f0e0d0c, "memory of old kernels");
     put(bytes, 72, 2, value, 5);
-    check(sockdiag_inet_get_details(bytes, 84, &details) == SOCKDIAG_BUFFER_TOO_SMALL,
+    check(sockdiag_inet_get_details(bytes, 84, &details, sizeof details) ==
+          SOCKDIAG_BUFFER_TOO_SMALL,
           "a short TCP connection");
-    check(sockdiag_inet_get_tcp_info(bytes, 84, &info, sizeof info) == 5 && info.backoff == 4 &&
-          info.rto == 0, "its five bytes");
-    check(sockdiag_inet_get_tcp_info(NULL, 0, &info, sizeof info) == 0 && info.backoff == 0,
-          "nothing at a null pointer");
+    check(sockdiag_inet_get_tcp_info(bytes, 84, &info, sizeof info, &length) == SOCKDIAG_OK &&
+          length == 5 && info.backoff == 4 && info.rto == 0, "its five bytes");
+    check(sockdiag_inet_get_tcp_info(NULL, 0, &info, sizeof info, &length) == SOCKDIAG_END &&
+          length == 5 && info.backoff == 4, "nothing at a null pointer");
 }
 
 static void tells_numbers_in_words(void) {
     static const uint8_t refused[5] = {0xfe, 0xff, 0xff, 0xff, 9};
     int32_t number = 7;
     uint32_t error;
-    check(sockdiag_get_error_number(refused, 3, &number) == SOCKDIAG_END && number == 7,
+    check(sockdiag_get_error_number(refused, 3, &number) == SOCKDIAG_WRONG_LENGTH && number == 7,
           "no errno");
-    check(sockdiag_get_error_number(refused, 5, &number) == SOCKDIAG_ITEM && number == -2,
+    check(sockdiag_get_error_number(refused, 5, &number) == SOCKDIAG_OK && number == -2,
           "ENOENT");
     for (error = SOCKDIAG_BUFFER_TOO_SMALL; error <= SOCKDIAG_ENVELOPE_LENGTH_PAST; error++)
         check(strcmp(sockdiag_error_text(error), sockdiag_error_text(error + 1)) != 0,
@@ -231,20 +237,21 @@ static void finds_error_attributes(void) {
     struct sockdiag_attribute attribute;
     const uint16_t flags = SOCKDIAG_NLM_F_ACK_TLVS;
     check(sockdiag_find_error_attributes(refused, 19, SOCKDIAG_NLMSG_ERROR, flags, &cursor) ==
-          SOCKDIAG_END && cursor.offset == 7, "no request");
+          SOCKDIAG_WRONG_LENGTH && cursor.offset == 7, "no request");
     check(sockdiag_find_error_attributes(refused, 3, SOCKDIAG_NLMSG_DONE, flags, &cursor) ==
-          SOCKDIAG_END && cursor.offset == 7, "no number");
+          SOCKDIAG_WRONG_LENGTH && cursor.offset == 7, "no number");
     check(sockdiag_find_error_attributes(refused, sizeof refused, SOCKDIAG_NLMSG_NOOP, flags,
-                                         &cursor) == SOCKDIAG_END && cursor.offset == 7,
+                                         &cursor) == SOCKDIAG_UNKNOWN_MESSAGE_TYPE &&
+          cursor.offset == 7,
           "another message");
     check(sockdiag_find_error_attributes(refused, sizeof refused, SOCKDIAG_NLMSG_ERROR, 0,
-                                         &cursor) == SOCKDIAG_ITEM &&
+                                         &cursor) == SOCKDIAG_OK &&
           cursor.offset == sizeof refused, "no attributes");
     check(sockdiag_find_error_attributes(refused, sizeof refused, SOCKDIAG_NLMSG_DONE, flags,
-                                         &cursor) == SOCKDIAG_ITEM && cursor.offset == 4,
+                                         &cursor) == SOCKDIAG_OK && cursor.offset == 4,
           "the attributes of the end of a dump");
     check(sockdiag_find_error_attributes(refused, sizeof refused, SOCKDIAG_NLMSG_ERROR, flags,
-                                         &cursor) == SOCKDIAG_ITEM && cursor.offset == 20,
+                                         &cursor) == SOCKDIAG_OK && cursor.offset == 20,
           "the attributes of an error");
     check(sockdiag_next_attribute(refused, sizeof refused, &cursor, &attribute) == SOCKDIAG_ITEM &&
           attribute.type_word == SOCKDIAG_NLMSGERR_ATTR_OFFS && attribute.offset == 24,
@@ -259,27 +266,29 @@ static void finds_error_attributes(void) {
 static void walks_attributes(void) {
     struct sockdiag_cursor cursor = {SOCKDIAG_UNIX_ATTRIBUTES};
     struct sockdiag_attribute attribute = {0, 0, 0};
-    check(sockdiag_next_attribute(unix_reply, 36, &cursor, &attribute) == 1, "the first attribute");
+    check(sockdiag_next_attribute(unix_reply, 36, &cursor, &attribute) == SOCKDIAG_ITEM,
+          "the first attribute");
     check(attribute.type_word == 0 && attribute.offset == 20 && attribute.length == 3 &&
           cursor.offset == 24, "a name");
-    check(sockdiag_next_attribute(unix_reply, 36, &cursor, &attribute) == 1,
+    check(sockdiag_next_attribute(unix_reply, 36, &cursor, &attribute) == SOCKDIAG_ITEM,
           "the second attribute");
     check(attribute.type_word == 2 && attribute.offset == 28 && attribute.length == 4 &&
           cursor.offset == 32, "a peer");
-    check(sockdiag_next_attribute(unix_reply, 36, &cursor, &attribute) == 1, "the third attribute");
+    check(sockdiag_next_attribute(unix_reply, 36, &cursor, &attribute) == SOCKDIAG_ITEM,
+          "the third attribute");
     check(attribute.type_word == 0x63 && attribute.length == 0 && cursor.offset == 36,
           "an attribute without value");
-    check(sockdiag_next_attribute(unix_reply, 36, &cursor, &attribute) == 0,
+    check(sockdiag_next_attribute(unix_reply, 36, &cursor, &attribute) == SOCKDIAG_END,
           "the end of the attributes");
     cursor.offset = SIZE_MAX;
-    check(sockdiag_next_attribute(unix_reply, 36, &cursor, &attribute) == 0,
+    check(sockdiag_next_attribute(unix_reply, 36, &cursor, &attribute) == SOCKDIAG_END,
           "an offset after the end");
     cursor.offset = 24;
     check(sockdiag_next_attribute(unix_reply, 31, &cursor, &attribute)
               == SOCKDIAG_ATTRIBUTE_LENGTH_PAST,
           "a truncated value");
     check(attribute.type_word == 0x63, "the attribute is written on an error");
-    check(sockdiag_next_attribute(unix_reply, 31, &cursor, &attribute) == 0,
+    check(sockdiag_next_attribute(unix_reply, 31, &cursor, &attribute) == SOCKDIAG_END,
           "the iteration continues after an error");
 }
 
@@ -307,25 +316,27 @@ static void walks_messages(void) {
     struct sockdiag_cursor cursor = {0};
     struct sockdiag_message message;
     memset(&message, 0, sizeof message);
-    check(sockdiag_next_message(bytes, length, &cursor, &message) == 1, "a reply in a datagram");
+    check(sockdiag_next_message(bytes, length, &cursor, &message) == SOCKDIAG_ITEM,
+          "a reply in a datagram");
     check(message.message_type == 20 && message.offset == 16 && message.length == 36,
           "the offset of a payload");
     check(message.flags == 2 && message.sequence_number == 7 && message.port_number == 9,
           "the fields of a header");
-    check(sockdiag_next_message(bytes, length, &cursor, &message) == 1, "NLMSG_NOOP");
+    check(sockdiag_next_message(bytes, length, &cursor, &message) == SOCKDIAG_ITEM, "NLMSG_NOOP");
     check(message.message_type == 1 && message.offset == 68 && message.length == 1, "its payload");
     check(sockdiag_next_message(bytes, length, &cursor, &message) == SOCKDIAG_UNKNOWN_FAMILY,
           "a rejected payload");
     check(message.message_type == 20 && message.offset == 88 && message.length == 2,
           "the offset of a rejected payload");
-    check(sockdiag_next_message(bytes, length, &cursor, &message) == 1, "the end of a dump");
+    check(sockdiag_next_message(bytes, length, &cursor, &message) == SOCKDIAG_ITEM,
+          "the end of a dump");
     check(message.message_type == 3 && message.offset == 108 && message.length == 4,
           "the end's payload");
     check(cursor.offset == 112, "the offset after the end of the dump");
     check(sockdiag_next_message(bytes, length, &cursor, &message) == SOCKDIAG_ENVELOPE_CUT,
           "two remaining bytes");
     check(message.message_type == 3, "the message is written on an error");
-    check(sockdiag_next_message(bytes, length, &cursor, &message) == 0,
+    check(sockdiag_next_message(bytes, length, &cursor, &message) == SOCKDIAG_END,
           "the end of an iteration over messages");
 }
 
@@ -342,6 +353,7 @@ static void writes_unix_request(void) {
         1, 0, 0, 0, 0xff, 0xfe, 0xff, 0xff, 6, 0, 0, 0, 0x3f, 0, 0, 0, 1, 2, 3, 4, 5, 6, 7, 8,
     };
     struct sockdiag_unix_request request;
+    size_t written;
     uint8_t buffer[48], before[48];
     set_header(&request.header, 5);
     request.states = 0xfffffeff;
@@ -350,10 +362,11 @@ static void writes_unix_request(void) {
     memcpy(request.cookie, want + 32, 8);
     memset(buffer, UNTOUCHED, sizeof buffer);
     memcpy(before, buffer, sizeof buffer);
-    check(sockdiag_write_unix_request(&request, buffer, 39) == 0, "a short buffer");
+    check(sockdiag_write_unix_request(&request, buffer, 39, &written) == SOCKDIAG_NO_SPACE &&
+          written == 40, "a short buffer");
     check(memcmp(buffer, before, sizeof buffer) == 0, "a short buffer is written to");
-    check(sockdiag_write_unix_request(&request, buffer, sizeof buffer) ==
-          SOCKDIAG_UNIX_REQUEST_LENGTH, "a UNIX request");
+    check(sockdiag_write_unix_request(&request, buffer, sizeof buffer, &written) == SOCKDIAG_OK &&
+          written == SOCKDIAG_UNIX_REQUEST_LENGTH, "a UNIX request");
     check(memcmp(buffer, want, 40) == 0, "a UNIX request's bytes");
     check(memcmp(buffer + 40, before + 40, 8) == 0, "the bytes after a request");
 }
@@ -368,6 +381,7 @@ static void writes_inet_request(void) {
     };
     static const uint8_t attribute[8] = {8, 0, 3, 0, 6, 1, 0, 0};
     struct sockdiag_inet_request request;
+    size_t written;
     uint8_t buffer[80];
     set_header(&request.header, 6);
     request.family = 10;
@@ -380,24 +394,31 @@ static void writes_inet_request(void) {
     memcpy(request.destination_address, want + 44, 16);
     request.interface_id = 3;
     memcpy(request.cookie, want + 64, 8);
-    check(sockdiag_write_inet_request(&request, buffer, 71) == 0,
+    check(sockdiag_write_inet_request(&request, buffer, 71, &written) == SOCKDIAG_NO_SPACE &&
+          written == 72,
           "a short buffer for an internet request");
-    check(sockdiag_write_inet_request(&request, buffer, 72) == 72, "an internet request");
+    check(sockdiag_write_inet_request(&request, buffer, 72, &written) == SOCKDIAG_OK &&
+          written == 72, "an internet request");
     check(memcmp(buffer, want, 72) == 0, "an internet request's bytes");
     request.family = 2;
-    check(sockdiag_write_inet_request(&request, buffer, 72) == 72, "an IPv4 request");
+    check(sockdiag_write_inet_request(&request, buffer, 72, &written) == SOCKDIAG_OK &&
+          written == 72, "an IPv4 request");
     check(buffer[16] == 2 && buffer[28] == 0xfe && buffer[29] == 0x80 && buffer[43] == 0,
           "an IPv4 address and zeros");
-    check(sockdiag_write_inet_destroy(&request, buffer, 72) == 72 && buffer[4] == 21 &&
+    check(sockdiag_write_inet_destroy(&request, buffer, 72, &written) == SOCKDIAG_OK &&
+          written == 72 && buffer[4] == 21 &&
           buffer[17] == 6, "a destroy");
     request.protocol = 262;
-    check(sockdiag_write_inet_request(&request, buffer, 79) == 0, "a short buffer for a protocol");
-    check(sockdiag_write_inet_request(&request, buffer, 80) == SOCKDIAG_INET_REQUEST_LENGTH,
+    check(sockdiag_write_inet_request(&request, buffer, 79, &written) == SOCKDIAG_NO_SPACE &&
+          written == 80, "a short buffer for a protocol");
+    check(sockdiag_write_inet_request(&request, buffer, 80, &written) == SOCKDIAG_OK &&
+          written == SOCKDIAG_INET_REQUEST_LENGTH,
           "a request for MPTCP");
     check(buffer[0] == 80 && buffer[4] == 20 && buffer[17] == 0 &&
           memcmp(buffer + 72, attribute, 8) == 0, "its protocol");
     request.family = 1;
-    check(sockdiag_write_inet_request(&request, buffer, 72) == 0, "a request of another family");
+    check(sockdiag_write_inet_request(&request, buffer, 72, &written) ==
+          SOCKDIAG_UNSUPPORTED_FAMILY && written == 0, "a request of another family");
 }
 
 static void writes_family_requests(void) {
@@ -408,6 +429,7 @@ static void writes_family_requests(void) {
     static const uint8_t vsock[24] = {40, 0, 0, 0, 0, 4, 0, 0, 0, 0, 0, 0, 0, 0, 0, 0, 9};
     struct sockdiag_show_request request;
     struct sockdiag_vsock_request other;
+    size_t written;
     uint8_t buffer[41];
     set_header(&request.header, 5);
     request.family = 16;
@@ -419,22 +441,28 @@ static void writes_family_requests(void) {
     other.states = 0x400;
     other.cookie = 9;
     memset(buffer, UNTOUCHED, sizeof buffer);
-    check(sockdiag_write_show_request(&request, buffer, 35) == 0 && buffer[0] == UNTOUCHED,
+    check(sockdiag_write_show_request(&request, buffer, 35, &written) == SOCKDIAG_NO_SPACE &&
+          written == 36 && buffer[0] == UNTOUCHED,
           "a short buffer for a request");
-    check(sockdiag_write_show_request(&request, buffer, 41) == SOCKDIAG_SHOW_REQUEST_LENGTH,
+    check(sockdiag_write_show_request(&request, buffer, 41, &written) == SOCKDIAG_OK &&
+          written == SOCKDIAG_SHOW_REQUEST_LENGTH,
           "a netlink request");
     check(memcmp(buffer, want, 36) == 0 && buffer[36] == UNTOUCHED,
           "its bytes, and those after it");
     request.family = 44;
-    check(sockdiag_write_show_request(&request, buffer, 36) == 36 && buffer[16] == 44,
+    check(sockdiag_write_show_request(&request, buffer, 36, &written) == SOCKDIAG_OK &&
+          written == 36 && buffer[16] == 44,
           "an XDP request");
     check(memcmp(buffer + 17, want + 17, 19) == 0, "its other bytes");
     request.family = 40;
-    check(sockdiag_write_show_request(&request, buffer, 36) == 0,
+    check(sockdiag_write_show_request(&request, buffer, 36, &written) == SOCKDIAG_UNKNOWN_FAMILY &&
+          written == 0,
           "a vsock request of another form");
-    check(sockdiag_write_vsock_request(&other, buffer, 39) == 0,
+    check(sockdiag_write_vsock_request(&other, buffer, 39, &written) == SOCKDIAG_NO_SPACE &&
+          written == 40,
           "a short buffer for a vsock request");
-    check(sockdiag_write_vsock_request(&other, buffer, 41) == SOCKDIAG_VSOCK_REQUEST_LENGTH &&
+    check(sockdiag_write_vsock_request(&other, buffer, 41, &written) == SOCKDIAG_OK &&
+          written == SOCKDIAG_VSOCK_REQUEST_LENGTH &&
           buffer[0] == 40 && buffer[4] == 20, "a vsock request");
     check(memcmp(buffer + 16, vsock, 24) == 0 && buffer[40] == UNTOUCHED, "its record");
 }
@@ -442,76 +470,78 @@ static void writes_family_requests(void) {
 static void writes_filtered_request(void) {
     static const uint8_t filter[13] = {8, 0, 1, 0, 1, 2, 3, 4, 5, 0, 2, 0, 9};
     struct sockdiag_inet_request request;
-    struct sockdiag_outcome outcome = {9, 9};
+    size_t written = 9;
     uint8_t plain[80], buffer[100];
     memset(&request, 0, sizeof request);
     memset(buffer, UNTOUCHED, sizeof buffer);
     request.family = 10;
     request.protocol = 262;
-    check(sockdiag_write_inet_request(&request, plain, sizeof plain) == 80,
+    check(sockdiag_write_inet_request(&request, plain, sizeof plain, &written) == SOCKDIAG_OK &&
+          written == 80,
           "a request without attributes");
     check(sockdiag_write_inet_request_with_attributes(&request, filter, 13, buffer, 95,
-                                                      &outcome) == 0,
+                                                      &written) == SOCKDIAG_NO_SPACE,
           "a short buffer");
-    check(outcome.error == 0 && outcome.needed == 96 && buffer[0] == UNTOUCHED,
+    check(written == 96 && buffer[0] == UNTOUCHED,
           "the length of a filtered request");
     check(sockdiag_write_inet_request_with_attributes(&request, filter, 13, buffer, 100,
-                                                      &outcome) == 96,
+                                                      &written) == SOCKDIAG_OK &&
+          written == 96,
           "a filter");
     check(buffer[0] == 96 && memcmp(buffer + 1, plain + 1, 79) == 0,
           "the request before a filter");
     check(memcmp(buffer + 80, filter, 13) == 0 && memcmp(buffer + 93, "\0\0\0\xaa", 4) == 0,
           "a filter and its padding");
     check(sockdiag_write_inet_request_with_attributes(&request, filter, 11, buffer, 100,
-                                                      &outcome) == 0,
+                                                      &written) ==
+          SOCKDIAG_ATTRIBUTE_HEADER_CUT && written == 0,
           "a truncated filter");
-    check(outcome.error == SOCKDIAG_ATTRIBUTE_HEADER_CUT && outcome.needed == 0,
-          "the error of a rejected filter");
     check(sockdiag_write_inet_request_with_attributes(&request, NULL, 0, buffer, 80,
-                                                      &outcome) == 80,
+                                                      &written) == SOCKDIAG_OK &&
+          written == 80,
           "no attributes");
     check(memcmp(buffer, plain, 80) == 0, "a request with no attributes");
     request.family = 1;
     check(sockdiag_write_inet_request_with_attributes(&request, filter, 13, buffer, 100,
-                                                      &outcome) == 0,
+                                                      &written) ==
+          SOCKDIAG_UNSUPPORTED_FAMILY && written == 0,
           "a family");
-    check(outcome.error == SOCKDIAG_UNSUPPORTED_FAMILY && outcome.needed == 0,
-          "a request for another family");
 }
 
 static void rewrites_unix_reply(void) {
     uint8_t want[36], buffer[40];
-    struct sockdiag_outcome outcome;
-    memset(&outcome, UNTOUCHED, sizeof outcome);
+    size_t written;
     memset(buffer, UNTOUCHED, sizeof buffer);
     memcpy(want, unix_reply, sizeof want);
     want[3] = 0;
     want[23] = 0;
-    check(sockdiag_rewrite_unix_reply(unix_reply, 36, buffer, 35, &outcome) == 0,
+    check(sockdiag_rewrite_unix_reply(unix_reply, 36, buffer, 35, &written) == SOCKDIAG_NO_SPACE,
           "a short buffer for a reply");
-    check(outcome.error == 0 && outcome.needed == 36, "the length of the canonical form");
+    check(written == 36, "the length of the canonical form");
     check(buffer[0] == UNTOUCHED && buffer[34] == 0xaa, "a short buffer is written to in part");
-    check(sockdiag_rewrite_unix_reply(unix_reply, 36, buffer, 40, &outcome) == 36,
+    check(sockdiag_rewrite_unix_reply(unix_reply, 36, buffer, 40, &written) == SOCKDIAG_OK &&
+          written == 36,
           "a canonical UNIX reply");
-    check(outcome.error == 0 && outcome.needed == 36 && memcmp(buffer, want, 36) == 0, "its bytes");
+    check(memcmp(buffer, want, 36) == 0, "its bytes");
     check(buffer[36] == UNTOUCHED, "the bytes after the canonical form");
-    check(sockdiag_rewrite_unix_reply(unix_reply, 15, buffer, 40, &outcome) == 0,
+    check(sockdiag_rewrite_unix_reply(unix_reply, 15, buffer, 40, &written) ==
+          SOCKDIAG_BUFFER_TOO_SMALL && written == 0,
           "a rejected UNIX reply");
-    check(outcome.error == SOCKDIAG_BUFFER_TOO_SMALL && outcome.needed == 0, "its error");
 }
 
 static void rewrites_inet_reply(void) {
     uint8_t want[72], buffer[72];
-    struct sockdiag_outcome outcome = {0, 0};
+    size_t written;
     memcpy(want, inet_reply, sizeof want);
     memset(want + 12, 0, 12);
     memset(want + 28, 0, 12);
-    check(sockdiag_rewrite_inet_reply(inet_reply, 72, buffer, 72, &outcome) == 72,
+    check(sockdiag_rewrite_inet_reply(inet_reply, 72, buffer, 72, &written) == SOCKDIAG_OK &&
+          written == 72,
           "a canonical internet reply");
     check(memcmp(buffer, want, 72) == 0, "an internet reply's bytes");
-    check(sockdiag_rewrite_inet_reply(unix_reply, 36, buffer, 72, &outcome) == 0,
+    check(sockdiag_rewrite_inet_reply(unix_reply, 36, buffer, 72, &written) ==
+          SOCKDIAG_BUFFER_TOO_SMALL && written == 0,
           "a rejected internet reply");
-    check(outcome.error == SOCKDIAG_BUFFER_TOO_SMALL, "the error of a rejected internet reply");
 }
 
 /* Checks a header with the bytes 10, 11, timer, 3, 4, 5, .. */
@@ -593,18 +623,19 @@ static void reads_each_field_of_records(void) {
     struct sockdiag_tcp_info info;
     struct sockdiag_inet_details details;
     const struct sockdiag_memory *it = &details.memory;
-    size_t end;
+    size_t end, length;
     memset(&info, UNTOUCHED, sizeof info);
     memset(&details, UNTOUCHED, sizeof details);
     number_bytes(value, sizeof value);
     memcpy(bytes, inet_reply, 72);
     end = put(bytes, 72, SOCKDIAG_INET_DIAG_INFO, value, sizeof value);
     end = put(bytes, end, SOCKDIAG_INET_DIAG_SKMEMINFO, memory, 36);
-    check(sockdiag_inet_get_tcp_info(bytes, end, &info, sizeof info) == 232,
-          "the fields of a TCP connection to 232");
+    check(sockdiag_inet_get_tcp_info(bytes, end, &info, sizeof info, &length) == SOCKDIAG_OK &&
+          length == 232, "the fields of a TCP connection to 232");
     check_tcp_info(&info, value);
     check_words_of_tcp_info(&info, value);
-    check(sockdiag_inet_get_details(bytes, end, &details) == SOCKDIAG_OK, "all fields of memory");
+    check(sockdiag_inet_get_details(bytes, end, &details, sizeof details) == SOCKDIAG_OK,
+          "all fields of memory");
     FIELD(it->receive_queue.value, memory);
     FIELD(it->receive_queue_max.value, memory + 4);
     FIELD(it->bottom_send_queues.value, memory + 8);

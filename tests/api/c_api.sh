@@ -66,6 +66,24 @@ for name in c_api c_values c_messages; do
         sed 's/$/, linked as C++/' "$work/found"
     fi
 done
+# A header and a library whose structs have four more fields, each with the other one that has not.
+mkdir "$work/later"
+sed '/^struct sockdiag_\([a-z]*_details\|vsock_header\) {/,/^};/s/^};/    uint32_t more[4];\n};/' \
+    "$top/include/sockdiag.h" >"$work/later/sockdiag.h"
+[ "$(grep -c 'uint32_t more' "$work/later/sockdiag.h")" = 7 ]
+wrapped=-Wl,--wrap=sockdiag_fill_explain
+for family in unix inet netlink packet vsock xdp; do
+    wrapped="$wrapped -Wl,--wrap=sockdiag_${family}_fill_details"
+done
+for header in -Wextra "-I$work/later -DLATER_HEADER"; do
+    for linked in -Wextra "-DLATER_LIBRARY $wrapped"; do
+        # shellcheck disable=SC2086 # Each word is a flag.
+        build later_fields "$top/tests/api/later_fields.c" $header $linked
+        run "$work/later_fields" >"$work/found"
+    done
+done
+cat "$work/found"
+
 if echo '#include <valgrind/callgrind.h>' | ${CC:-cc} -E - >/dev/null 2>&1; then
     build cost "$top/tests/api/cost.c"
     valgrind -q --tool=callgrind --callgrind-out-file="$work/count" "$work/cost" "$work/count"

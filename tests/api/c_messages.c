@@ -70,7 +70,8 @@ static void each_text_of_an_error(void) {
     check(strcmp(sockdiag_error_text(SOCKDIAG_OK), "no error") == 0, "the text of no error");
     for (code = 1; code <= UINT16_MAX; code++) {
         const char *text = sockdiag_error_text(code);
-        const int is_known = code >= least && code <= most;
+        const int is_known = (code >= least && code <= most) ||
+            (code >= SOCKDIAG_ITEM && code <= SOCKDIAG_INVALID_ARGUMENT);
         if (text == NULL || (strcmp(text, unknown) != 0) != is_known)
             check(0, "the text of a number");
     }

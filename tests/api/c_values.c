@@ -86,7 +86,7 @@ static void has_the_first_errors(void) {
     end = put(bytes, end, 99, "", 0);
     memcpy(bytes + end, "\3\0\2\0\0", 5);
     end += 5;
-    check(sockdiag_unix_get_lenient_details(bytes, end, &it, &rejections) == SOCKDIAG_OK,
+    check(sockdiag_unix_get_lenient_details(bytes, end, &it, sizeof it, &rejections) == SOCKDIAG_OK,
           "a reply with three rejected attributes");
     check(rejections.first == SOCKDIAG_BUFFER_TOO_SMALL, "the first error");
     check(rejections.framing == SOCKDIAG_ATTRIBUTE_LENGTH_UNDER_4, "the framing error");
@@ -94,11 +94,13 @@ static void has_the_first_errors(void) {
           rejections.errors[0] == SOCKDIAG_NAME_WITHOUT_END && rejections.errors[6] == 0 &&
           rejections.errors[2] == 0, "the first error of each kind");
     check(it.name.kind == 0 && is(it.shutdown, 3), "what is valid");
-    check(sockdiag_unix_get_lenient_details(bytes, 16 + 8 + 3, &it, &rejections) == SOCKDIAG_OK &&
+    check(sockdiag_unix_get_lenient_details(bytes, 16 + 8 + 3, &it, sizeof it, &rejections) ==
+          SOCKDIAG_OK &&
           rejections.first == SOCKDIAG_ATTRIBUTE_HEADER_CUT &&
           rejections.framing == SOCKDIAG_ATTRIBUTE_HEADER_CUT && is(it.shutdown, 3),
           "a framing error by itself");
-    check(sockdiag_unix_get_lenient_details(bytes, 16, &it, &rejections) == SOCKDIAG_OK &&
+    check(sockdiag_unix_get_lenient_details(bytes, 16, &it, sizeof it, &rejections) ==
+          SOCKDIAG_OK &&
           has_one(&rejections, 0, 0) && it.shutdown.is_set == 0, "a header by itself");
 }
 
@@ -143,12 +145,12 @@ static void reads_bit_fields(void) {
     number_bytes(value, sizeof value);
     for (row = 0; row < sizeof rows / sizeof rows[0]; row++) {
         struct sockdiag_tcp_info it;
-        size_t end;
+        size_t end, found;
         memcpy(value + 276, rows[row].bytes, 4);
         memset(&it, UNTOUCHED, sizeof it);
         end = put(payload, 72, 2, value, 280);
-        check(sockdiag_inet_get_tcp_info(payload, end, &it, sizeof it) == 280,
-              "280 bytes of tcp_info");
+        check(sockdiag_inet_get_tcp_info(payload, end, &it, sizeof it, &found) == SOCKDIAG_OK &&
+              found == 280, "280 bytes of tcp_info");
         check(it.ecn_mode == rows[row].ecn_mode &&
               it.accecn_opt_seen == rows[row].accecn_opt_seen &&
               it.accecn_fail_mode == rows[row].accecn_fail_mode &&
@@ -162,15 +164,15 @@ static void reads_a_part_of_a_field(void) {
     uint8_t payload[100], value[10];
     struct sockdiag_tcp_info tcp;
     struct sockdiag_mptcp_info mptcp;
-    size_t end, length;
+    size_t end, length, other;
     memcpy(payload, inet_header, 72);
     memset(value, 0xff, sizeof value);
     end = put(payload, 72, 2, value, sizeof value);
     memset(&tcp, UNTOUCHED, sizeof tcp);
     memset(&mptcp, UNTOUCHED, sizeof mptcp);
-    length = sockdiag_inet_get_tcp_info(payload, end, &tcp, sizeof tcp);
-    check(length == 10 && sockdiag_inet_get_mptcp_info(payload, end, &mptcp, sizeof mptcp) == 10,
-          "a value of 10 bytes");
+    check(sockdiag_inet_get_tcp_info(payload, end, &tcp, sizeof tcp, &length) == SOCKDIAG_OK &&
+          sockdiag_inet_get_mptcp_info(payload, end, &mptcp, sizeof mptcp, &other) ==
+              SOCKDIAG_OK && length == 10 && other == 10, "a value of 10 bytes");
     check(tcp.delivery_rate_app_limited == 0xff && tcp.rto == 0xffff && tcp.ato == 0,
           "a part of a field of tcp_info");
     check(mptcp.flags == 0xffff && mptcp.token == 0, "a part of a field of mptcp_info");
@@ -192,11 +194,12 @@ static void reads_tcp_info(void) {
         struct sockdiag_tcp_info it;
         uint8_t padded[300];
         const size_t length = lengths[row], end = put(bytes, 72, 2, value, length);
+        size_t found;
         memset(padded, 0, sizeof padded);
         memcpy(padded, value, length);
         memset(&it, UNTOUCHED, sizeof it);
-        check(sockdiag_inet_get_tcp_info(bytes, end, &it, sizeof it) == length,
-              "a length of tcp_info");
+        check(sockdiag_inet_get_tcp_info(bytes, end, &it, sizeof it, &found) == SOCKDIAG_OK &&
+              found == length, "a length of tcp_info");
         check(memcmp(&it, padded, 280) == 0, "the bytes of tcp_info");
         check_later_fields(&it, padded);
         check(it.rto == (length >= 12 ? 0x0b0a0908 : 0) && it.state == value[0], "two fields");
@@ -207,19 +210,20 @@ static void reads_tcp_info(void) {
             } area;
             const size_t size = sizes[column];
             memset(&area, UNTOUCHED, sizeof area);
-            check(sockdiag_inet_get_tcp_info(bytes, end, &area.info, size) == length,
-                  "a struct of another size");
+            check(sockdiag_inet_get_tcp_info(bytes, end, &area.info, size, &found) ==
+                      SOCKDIAG_OK && found == length, "a struct of another size");
             check(memcmp(area.bytes, padded, size) == 0 && area.bytes[size] == UNTOUCHED,
                   "the bytes of a struct of another size");
         }
     }
     {
-        static const uint8_t zeros[280] = {0};
         struct sockdiag_tcp_info it;
+        size_t found = 7;
         memset(&it, UNTOUCHED, sizeof it);
-        check(sockdiag_inet_get_tcp_info(inet_header, 72, &it, sizeof it) == 0 &&
-              memcmp(&it, zeros, 280) == 0, "no tcp_info");
-        check(sockdiag_inet_get_tcp_info(NULL, 0, NULL, 0) == 0, "null pointers");
+        check(sockdiag_inet_get_tcp_info(inet_header, 72, &it, sizeof it, &found) ==
+                  SOCKDIAG_END && found == 7 && is_untouched(&it, sizeof it), "no tcp_info");
+        check(sockdiag_inet_get_tcp_info(NULL, 0, NULL, 0, &found) == SOCKDIAG_END,
+              "null pointers");
     }
 }
 
@@ -254,29 +258,31 @@ static void check_mptcp_info(const struct sockdiag_mptcp_info *it, const uint8_t
 
 static void reads_mptcp_info(void) {
     uint8_t bytes[200], value[100];
-    const size_t lengths[9] = {0, 1, 40, 47, 48, 80, 95, 96, 100};
+    const size_t lengths[8] = {1, 40, 47, 48, 80, 95, 96, 100};
     size_t row;
     memcpy(bytes, inet_header, 72);
     number_bytes(value, sizeof value);
-    for (row = 0; row < 9; row++) {
+    for (row = 0; row < 8; row++) {
         struct sockdiag_mptcp_info it;
         uint8_t padded[96];
         const size_t length = lengths[row], end = put(bytes, 72, 2, value, length);
+        size_t found;
         memset(padded, 0, sizeof padded);
         memcpy(padded, value, length < 96 ? length : 96);
         memset(&it, UNTOUCHED, sizeof it);
-        check(sockdiag_inet_get_mptcp_info(bytes, end, &it, sizeof it) == length,
-              "a length of mptcp_info");
+        check(sockdiag_inet_get_mptcp_info(bytes, end, &it, sizeof it, &found) == SOCKDIAG_OK &&
+              found == length, "a length of mptcp_info");
         check(memcmp(&it, padded, 96) == 0, "the bytes of mptcp_info");
         check_mptcp_info(&it, padded);
     }
     {
-        static const uint8_t zeros[96] = {0};
+        const size_t end = put(bytes, 72, 2, value, 0);
         struct sockdiag_mptcp_info it;
+        size_t found = 7;
         memset(&it, UNTOUCHED, sizeof it);
-        check(sockdiag_inet_get_mptcp_info(inet_header, 72, &it, sizeof it) == 0 &&
-              memcmp(&it, zeros, 96) == 0, "no mptcp_info");
-        check(sockdiag_inet_get_mptcp_info(NULL, 0, &it, sizeof it) == 0,
+        check(sockdiag_inet_get_mptcp_info(bytes, end, &it, sizeof it, &found) == SOCKDIAG_END &&
+              found == 7 && is_untouched(&it, sizeof it), "an empty mptcp_info");
+        check(sockdiag_inet_get_mptcp_info(NULL, 0, &it, sizeof it, &found) == SOCKDIAG_END,
               "no mptcp_info at a null pointer");
     }
 }
@@ -290,10 +296,11 @@ static void reads_mptcp_info(void) {
         for (length_ = 0; length_ <= 24; length_++) {                                            \
             const uint32_t accepted = length_ >= (least) && length_ <= (most);                   \
             memset(&it, UNTOUCHED, sizeof it);                                                   \
-            check(call(bytes, length_, &it) == accepted, #call);                                 \
+            check(call(bytes, length_, &it) ==                                                   \
+                      (accepted ? SOCKDIAG_OK : SOCKDIAG_WRONG_LENGTH), #call);                  \
             check(accepted || is_untouched(&it, sizeof it), #call " with a rejected value");     \
         }                                                                                        \
-        check(call(NULL, 0, &it) == SOCKDIAG_END, #call " with a null pointer");                 \
+        check(call(NULL, 0, &it) == SOCKDIAG_WRONG_LENGTH, #call " with a null pointer");        \
         call(bytes, (most) < 24 ? (most) : 24, &it);                                             \
     } while (0)
 
@@ -335,8 +342,10 @@ static void reads_pending_connections(void) {
         FIELD(inode, bytes + 4 * index);
     }
     inode = 7;
+    check(sockdiag_next_pending(bytes, 15, &cursor, &inode) == SOCKDIAG_WRONG_LENGTH &&
+          inode == 7 && cursor.offset == 15, "three bytes after the connections");
     check(sockdiag_next_pending(bytes, 15, &cursor, &inode) == SOCKDIAG_END && inode == 7 &&
-          cursor.offset == 12, "three bytes after the connections");
+          cursor.offset == 15, "the end after an error");
     cursor.offset = SIZE_MAX;
     check(sockdiag_next_pending(bytes, 15, &cursor, &inode) == SOCKDIAG_END && inode == 7 &&
           cursor.offset == SIZE_MAX, "an offset after the connections");
@@ -362,8 +371,8 @@ static void reads_md5_signatures(void) {
         check(memcmp(it.key, bytes + index + 20, 80) == 0, "it.key");
     }
     memset(&it, UNTOUCHED, sizeof it);
-    check(sockdiag_next_md5_signature(bytes, 250, &cursor, &it) == SOCKDIAG_END &&
-          cursor.offset == 200 && is_untouched(&it, sizeof it), "50 bytes after the signatures");
+    check(sockdiag_next_md5_signature(bytes, 250, &cursor, &it) == SOCKDIAG_WRONG_LENGTH &&
+          cursor.offset == 250 && is_untouched(&it, sizeof it), "50 bytes after the signatures");
     cursor.offset = 251;
     check(sockdiag_next_md5_signature(bytes, 250, &cursor, &it) == SOCKDIAG_END &&
           cursor.offset == 251, "an offset after the signatures");
@@ -390,10 +399,49 @@ static void reads_addresses(void) {
         check(memcmp(it.rest, at + 28, 100) == 0, "it.rest");
     }
     memset(&it, UNTOUCHED, sizeof it);
-    check(sockdiag_next_address(bytes, 300, &cursor, &it) == SOCKDIAG_END &&
-          cursor.offset == 256 && is_untouched(&it, sizeof it), "44 bytes after the addresses");
+    check(sockdiag_next_address(bytes, 300, &cursor, &it) == SOCKDIAG_WRONG_LENGTH &&
+          cursor.offset == 300 && is_untouched(&it, sizeof it), "44 bytes after the addresses");
     cursor.offset = 0;
     check(sockdiag_next_address(NULL, 0, &cursor, &it) == SOCKDIAG_END, "no addresses");
+}
+
+static void reads_memberships_and_filters(void) {
+    uint8_t bytes[96];
+    struct sockdiag_packet_membership it;
+    struct sockdiag_filter_instruction step;
+    struct sockdiag_cursor cursor = {44};
+    number_bytes(bytes, sizeof bytes);
+    check(sockdiag_next_membership(bytes, 96, &cursor, &it) == SOCKDIAG_ITEM &&
+          cursor.offset == 88, "a membership");
+    FIELD(it.interface, bytes + 44);
+    FIELD(it.count, bytes + 48);
+    FIELD(it.kind, bytes + 52);
+    FIELD(it.address_length, bytes + 54);
+    check(memcmp(it.address, bytes + 56, 32) == 0, "it.address");
+    check(sockdiag_next_membership(bytes, 96, &cursor, &it) == SOCKDIAG_WRONG_LENGTH &&
+          cursor.offset == 96, "8 bytes after the memberships");
+    cursor.offset = 8;
+    check(sockdiag_next_instruction(bytes, 16, &cursor, &step) == SOCKDIAG_ITEM &&
+          cursor.offset == 16, "an instruction");
+    FIELD(step.code, bytes + 8);
+    FIELD(step.jump_if_met, bytes + 10);
+    FIELD(step.jump_if_not_met, bytes + 11);
+    FIELD(step.operand, bytes + 12);
+    check(sockdiag_next_instruction(bytes, 16, &cursor, &step) == SOCKDIAG_END, "the last one");
+}
+
+static void reads_numbers(void) {
+    uint8_t bytes[9];
+    size_t length;
+    number_bytes(bytes, sizeof bytes);
+    bytes[0] = 0xff;
+    for (length = 0; length <= 9; length++) {
+        const int is_width = length == 1 || length == 2 || length == 4 || length == 8;
+        uint64_t number = 7;
+        check(sockdiag_get_number(bytes, length, &number) ==
+                  (is_width ? SOCKDIAG_OK : SOCKDIAG_WRONG_LENGTH), "the length of a number");
+        check(number == (is_width ? number_at(bytes, length) : 7), "a number");
+    }
 }
 
 static void explains_headers_and_framing(void) {
@@ -442,16 +490,19 @@ static void explains_other_replies(void) {
 }
 
 EXPLAINS_AS(other_family, 43)
-EXPLAINS_AS(nothing, SOCKDIAG_EXPLAIN_INET_ATTRIBUTE + 1)
 
 static void explains_messages(void) {
     static const uint8_t other[16] = {17};
+    struct sockdiag_error_details error;
     EXPLAINS(explain_message, unix_header, 16, NO_ERROR);
     EXPLAINS(explain_message, inet_header, 72, NO_ERROR);
     EXPLAINS(explain_message, unix_header, 1, LENGTHS(SOCKDIAG_MESSAGE_TOO_SHORT, 1, 0));
     EXPLAINS(explain_message, other, 16, OTHER(SOCKDIAG_UNKNOWN_FAMILY, 17));
     EXPLAINS(explain_other_family, unix_header, 16, OTHER(SOCKDIAG_UNKNOWN_FAMILY, 43));
-    EXPLAINS(explain_nothing, NULL, 0, NO_ERROR);
+    memset(&error, UNTOUCHED, sizeof error);
+    check(sockdiag_explain(SOCKDIAG_EXPLAIN_INET_ATTRIBUTE + 1, NULL, 0, &error,
+                           sizeof error) == SOCKDIAG_INVALID_ARGUMENT &&
+          is_untouched(&error, sizeof error), "an unknown what");
     EXPLAINS(explain_message, unix_header, 12, SMALL(SOCKDIAG_RECORD_UNIX_RESPONSE_HEADER, 12, 16));
     EXPLAINS(explain_message, inet_header, 12, SMALL(SOCKDIAG_RECORD_INET_RESPONSE_HEADER, 12, 72));
 }
@@ -511,6 +562,8 @@ int main(void) {
     reads_pending_connections();
     reads_md5_signatures();
     reads_addresses();
+    reads_memberships_and_filters();
+    reads_numbers();
     explains_headers_and_framing();
     explains_other_replies();
     explains_messages();

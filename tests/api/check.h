@@ -85,7 +85,7 @@ static inline size_t put(uint8_t *bytes, size_t at, uint16_t type_word, const vo
 #define EXPLAINS_AS(name, what)                                                                 \
     static inline uint32_t explain_##name(const uint8_t *bytes, size_t length,                  \
                                           struct sockdiag_error_details *error) {               \
-        return sockdiag_explain(what, bytes, length, error);                                    \
+        return sockdiag_explain(what, bytes, length, error, sizeof *error);                     \
     }
 
 EXPLAINS_AS(unix, 1)

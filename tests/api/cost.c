@@ -104,12 +104,14 @@ static void check_message(const uint8_t *bytes, size_t length) {
 
 static void tcp_info(const uint8_t *bytes, size_t length) {
     struct sockdiag_tcp_info info;
-    sink += sockdiag_inet_get_tcp_info(bytes, length, &info, sizeof info);
+    size_t found;
+    sink += sockdiag_inet_get_tcp_info(bytes, length, &info, sizeof info, &found);
 }
 
 static void mptcp_info(const uint8_t *bytes, size_t length) {
     struct sockdiag_mptcp_info info;
-    sink += sockdiag_inet_get_mptcp_info(bytes, length, &info, sizeof info);
+    size_t found;
+    sink += sockdiag_inet_get_mptcp_info(bytes, length, &info, sizeof info, &found);
 }
 
 static void find_error_attributes(const uint8_t *bytes, size_t length) {
@@ -132,11 +134,11 @@ static void explain_each(const uint8_t *bytes, size_t length) {
 
 static void write_request(const uint8_t *bytes, size_t length) {
     struct sockdiag_inet_request request;
-    struct sockdiag_outcome outcome;
+    size_t written;
     memset(&request, 0, sizeof request);
     request.family = 2;
     sink += sockdiag_write_inet_request_with_attributes(&request, bytes, length, output,
-                                                        sizeof output, &outcome);
+                                                        sizeof output, &written);
 }
 
 static void write_requests(const uint8_t *bytes, size_t length) {
@@ -144,6 +146,7 @@ static void write_requests(const uint8_t *bytes, size_t length) {
     struct sockdiag_inet_request inet;
     struct sockdiag_show_request show;
     struct sockdiag_vsock_request vsock;
+    size_t written;
     (void)bytes;
     memset(&unix_request, 0, sizeof unix_request);
     memset(&inet, 0, sizeof inet);
@@ -151,29 +154,29 @@ static void write_requests(const uint8_t *bytes, size_t length) {
     memset(&vsock, 0, sizeof vsock);
     inet.family = 2;
     show.family = 16;
-    sink += sockdiag_write_unix_request(&unix_request, output, length);
-    sink += sockdiag_write_inet_request(&inet, output, length);
-    sink += sockdiag_write_inet_destroy(&inet, output, length);
-    sink += sockdiag_write_show_request(&show, output, length);
-    sink += sockdiag_write_vsock_request(&vsock, output, length);
+    sink += sockdiag_write_unix_request(&unix_request, output, length, &written);
+    sink += sockdiag_write_inet_request(&inet, output, length, &written);
+    sink += sockdiag_write_inet_destroy(&inet, output, length, &written);
+    sink += sockdiag_write_show_request(&show, output, length, &written);
+    sink += sockdiag_write_vsock_request(&vsock, output, length, &written);
     sink += sockdiag_version();
 }
 
 /* Each row has a call, the type of what it stores, which is not read, and forms of inputs. */
-#define ROWS(STRUCT, LENIENT, WALK, REWRITE, OTHER)                                             \
+#define ROWS(STRUCT, DETAILS, LENIENT, WALK, REWRITE, OTHER)                                    \
     STRUCT(sockdiag_check_unix_reply, struct sockdiag_unix_header, unix_empty, unix_peers,      \
            unix_path, unix_pending, unix_cut)                                                   \
     STRUCT(sockdiag_check_inet_reply, struct sockdiag_inet_header, inet_empty, inet_marks,      \
            inet_text)                                                                           \
     OTHER(check_message, , inet_empty, inet_marks, inet_text)                                   \
-    STRUCT(sockdiag_unix_get_details, struct sockdiag_unix_details, unix_empty, unix_peers,     \
+    DETAILS(sockdiag_unix_get_details, struct sockdiag_unix_details, unix_empty, unix_peers,    \
            unix_path, unix_pending, unix_cut)                                                   \
-    STRUCT(sockdiag_inet_get_details, struct sockdiag_inet_details, inet_empty, inet_marks,     \
+    DETAILS(sockdiag_inet_get_details, struct sockdiag_inet_details, inet_empty, inet_marks,    \
            inet_text)                                                                           \
-    STRUCT(sockdiag_netlink_get_details, struct sockdiag_netlink_details, netlink_empty)        \
-    STRUCT(sockdiag_packet_get_details, struct sockdiag_packet_details, unix_empty)             \
-    STRUCT(sockdiag_vsock_get_details, struct sockdiag_vsock_header, vsock_empty)               \
-    STRUCT(sockdiag_xdp_get_details, struct sockdiag_xdp_details, unix_empty)                   \
+    DETAILS(sockdiag_netlink_get_details, struct sockdiag_netlink_details, netlink_empty)       \
+    DETAILS(sockdiag_packet_get_details, struct sockdiag_packet_details, unix_empty)            \
+    DETAILS(sockdiag_vsock_get_details, struct sockdiag_vsock_header, vsock_empty)              \
+    DETAILS(sockdiag_xdp_get_details, struct sockdiag_xdp_details, unix_empty)                  \
     LENIENT(sockdiag_unix_get_lenient_details, struct sockdiag_unix_details, unix_empty,        \
             unix_peers, unix_path, unix_pending, unix_rejected, unix_cut)                       \
     LENIENT(sockdiag_inet_get_lenient_details, struct sockdiag_inet_details, inet_empty,        \
@@ -211,6 +214,8 @@ static void write_requests(const uint8_t *bytes, size_t length) {
     WALK(sockdiag_next_pending, uint32_t, value)                                                \
     WALK(sockdiag_next_md5_signature, struct sockdiag_md5_signature, value)                     \
     WALK(sockdiag_next_address, struct sockdiag_stored_address, value)                          \
+    WALK(sockdiag_next_membership, struct sockdiag_packet_membership, value)                    \
+    WALK(sockdiag_next_instruction, struct sockdiag_filter_instruction, value)                  \
     REWRITE(sockdiag_rewrite_unix_reply, , unix_empty, unix_peers, unix_path, unix_pending)     \
     REWRITE(sockdiag_rewrite_inet_reply, , inet_empty, inet_marks, inet_text)                   \
     OTHER(write_request, , attributes)                                                          \
@@ -223,11 +228,16 @@ static void write_requests(const uint8_t *bytes, size_t length) {
         type it;                                                        \
         sink += call(bytes, length, &it);                               \
     }
+#define RUN_DETAILS(call, type, ...)                                    \
+    static void run_##call(const uint8_t *bytes, size_t length) {        \
+        type it;                                                        \
+        sink += call(bytes, length, &it, sizeof it);                    \
+    }
 #define RUN_LENIENT(call, type, ...)                                    \
     static void run_##call(const uint8_t *bytes, size_t length) {        \
         type it;                                                        \
         struct sockdiag_rejections rejections;                          \
-        sink += call(bytes, length, &it, &rejections);                  \
+        sink += call(bytes, length, &it, sizeof it, &rejections);       \
     }
 #define RUN_WALK(call, type, ...)                                       \
     static void run_##call(const uint8_t *bytes, size_t length) {        \
@@ -238,11 +248,11 @@ static void write_requests(const uint8_t *bytes, size_t length) {
     }
 #define RUN_REWRITE(call, type, ...)                                    \
     static void run_##call(const uint8_t *bytes, size_t length) {        \
-        struct sockdiag_outcome outcome;                                \
-        sink += call(bytes, length, output, sizeof output, &outcome);   \
+        size_t written;                                                 \
+        sink += call(bytes, length, output, sizeof output, &written);   \
     }
 #define RUN_OTHER(call, type, ...)
-ROWS(RUN_STRUCT, RUN_LENIENT, RUN_WALK, RUN_REWRITE, RUN_OTHER)
+ROWS(RUN_STRUCT, RUN_DETAILS, RUN_LENIENT, RUN_WALK, RUN_REWRITE, RUN_OTHER)
 
 #define ROW(call, type, ...) {#call, run_##call, {__VA_ARGS__}},
 #define OTHER_ROW(call, type, ...) {#call, call, {__VA_ARGS__}},
@@ -250,7 +260,7 @@ static const struct {
     const char *name;
     run *call;
     fill *forms[6];
-} rows[] = {ROWS(ROW, ROW, ROW, ROW, OTHER_ROW)};
+} rows[] = {ROWS(ROW, ROW, ROW, ROW, ROW, OTHER_ROW)};
 
 /* Returns the number of instructions that callgrind has written to its file with this number. */
 static uint64_t count_in(const char *start, int number) {

@@ -184,7 +184,8 @@ static void try_explaining(explain *call, const uint8_t *bytes, size_t length, u
 #define VALUE(type, call, accepts)                                                         \
     do {                                                                                   \
         type *it = (type *)(void *)bytes_in(output_area, sizeof(type));                    \
-        expect(call(bytes, length, it) == (accepts), #call);                               \
+        expect(call(bytes, length, it) == ((accepts) ? SOCKDIAG_OK : SOCKDIAG_WRONG_LENGTH), \
+               #call);                                                                     \
         expect((accepts) || is_untouched(it, sizeof(type)), #call " of a rejected value"); \
     } while (0)
 
@@ -195,10 +196,12 @@ static void try_explaining(explain *call, const uint8_t *bytes, size_t length, u
         struct sockdiag_cursor cursor = {start};                                       \
         const size_t left = start > length ? 0 : length - start;                       \
         size_t items = 0;                                                              \
-        while (call(bytes, length, &cursor, it) == SOCKDIAG_ITEM)                      \
+        uint32_t code;                                                                 \
+        while ((code = call(bytes, length, &cursor, it)) == SOCKDIAG_ITEM)             \
             expect(cursor.offset == start + ++items * (size), #call);                  \
-        expect(items == left / (size) && cursor.offset == start + items * (size),      \
-               #call " at the end");                                                   \
+        expect(items == left / (size), #call " at the end");                           \
+        expect(code == (left % (size) ? SOCKDIAG_WRONG_LENGTH : SOCKDIAG_END) &&       \
+               cursor.offset == (left ? length : start), #call " after the last item"); \
         expect(items > 0 || is_untouched(it, sizeof(type)), #call " without an item"); \
     } while (0)
 
@@ -210,6 +213,10 @@ static void try_values(const uint8_t *bytes, size_t length) {
     STEPS(uint32_t, sockdiag_next_pending, 4);
     STEPS(struct sockdiag_md5_signature, sockdiag_next_md5_signature, 100);
     STEPS(struct sockdiag_stored_address, sockdiag_next_address, 128);
+    STEPS(struct sockdiag_packet_membership, sockdiag_next_membership, 44);
+    STEPS(struct sockdiag_filter_instruction, sockdiag_next_instruction, 8);
+    VALUE(uint64_t, sockdiag_get_number,
+          length == 1 || length == 2 || length == 4 || length == 8);
 }
 
 /* The value, with a struct of each size. The value of MPTCP is the same attribute. */
@@ -218,22 +225,28 @@ static void try_info(const uint8_t *payload, size_t length) {
     struct sockdiag_tcp_info *tcp =
         (struct sockdiag_tcp_info *)(void *)bytes_in(output_area, sizeof *tcp);
     uint8_t *other = bytes_in(buffer_area, size);
-    const size_t found = sockdiag_inet_get_tcp_info(payload, length, tcp, sizeof *tcp);
     const size_t both = size < sizeof *tcp ? size : sizeof *tcp;
-    expect(found <= length, "the length of tcp_info");
+    size_t found = 0, again = 0;
+    if (sockdiag_inet_get_tcp_info(payload, length, tcp, sizeof *tcp, &found) != SOCKDIAG_OK) {
+        expect(found == 0 && is_untouched(tcp, sizeof *tcp), "no tcp_info");
+        return;
+    }
+    expect(found > 0 && found <= length, "the length of tcp_info");
     expect(found > 232 || (tcp->rcv_wnd == 0 && tcp->ecn_mode == 0 && tcp->options2 == 0),
            "fields after the end of tcp_info");
     expect(sockdiag_inet_get_tcp_info(payload, length, (struct sockdiag_tcp_info *)(void *)other,
-                                      size) == found &&
-           memcmp(tcp, other, both) == 0, "a struct of another size");
+                                      size, &again) == SOCKDIAG_OK &&
+           again == found && memcmp(tcp, other, both) == 0, "a struct of another size");
     expect(sockdiag_inet_get_mptcp_info(payload, length,
-                                        (struct sockdiag_mptcp_info *)(void *)other, size) ==
-           found && memcmp(tcp, other, both) == 0, "the connection of MPTCP");
+                                        (struct sockdiag_mptcp_info *)(void *)other, size,
+                                        &again) == SOCKDIAG_OK &&
+           again == found && memcmp(tcp, other, both) == 0, "the connection of MPTCP");
 }
 
 static uint32_t try_unix(const uint8_t *payload, size_t length) {
     CALL(header, struct sockdiag_unix_header, sockdiag_check_unix_reply(payload, length, header));
-    CALL(it, struct sockdiag_unix_details, sockdiag_unix_get_details(payload, length, it));
+    CALL(it, struct sockdiag_unix_details, sockdiag_unix_get_details(payload, length, it,
+                                                                     sizeof *it));
     expect(it_fault == header_fault, "the error of the details of a UNIX reply");
     if (it_fault == SOCKDIAG_OK)
         expect_text(&it->name, payload, length);
@@ -243,7 +256,8 @@ static uint32_t try_unix(const uint8_t *payload, size_t length) {
 
 static uint32_t try_inet(const uint8_t *payload, size_t length) {
     CALL(header, struct sockdiag_inet_header, sockdiag_check_inet_reply(payload, length, header));
-    CALL(it, struct sockdiag_inet_details, sockdiag_inet_get_details(payload, length, it));
+    CALL(it, struct sockdiag_inet_details, sockdiag_inet_get_details(payload, length, it,
+                                                                     sizeof *it));
     expect(it_fault == header_fault, "the error of the details of an internet reply");
     if (it_fault == SOCKDIAG_OK)
         expect_text(&it->congestion, payload, length);
@@ -255,13 +269,14 @@ static uint32_t try_inet(const uint8_t *payload, size_t length) {
 static void try_families(const uint8_t *payload, size_t length) {
     {
         CALL(it, struct sockdiag_netlink_details,
-             sockdiag_netlink_get_details(payload, length, it));
+             sockdiag_netlink_get_details(payload, length, it, sizeof *it));
         if (it_fault == SOCKDIAG_OK)
             expect_text(&it->groups, payload, length);
         try_explaining(explain_netlink, payload, length, it_fault);
     }
     {
-        CALL(it, struct sockdiag_packet_details, sockdiag_packet_get_details(payload, length, it));
+        CALL(it, struct sockdiag_packet_details, sockdiag_packet_get_details(payload, length, it,
+                                                                             sizeof *it));
         if (it_fault == SOCKDIAG_OK) {
             expect_text(&it->addresses, payload, length);
             expect_text(&it->filter, payload, length);
@@ -269,32 +284,43 @@ static void try_families(const uint8_t *payload, size_t length) {
         try_explaining(explain_packet, payload, length, it_fault);
     }
     {
-        CALL(it, struct sockdiag_xdp_details, sockdiag_xdp_get_details(payload, length, it));
+        CALL(it, struct sockdiag_xdp_details, sockdiag_xdp_get_details(payload, length, it,
+                                                                       sizeof *it));
         try_explaining(explain_xdp, payload, length, it_fault);
     }
     {
-        CALL(it, struct sockdiag_vsock_header, sockdiag_vsock_get_details(payload, length, it));
+        CALL(it, struct sockdiag_vsock_header, sockdiag_vsock_get_details(payload, length, it,
+                                                                          sizeof *it));
         try_explaining(explain_vsock, payload, length, it_fault);
     }
 }
 
-typedef size_t rewrite(const uint8_t *, size_t, uint8_t *, size_t, struct sockdiag_outcome *);
+/* What a call writes, and stores as its length, belongs to the code that it returns. */
+static void expect_written(uint32_t code, size_t written, const uint8_t *buffer, size_t capacity) {
+    const size_t done = code == SOCKDIAG_OK ? written : 0;
+    expect(code == SOCKDIAG_OK ? written <= capacity
+                               : written == 0 || (code == SOCKDIAG_NO_SPACE && written > capacity),
+           "the length that is stored");
+    expect(is_untouched(buffer + done, capacity - done), "the bytes after what was written");
+}
+
+typedef uint32_t rewrite(const uint8_t *, size_t, uint8_t *, size_t, size_t *);
 
 /* Writes the canonical form to a buffer of a random length. `error` is the error of the reply. */
 static void try_rewriting(rewrite *call, const uint8_t *payload, size_t length, uint32_t error) {
     static uint8_t again[AREA];
-    struct sockdiag_outcome outcome;
     const size_t capacity = random_below((uint32_t)length + 8);
     uint8_t *buffer = bytes_in(buffer_area, capacity);
-    const size_t written = call(payload, length, buffer, capacity, &outcome);
-    expect(outcome.error == error, "the error of a canonical form");
-    expect(error == SOCKDIAG_OK || outcome.needed == 0, "the length of a rejected canonical form");
-    expect(written == (outcome.needed <= capacity ? outcome.needed : 0), "the length written");
-    expect(is_untouched(buffer + written, capacity - written), "the bytes after a canonical form");
-    if (written == 0)
+    size_t written, other;
+    const uint32_t code = call(payload, length, buffer, capacity, &written);
+    expect_written(code, written, buffer, capacity);
+    expect(code == error || (error == SOCKDIAG_OK && code == SOCKDIAG_NO_SPACE),
+           "the error of a canonical form");
+    if (code != SOCKDIAG_OK)
         return;
-    expect(call(buffer, written, again, sizeof again, &outcome) == written &&
-           memcmp(buffer, again, written) == 0, "a canonical form is its own canonical form");
+    expect(call(buffer, written, again, sizeof again, &other) == SOCKDIAG_OK &&
+               other == written && memcmp(buffer, again, written) == 0,
+           "a canonical form is its own canonical form");
 }
 
 /* An iteration from a place ends. Its items are in the bytes. */
@@ -337,7 +363,8 @@ static void try_messages(const uint8_t *bytes, size_t length) {
                "a message in the bytes");
         try_message(it);
         other = sockdiag_next_message(bytes, length, &checked, &message);
-        expect(other >= SOCKDIAG_ITEM && other <= SOCKDIAG_NAME_WITHOUT_END &&
+        expect((other == SOCKDIAG_ITEM || (other >= SOCKDIAG_BUFFER_TOO_SMALL &&
+                                           other <= SOCKDIAG_NAME_WITHOUT_END)) &&
                message.offset == it->offset && message.length == it->length &&
                checked.offset == cursor.offset, "the same message, checked");
         if (message.message_type == SOCKDIAG_SOCK_DIAG_BY_FAMILY)
@@ -359,64 +386,70 @@ static void try_messages(const uint8_t *bytes, size_t length) {
     memset(&name, 0x55, sizeof name); \
     memcpy(&name, bytes, length < sizeof name ? length : sizeof name)
 
-/* A call that writes a request returns its length or 0, and leaves what follows unchanged. */
-static void expect_request(size_t written, const uint8_t *buffer, size_t capacity) {
-    expect(written <= capacity && is_untouched(buffer + written, capacity - written),
-           "the bytes after a request");
-}
-
 static void try_requests(const uint8_t *bytes, size_t length) {
     const size_t capacity = random_below(100);
     uint8_t *buffer = bytes_in(buffer_area, capacity);
     REQUEST(unix_request, struct sockdiag_unix_request);
     REQUEST(inet, struct sockdiag_inet_request);
     REQUEST(show, struct sockdiag_show_request);
+    size_t written;
+    uint32_t code;
     REQUEST(vsock, struct sockdiag_vsock_request);
     inet.family = random_below(4) ? 2 + 8 * (uint8_t)random_below(2) : inet.family;
     show.family = random_below(4) ? 16 + (uint8_t)random_below(2) : show.family;
-    expect_request(sockdiag_write_unix_request(&unix_request, buffer, capacity), buffer, capacity);
+    code = sockdiag_write_unix_request(&unix_request, buffer, capacity, &written);
+    expect_written(code, written, buffer, capacity);
     buffer = bytes_in(buffer_area, capacity);
-    expect_request(sockdiag_write_inet_request(&inet, buffer, capacity), buffer, capacity);
-    expect_request(sockdiag_write_inet_destroy(&inet, buffer, capacity), buffer, capacity);
+    code = sockdiag_write_inet_request(&inet, buffer, capacity, &written);
+    expect_written(code, written, buffer, capacity);
     buffer = bytes_in(buffer_area, capacity);
-    expect_request(sockdiag_write_show_request(&show, buffer, capacity), buffer, capacity);
+    code = sockdiag_write_inet_destroy(&inet, buffer, capacity, &written);
+    expect_written(code, written, buffer, capacity);
     buffer = bytes_in(buffer_area, capacity);
-    expect_request(sockdiag_write_vsock_request(&vsock, buffer, capacity), buffer, capacity);
+    code = sockdiag_write_show_request(&show, buffer, capacity, &written);
+    expect_written(code, written, buffer, capacity);
+    buffer = bytes_in(buffer_area, capacity);
+    code = sockdiag_write_vsock_request(&vsock, buffer, capacity, &written);
+    expect_written(code, written, buffer, capacity);
 }
 
 static void try_attributes_of_request(const uint8_t *bytes, size_t length) {
-    struct sockdiag_outcome outcome;
     const size_t capacity = random_below((uint32_t)length + 100);
     uint8_t *buffer = bytes_in(buffer_area, capacity);
     size_t written;
+    uint32_t code;
     REQUEST(inet, struct sockdiag_inet_request);
     inet.family = random_below(8) ? 2 + 8 * (uint8_t)random_below(2) : 1;
-    written = sockdiag_write_inet_request_with_attributes(&inet, bytes, length, buffer, capacity,
-                                                          &outcome);
+    code = sockdiag_write_inet_request_with_attributes(&inet, bytes, length, buffer, capacity,
+                                                       &written);
+    expect_written(code, written, buffer, capacity);
     if (inet.family == 1)
-        expect(outcome.error == SOCKDIAG_UNSUPPORTED_FAMILY && outcome.needed == 0,
-               "the error of another family");
+        expect(code == SOCKDIAG_UNSUPPORTED_FAMILY, "the error of another family");
     else
-        expect(outcome.error == SOCKDIAG_OK || (outcome.error >= SOCKDIAG_ATTRIBUTE_HEADER_CUT &&
-               outcome.error <= SOCKDIAG_ATTRIBUTE_LENGTH_PAST && outcome.needed == 0),
+        expect(code == SOCKDIAG_OK || code == SOCKDIAG_NO_SPACE ||
+                   (code >= SOCKDIAG_ATTRIBUTE_HEADER_CUT &&
+                    code <= SOCKDIAG_ATTRIBUTE_LENGTH_PAST),
                "the error of attributes of a request");
-    expect(written == (outcome.needed <= capacity ? outcome.needed : 0), "the length of a request");
-    expect_request(written, buffer, capacity);
 }
 
 static void try_error_attributes(const uint8_t *bytes, size_t length) {
     const uint16_t type = (uint16_t)random_below(5), flags = (uint16_t)random_below(1024);
     struct sockdiag_cursor cursor = {length + 1};
     uint32_t found = sockdiag_find_error_attributes(bytes, length, type, flags, &cursor);
-    expect(found == SOCKDIAG_ITEM ? cursor.offset >= 4 && cursor.offset <= length
-                                  : found == SOCKDIAG_END && cursor.offset == length + 1,
+    expect(found == SOCKDIAG_OK
+               ? cursor.offset >= 4 && cursor.offset <= length
+               : found == (type == 2 || type == 3 ? SOCKDIAG_WRONG_LENGTH
+                                                  : SOCKDIAG_UNKNOWN_MESSAGE_TYPE) &&
+                     cursor.offset == length + 1,
            "the offset of the attributes of an error");
 }
 
 static void try_all(const uint8_t *bytes, size_t length) {
     int32_t *number = (int32_t *)(void *)bytes_in(output_area, sizeof *number);
     const uint16_t type = random_below(8) ? SOCKDIAG_SOCK_DIAG_BY_FAMILY : (uint16_t)length;
-    expect(sockdiag_get_error_number(bytes, length, number) == (length >= 4), "an error number");
+    expect(sockdiag_get_error_number(bytes, length, number) ==
+               (length >= 4 ? SOCKDIAG_OK : SOCKDIAG_WRONG_LENGTH),
+           "an error number");
     expect(length >= 4 || is_untouched(number, sizeof *number), "no error number");
     {
         CALL(it, struct sockdiag_reply, sockdiag_check_message(bytes, length, type, it));

@@ -339,11 +339,11 @@ static void print_header_error(struct words *words) {
         memset(&strict, UNTOUCHED, sizeof strict);                                               \
         memset(found, UNTOUCHED, sizeof *found);                                                 \
         memset(rejections, UNTOUCHED, sizeof *rejections);                                       \
-        first = sockdiag_##family##_get_details(payload, payload_length, &strict);               \
+        first = sockdiag_##family##_get_details(payload, payload_length, &strict, sizeof strict); \
         expect(first == SOCKDIAG_OK || is_untouched(&strict, sizeof strict),                     \
                "unchanged details of a strict call");                                            \
         code = sockdiag_##family##_get_lenient_details(payload, payload_length, found,           \
-                                                       rejections);                              \
+                                                       sizeof *found, rejections);               \
         expect(explain_part(explain_##family, 0, payload_length) == first,            \
                "the first error");                                                               \
         if (code != SOCKDIAG_OK) {                                                               \

@@ -189,6 +189,12 @@ def family_record(family, length):
         TOO_SHORT, record=FAMILY_ATTRIBUTE, family=family, kind=kind, got=len(value), need=length)
 
 
+def records(length):
+    """Returns a function that returns the error of a value that does not consist of records."""
+    return lambda kind, value: None if len(value) % length == 0 else Error(
+        WRONG_LENGTH, kind=kind, got=len(value), need=length)
+
+
 # NETLINK_DIAG_MEMINFO, NETLINK_DIAG_GROUPS and NETLINK_DIAG_FLAGS.
 NETLINK_ATTRIBUTES = {
     0: SOCKET_MEMORY,
@@ -196,16 +202,17 @@ NETLINK_ATTRIBUTES = {
     4: (U32[0], {"flags": U32[1]}),
 }
 # PACKET_DIAG_INFO, _MCLIST, _RX_RING, _TX_RING, _FANOUT, _UID, _MEMINFO and _FILTER. struct
-# packet_diag_info has 6 u32, and struct packet_diag_ring 7.
+# packet_diag_info has 6 u32, and struct packet_diag_ring 7. Memberships have 44 bytes each, and
+# instructions 8.
 PACKET_ATTRIBUTES = {
     0: (family_record(AF_PACKET, 24), {"info": numbers("6I")}),
-    1: (any_value, {"addresses": raw}),
+    1: (records(44), {"addresses": raw}),
     2: (family_record(AF_PACKET, 28), {"receive_ring": numbers("7I")}),
     3: (family_record(AF_PACKET, 28), {"send_ring": numbers("7I")}),
     4: (U32[0], {"fanout": U32[1]}),
     5: (U32[0], {"owner": U32[1]}),
     6: SOCKET_MEMORY,
-    7: (any_value, {"filter": raw}),
+    7: (records(8), {"filter": raw}),
 }
 # XDP_DIAG_INFO (2 u32), _UID, _RX_RING, _TX_RING, _UMEM (u64 and 8 u32), _UMEM_FILL_RING,
 # _UMEM_COMPLETION_RING, _MEMINFO and _STATS (6 u64).
@@ -490,11 +497,11 @@ LENGTHS = {
     ("netlink", 1): (0, 4, 8, 13),
     ("netlink", 4): (0, 3, 4, 4, 5),
     ("packet", 0): (0, 20, 23, 24, 25, 32),
-    ("packet", 1): (0, 44, 88),
+    ("packet", 1): (0, 43, 44, 45, 88),
     ("packet", 2): (24, 27, 28, 29, 40),
     ("packet", 3): (0, 27, 28, 32),
     ("packet", 6): (24, 27, 28, 31, 32, 35, 36, 40),
-    ("packet", 7): (0, 8, 80),
+    ("packet", 7): (0, 4, 8, 12, 80),
     ("xdp", 1): (4, 7, 8, 9),
     ("xdp", 5): (36, 39, 40, 41, 48),
     ("xdp", 8): (24, 27, 28, 31, 32, 35, 36, 40),

@@ -12,6 +12,7 @@ use Rattle.netlink_core.proofs.Framing.{one_message_framing_error}
 use Rattle.netlink_core.proofs.Items.{items_of, rest_in_range}
 use Rattle.netlink_packet_sock_diag.specs.Message.{message_codec}
 use Rattle.netlink_packet_sock_diag.specs.laws.Message.{message_laws}
+use Rattle.sockdiag_c.specs.declared.results.TheConstants.{END}
 use Rattle.sockdiag_c.specs.declared.walks.MessageRange.{MessageRange}
 use Rattle.sockdiag_c.specs.Walks.{IterationStep, StepsOverMessage, StoresCheckedMessage}
 use Rattle.sockdiag_c.specs.Walks.{bytes_after_step, bytes_before_step}
@@ -58,7 +59,7 @@ pub step_at_no_message : (step : IterationStep MessageRange)
     → IsBytes (bytes_before_step step)
     → SplitsIntoMessages (bytes_before_step step) [] None
     → StepsOverMessage step
-    → step.returned ≡ 0
+    → step.returned ≡ END
 step_at_no_message step in_range h k =
     grind (
       arith,

@@ -1,12 +1,11 @@
 -- The bytes that are written for a reply are the canonical form of all equivalent replies.
-use Rattle.std.proofs.Common.{◌≡◌, ◌<◌, ℕ, inl, inr, List, refl}
+use Rattle.std.proofs.Common.{◌≡◌, ℕ, inl, inr, List, refl}
 use Rattle.std.proofs.Common.{arith, take}
 use Rattle.std.specs.Prelude.{◌↔◌}
 use Rattle.std.proofs.lemmas.List.{take_at}
 use Rattle.netlink_core.specs.Bytes.{IsBytes}
 use Rattle.netlink_core.specs.Codec.{Codec, KeepsCodecLaws}
 use Rattle.netlink_core.specs.Response.{ResponseSpec, ReplyValue, response_bytes, response_codec}
-use Rattle.sockdiag_c.specs.declared.rewriting.Outcome.{Outcome}
 use Rattle.sockdiag_c.specs.Rewriting.{IsCanonicalForm, WritesValue}
 
 module _ {Param : Type 0} (C : Codec Param) (laws : KeepsCodecLaws C) where
@@ -29,15 +28,15 @@ module _ {Param : Type 0} (C : Codec Param) (laws : KeepsCodecLaws C) where
 
 -- the bytes that are written for the value of a reply are its canonical form
 pub written_is_canonical : (R : ResponseSpec) → KeepsCodecLaws (response_codec R)
-    → (payload old new : List ℕ) (v : ReplyValue R) (outcome : Outcome) (answer : ℕ)
+    → (payload old new : List ℕ) (v : ReplyValue R) (written answer : ℕ)
     → IsBytes payload
     → (response_codec R).parses payload tt v
     → WritesValue ((response_codec R).is_writable v) (response_bytes R v)
-    (record { old = old; new = new; outcome = outcome; returned = answer })
-    → 0 < answer → IsCanonicalForm R payload (take answer new)
-written_is_canonical R laws payload old new v outcome answer tb r (inl h) some d w td s fw =
+    (record { old = old; new = new; written = written; returned = answer })
+    → answer ≡ 0 → IsCanonicalForm R payload (take written new)
+written_is_canonical R laws payload old new v written answer tb r (inl h) ok d w td s fw =
     grind (arith, take_at, equal_bytes_iff_equivalent (response_codec R) laws payload d)
-written_is_canonical R laws payload old new v outcome answer tb r (inr (inl h)) some d w td s
-    fw = absurd (omega (arith, h.3.0))
-written_is_canonical R laws payload old new v outcome answer tb r (inr (inr h)) some d w td s
-    fw = absurd (omega (arith, h.2.0))
+written_is_canonical R laws payload old new v written answer tb r (inr (inl h)) ok d w td s
+    fw = absurd (omega (arith, h.2.0, ok))
+written_is_canonical R laws payload old new v written answer tb r (inr (inr h)) ok d w td s
+    fw = absurd (omega (arith, h.1.0, ok))

@@ -6,7 +6,7 @@ use Rattle.std.specs.Prelude.{ℤ, IfSome, IsSome, MatchOption, option_map}
 use Rattle.sock_diag_extras.specs.Acknowledgement.{ack_attribute_bytes_from}
 use Rattle.sock_diag_extras.specs.Models.{ack_attributes, ack_number}
 use Rattle.sock_diag_extras.specs.declared.acknowledgement.AckView.{AckView}
-use Rattle.sockdiag_c.specs.Answers.{SetsTargetIf}
+use Rattle.sockdiag_c.specs.Answers.{SetsTargetIf, wrong_length}
 use Rattle.sockdiag_c.specs.Walks.{bytes_after_cursor}
 use Rattle.sockdiag_c.specs.declared.walks.Cursor.{Cursor}
 
@@ -31,8 +31,8 @@ mapped found number is =
 
 pub pointed : (P : Type 0) (found : Option AckView) (payload attributes : List ℕ)
     (old new : Cursor) (answer : ℕ)
-    → MatchOption found ((answer ≡ 0) × (new ≡ old))
-    (λ ack. (answer ≡ 1) × (new.offset ≡ length payload - length (ack_attributes ack)))
+    → MatchOption found ((answer ≡ wrong_length) × (new ≡ old))
+    (λ ack. (answer ≡ 0) × (new.offset ≡ length payload - length (ack_attributes ack)))
     → (IsSome found ↔ P)
     → IfSome found (λ ack. ack_attributes ack ≡ attributes)
     → drop (length payload - length attributes) payload ≡ attributes

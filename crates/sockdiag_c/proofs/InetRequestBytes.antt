@@ -22,14 +22,14 @@ an_attribute p word high is = rw (le-ltb p 256 high, is) refl
 
 -- the message is the header, the record and the attribute
 pub message_written : (t : ℕ) (r : InetRequest) (it : inet.InetRequest)
-    (attribute old new : List ℕ) (answer : ℕ)
+    (attribute old new : List ℕ) (written answer : ℕ)
     → it ≡ inet_request_from_c r → attribute ≡ protocol_attribute r.protocol
     → WritesMessage (16 + length (record_bytes inet_request it) + length attribute)
     (header_bytes (request_header_of (16 + length (record_bytes inet_request it) + length attribute)
     t r.header)
     ++ record_bytes inet_request it ++ attribute)
-    (record { old = old; new = new; returned = answer })
+    (record { old = old; new = new; written = written; returned = answer })
     → WritesMessage (inet_message_length r.protocol) (inet_message t r)
-    (record { old = old; new = new; returned = answer })
-message_written t r it attribute old new answer is found given =
+    (record { old = old; new = new; written = written; returned = answer })
+message_written t r it attribute old new written answer is found given =
     grind (arith, inet_request_length it)

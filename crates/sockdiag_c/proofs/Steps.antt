@@ -16,6 +16,7 @@ use Rattle.netlink_core.proofs.Padding.{starts_with_attribute}
 use Rattle.netlink_core.proofs.Iterating.{attribute_prefix_of_start}
 use Rattle.sockdiag_c.specs.declared.walks.AttributeRange.{AttributeRange}
 use Rattle.sockdiag_c.specs.declared.walks.Cursor.{Cursor}
+use Rattle.sockdiag_c.specs.declared.results.TheConstants.{END, ITEM}
 use Rattle.sockdiag_c.specs.declared.walks.MessageRange.{MessageRange}
 use Rattle.sockdiag_c.specs.Walks.{IsPayloadCheckResult, StepsOverAttribute, attribute_in}
 use Rattle.sockdiag_c.specs.Walks.{header_in}
@@ -89,17 +90,17 @@ message_passed bytes offset end h head end-is =
 
 -- the payload of a control message, types 1 to 4, is accepted
 control_payload : (payload : List ℕ) (t : ℕ) → (t ≡ 1) ⊎ ((t ≡ 2) ⊎ ((t ≡ 3) ⊎ (t ≡ 4)))
-    → IsPayloadCheckResult payload t 1
+    → IsPayloadCheckResult payload t ITEM
 control_payload payload t (inl one) = inl (refl, (Noop, one))
 control_payload payload t (inr (inl two)) = inl (refl, (Error payload, (two, refl)))
 control_payload payload t (inr (inr (inl three))) = inl (refl, (Done payload, (three, refl)))
 control_payload payload t (inr (inr (inr four))) = inl (refl, (Overrun payload, (four, refl)))
 
 pub control_payload_is_accepted : (payload : List ℕ) (t : ℕ) → 1 ≤ t → t < 5
-    → IsPayloadCheckResult payload t 1
+    → IsPayloadCheckResult payload t ITEM
 control_payload_is_accepted payload t low high = control_payload payload t (grind arith)
 
--- a step that returns 1 stores a message
+-- a step that returns ITEM stores a message
 pub message_stored : (bytes : List ℕ) (old new : Cursor) (was now : MessageRange) (answer : ℕ)
     → StepsOverUncheckedMessage (record {
       bytes = bytes;
@@ -108,7 +109,7 @@ pub message_stored : (bytes : List ℕ) (old new : Cursor) (was now : MessageRan
       old_item = was;
       new_item = now;
       returned = answer;
-    }) → answer ≡ 1
+    }) → answer ≡ ITEM
     → StoresMessage (record {
       bytes = bytes;
       old_cursor = old;
@@ -127,7 +128,7 @@ pub step_at_attribute : (step : IterationStep AttributeRange)
     (first : Attribute) (later : List Attribute)
     → SplitsIntoAttributes (bytes_before_step step) (first ∷ later) []
     → StepsOverAttribute step
-    → (step.returned ≡ 1) × (attribute_in step.bytes step.new_item ≡ first)
+    → (step.returned ≡ ITEM) × (attribute_in step.bytes step.new_item ≡ first)
     × SplitsIntoAttributes (bytes_after_step step) later []
 step_at_attribute step first later h k =
     grind (
@@ -141,6 +142,6 @@ step_at_attribute step first later h k =
 -- if no attribute is left, the iteration ends
 pub step_at_end : (step : IterationStep AttributeRange)
     → SplitsIntoAttributes (bytes_before_step step) [] []
-    → StepsOverAttribute step → step.returned ≡ 0
+    → StepsOverAttribute step → step.returned ≡ END
 step_at_end step none h =
     grind arith

@@ -12,7 +12,8 @@ use Rattle.netlink_core.specs.laws.Prefix.{prefix_or_error_apart}
 use Rattle.netlink_core.proofs.Splitting.{one_first_attribute}
 use Rattle.netlink_core.proofs.Iterating.{StartsWithAttribute-nonempty, attribute_prefix_of_start}
 use Rattle.sock_diag_replies.specs.UnixGetters.{first_content_of}
-use Rattle.sockdiag_c.specs.TcpInfo.{AreAttributesIn, first_bytes_of_kind, padded_or_truncated}
+use Rattle.sockdiag_c.specs.Answers.{padded_or_truncated}
+use Rattle.sockdiag_c.specs.TcpInfo.{AreAttributesIn, first_bytes_of_kind}
 use Rattle.sockdiag_c.specs.TcpInfo.{bytes_of_kind}
 use Rattle.sockdiag_c.proofs.Rows.{first_attribute}
 

@@ -1,12 +1,9 @@
--- Parts for the rows of the tables: what an attribute of one kind says; None for attributes of
--- other kinds.
+-- Parts for the rows of the tables, next to those of `sock_diag_extras`: what an attribute of one
+-- kind says; None for attributes of other kinds.
 use Rattle.std.specs.Prelude.{ℕ, if◌then◌else◌, List, Option, None, Some}
 use Rattle.sock_diag_values.specs.declared.inet.legacy_mem_info.LegacyMemInfo.{LegacyMemInfo}
-use Rattle.sock_diag_values.specs.declared.inet.mem_info.MemInfo.{MemInfo}
 use Rattle.sock_diag_attributes.specs.declared.unix.name.SocketName.TheVariants.{Abstract, Pathname}
-use Rattle.sock_diag_families.specs.declared.packet.attributes.PacketInfo.{PacketInfo}
 use Rattle.sock_diag_families.specs.declared.packet.attributes.PacketRing.{PacketRing}
-use Rattle.sock_diag_families.specs.declared.xdp.attributes.XdpInfo.{XdpInfo}
 use Rattle.sock_diag_families.specs.declared.xdp.attributes.XdpStatistics.{XdpStatistics}
 use Rattle.sock_diag_families.specs.declared.xdp.attributes.XdpUmem.{XdpUmem}
 use Rattle.sock_diag_extras.specs.AnyNla.{AnyValue}
@@ -29,11 +26,6 @@ file_inode_of other = None
 abbrev pub file_device_of : AnyValue → Option ℕ
 file_device_of (any.vfs file) = Some file.device
 file_device_of other = None
-
--- the inode of the peer of a UNIX socket
-abbrev pub peer_of : AnyValue → Option ℕ
-peer_of (any.peer inode) = Some inode
-peer_of other = None
 
 -- the length of the receive queue of a UNIX socket
 abbrev pub recv_queue_of : AnyValue → Option ℕ
@@ -65,11 +57,6 @@ abbrev pub traffic_class_of : AnyValue → Option ℕ
 traffic_class_of (any.traffic_class n) = Some n
 traffic_class_of other = None
 
--- the protocol, `IPPROTO_..`
-abbrev pub protocol_of : AnyValue → Option ℕ
-protocol_of (any.protocol n) = Some n
-protocol_of other = None
-
 -- 1 if the socket is for IPv6 only, else 0
 abbrev pub v6_only_of : AnyValue → Option ℕ
 v6_only_of (any.v6_only only) = Some (if only then 1 else 0)
@@ -100,16 +87,6 @@ abbrev pub legacy_memory_of : AnyValue → Option LegacyMemInfo
 legacy_memory_of (any.legacy_memory m) = Some m
 legacy_memory_of other = None
 
--- the memory counters of a socket
-abbrev pub memory_of : AnyValue → Option MemInfo
-memory_of (any.memory m) = Some m
-memory_of other = None
-
--- the user id of the owner
-abbrev pub owner_of : AnyValue → Option ℕ
-owner_of (any.owner user) = Some user
-owner_of other = None
-
 -- the groups of a netlink socket
 abbrev pub groups_of : AnyValue → Option (List ℕ)
 groups_of (any.groups bits) = Some bits
@@ -119,11 +96,6 @@ groups_of other = None
 abbrev pub netlink_flags_of : AnyValue → Option ℕ
 netlink_flags_of (any.netlink_flags bits) = Some bits
 netlink_flags_of other = None
-
--- the settings of a packet socket
-abbrev pub packet_info_of : AnyValue → Option PacketInfo
-packet_info_of (any.packet_info info) = Some info
-packet_info_of other = None
 
 -- the memberships of a packet socket
 abbrev pub memberships_of : AnyValue → Option (List ℕ)
@@ -149,11 +121,6 @@ fanout_of other = None
 abbrev pub filter_of : AnyValue → Option (List ℕ)
 filter_of (any.filter program) = Some program
 filter_of other = None
-
--- the interface and the queue of an XDP socket
-abbrev pub xdp_info_of : AnyValue → Option XdpInfo
-xdp_info_of (any.xdp_info info) = Some info
-xdp_info_of other = None
 
 -- the number of entries of the receive ring of an XDP socket
 abbrev pub receive_ring_of : AnyValue → Option ℕ

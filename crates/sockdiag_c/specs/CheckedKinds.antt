@@ -1,23 +1,22 @@
 -- How the attributes of UNIX and internet sockets are read. The values of the kinds that the checks
 -- know are checked, those of other kinds are not.
-use Rattle.std.specs.Prelude.{Bool, true, false, Result, Ok, unwrap_or}
-use Rattle.std.specs.Result.{result_ok}
+use Rattle.std.specs.Prelude.{Option, None, Some, Result, Ok, Err, unwrap_or}
+use Rattle.std.specs.Result.{result_err, result_ok}
 use Rattle.netlink_core.specs.Attribute.{Attribute}
-use Rattle.netlink_core.specs.AttributeSet.{AttributeSet}
+use Rattle.netlink_core.specs.AttributeSet.{AttributeSet, decode_attribute}
 use Rattle.netlink_core.specs.declared.error.DecodeError.{DecodeError}
-use Rattle.sock_diag_extras.specs.AnyAgreement.{has_kind}
 use Rattle.sock_diag_extras.specs.AnyNla.{AnyValue, read_any, unknown}
 use Rattle.sock_diag_extras.specs.declared.any.nla.Sockets.{Sockets}
 
--- `rejected_if is_checked a read`: `read` is what the attribute `a` says, or its error. If the
--- attribute is not checked, it has no error: with an invalid value it says no more than one of an
--- unknown kind.
-abbrev pub rejected_if : Bool → Attribute → Result AnyValue DecodeError
-    → Result AnyValue DecodeError
-rejected_if true a read = read
-rejected_if false a read = Ok (unwrap_or (result_ok read) (unknown a))
+-- `unless_error error value`: the error, if there is one, else the value
+abbrev pub unless_error : Option DecodeError → AnyValue → Result AnyValue DecodeError
+unless_error (Some e) value = Err e
+unless_error None value = Ok value
 
--- `read_checked set of_sockets a`: what the attribute `a` of a reply about these sockets says, or
--- its error. Only attributes of the kinds of the set are checked.
+-- `read_checked set of_sockets a`: what the attribute `a` of a reply about these sockets says; or
+-- its error, if the checks, whose kinds are those of the set, reject it. An attribute that they do
+-- not check has no error: with an invalid value it says no more than one of an unknown kind.
 abbrev pub read_checked : AttributeSet → Sockets → Attribute → Result AnyValue DecodeError
-read_checked set of_sockets a = rejected_if (has_kind set a) a (read_any of_sockets a)
+read_checked set of_sockets a =
+    unless_error (result_err (decode_attribute set a))
+    (unwrap_or (result_ok (read_any of_sockets a)) (unknown a))

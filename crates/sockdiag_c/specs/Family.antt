@@ -11,6 +11,7 @@ use Rattle.netlink_core.specs.Errors.{error_code}
 use Rattle.netlink_core.specs.Response.{ResponseSpec, ReplyValue, response_codec}
 use Rattle.netlink_core.specs.declared.error.DecodeError.{DecodeError}
 use Rattle.sock_diag_replies.specs.UnixGetters.{first_content_of}
+use Rattle.sockdiag_c.specs.Answers.{Call, FillsStruct}
 use Rattle.sockdiag_c.specs.declared.lenient.Rejections.{Rejections}
 use Rattle.sockdiag_c.specs.declared.lenient.TheConstants.{REJECTION_KINDS}
 
@@ -160,9 +161,22 @@ module _ {D : Type 0} (family : Family D) where
 abbrev pub IsCodeOf : (DecodeError → Type 0) → ℕ → Type 0
 IsCodeOf rejects code = (e : DecodeError) × rejects e × (code ≡ error_code e)
 
--- ---- properties of the calls
-
 module _ {D : Type 0} (family : Family D) where
+  -- `StoresDetails family payload call`: a strict call: it fills a struct with the details of the
+  -- reply in the payload, or returns the code of the first error (`FillsStruct`)
+  abbrev pub StoresDetails : List ℕ → Call (D × List ℕ) → Type 0
+  StoresDetails payload call =
+      FillsStruct (AreDetailsOf family payload) (IsCodeOf (IsFirstError family payload)) call
+
+  -- `StoresLenientDetails family payload call`: a lenient call: it fills a struct with the details
+  -- of the reply, and another one with the rejections; or returns the code of the error of the
+  -- header
+  abbrev pub StoresLenientDetails : List ℕ → Call ((D × Rejections) × List ℕ) → Type 0
+  StoresLenientDetails payload call =
+      FillsStruct (LenientDetailsAre family payload) (IsCodeOf (IsHeaderError family payload)) call
+
+  -- ---- properties of the calls
+
   -- `CallsAgree family`: for each payload, let `d` and `r` be the details and the rejections of the
   -- lenient call. If `r.first` is 0, `d` are also the details of the strict call. Otherwise
   -- `r.first` is the code of the first error of the reply, which the strict call returns.

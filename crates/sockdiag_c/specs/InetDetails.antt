@@ -8,12 +8,13 @@ use Rattle.sock_diag_extras.specs.AnyHeader.{timer_at}
 use Rattle.sock_diag_extras.specs.AnyNla.{AnyValue}
 use Rattle.sock_diag_extras.specs.declared.any.nla.InfoFormat.TheVariants.{Unknown}
 use Rattle.sock_diag_extras.specs.declared.any.nla.Sockets.TheVariants.{Inet}
+use Rattle.sock_diag_extras.specs.AnyParts.{memory_of, socket_protocol_of}
+use Rattle.sockdiag_c.specs.AnyParts.{cgroup_id_of, class_id_of, congestion_of, legacy_memory_of}
+use Rattle.sockdiag_c.specs.AnyParts.{mark_of, options_of, shutdown_of, tos_of, traffic_class_of}
+use Rattle.sockdiag_c.specs.AnyParts.{v6_only_of}
 use Rattle.sockdiag_c.specs.declared.headers.InetHeader.{InetHeader}
 use Rattle.sockdiag_c.specs.declared.inet_details.InetDetails.{InetDetails}
 use Rattle.sockdiag_c.specs.declared.inet_details.LegacyMemory.{LegacyMemory}
-use Rattle.sockdiag_c.specs.AnyParts.{cgroup_id_of, class_id_of, congestion_of, legacy_memory_of}
-use Rattle.sockdiag_c.specs.AnyParts.{mark_of, memory_of, options_of, protocol_of, shutdown_of}
-use Rattle.sockdiag_c.specs.AnyParts.{tos_of, traffic_class_of, v6_only_of}
 use Rattle.sockdiag_c.specs.CheckedKinds.{read_checked}
 use Rattle.sockdiag_c.specs.Details.{memory_row, number_row, record_row, text_row}
 use Rattle.sockdiag_c.specs.Family.{Family, StructRow}
@@ -43,7 +44,7 @@ inet_rows =
     ∷ number_row tos_of (λ d. d.tos)
     ∷ number_row traffic_class_of (λ d. d.tclass)
     ∷ number_row shutdown_of (λ d. d.shutdown)
-    ∷ number_row protocol_of (λ d. d.protocol)
+    ∷ number_row socket_protocol_of (λ d. d.protocol)
     ∷ number_row v6_only_of (λ d. d.v6only)
     ∷ number_row mark_of (λ d. d.mark)
     ∷ number_row class_id_of (λ d. d.class_id)

@@ -7,7 +7,8 @@ use Rattle.sock_diag_families.specs.declared.netlink.response.NetlinkResponseHea
 }
 use Rattle.sock_diag_extras.specs.AnyNla.{AnyValue, read_any}
 use Rattle.sock_diag_extras.specs.declared.any.nla.Sockets.TheVariants.{Netlink}
-use Rattle.sockdiag_c.specs.AnyParts.{groups_of, memory_of, netlink_flags_of}
+use Rattle.sock_diag_extras.specs.AnyParts.{memory_of}
+use Rattle.sockdiag_c.specs.AnyParts.{groups_of, netlink_flags_of}
 use Rattle.sockdiag_c.specs.Details.{bytes_row, memory_row, number_row}
 use Rattle.sockdiag_c.specs.Family.{Family}
 use Rattle.sockdiag_c.specs.declared.netlink_details.NetlinkDetails.{NetlinkDetails}

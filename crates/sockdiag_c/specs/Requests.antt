@@ -11,6 +11,7 @@ use Rattle.netlink_core.specs.Attribute.{SplitsIntoAttributes}
 use Rattle.netlink_core.specs.Attribute.{padding_length, attribute_bytes}
 use Rattle.netlink_core.specs.declared.error.DecodeError.{DecodeError}
 use Rattle.netlink_core.specs.declared.error.DecodeError.TheVariants.{UnsupportedFamily}
+use Rattle.netlink_core.specs.Errors.{error_code}
 use Rattle.netlink_core.specs.Layout.{record_bytes}
 use Rattle.netlink_core.specs.Header.{header_bytes}
 use Rattle.sock_diag_records.specs.InetRequest.{inet_request}
@@ -21,11 +22,11 @@ use Rattle.sock_diag_records.specs.declared.constants.TheConstants.{SOCK_DIAG_BY
 use Rattle.sock_diag_records.specs.declared.inet.request.TheConstants.{INET_DIAG_REQ_PROTOCOL}
 use Rattle.sock_diag_records.specs.declared.inet.request.InetRequest as inet
 use Rattle.sock_diag_records.specs.declared.unix.request.UnixRequest as unix
-use Rattle.sockdiag_c.specs.Answers.{Call}
-use Rattle.sockdiag_c.specs.Rewriting.{Conversion}
+use Rattle.sockdiag_c.specs.Rewriting.{Conversion, WriteCall, WritesNothing}
 use Rattle.sockdiag_c.specs.declared.requests.InetRequest.{InetRequest}
 use Rattle.sockdiag_c.specs.declared.requests.RequestHeader.{RequestHeader}
 use Rattle.sockdiag_c.specs.declared.requests.UnixRequest.{UnixRequest}
+use Rattle.sockdiag_c.specs.declared.results.TheConstants.{NO_SPACE}
 
 -- `request_header_of len message_type header`: `struct nlmsghdr` of a message of this type, of
 -- `len` bytes including its header of 16 bytes. `nlmsg_flags`, `nlmsg_seq` and `nlmsg_pid` are
@@ -117,24 +118,27 @@ inet_message message_type r =
     header_bytes (request_header_of (inet_message_length r.protocol) message_type r.header)
     ++ record_bytes inet_request (inet_request_from_c r) ++ protocol_attribute r.protocol
 
--- `WritesMessage len message call`: if the buffer of the caller has at least `len` bytes, the
--- message is written at its start, the bytes after it are unchanged, and the return value is `len`.
--- If it is shorter, nothing is written, and the return value is 0. `len` has to be the length of
--- the message; it is a separate argument, so that a contract shows the number itself.
-abbrev pub WritesMessage : ℕ → List ℕ → Call (List ℕ) → Type 0
+-- `WritesMessage len message call`: the number `len` is stored. If the buffer of the caller has at
+-- least `len` bytes, the message is written at its start, the bytes after it are unchanged, and the
+-- return value is 0. If it is shorter, nothing is written, and the return value is NO_SPACE. `len`
+-- has to be the length of the message; it is a separate argument, so that a contract shows the
+-- number itself.
+abbrev pub WritesMessage : ℕ → List ℕ → WriteCall → Type 0
 WritesMessage len message call =
-    (len ≤ length call.old
-    → (call.returned ≡ len) × (call.new ≡ message ++ drop len call.old))
-    × (length call.old < len → (call.returned ≡ 0) × (call.new ≡ call.old))
+    (len ≤ length call.old → (call.returned ≡ 0) × (call.written ≡ len)
+    × (call.new ≡ message ++ drop len call.old))
+    × (length call.old < len → WritesNothing len NO_SPACE call)
 
 -- `WritesInetMessage message_type r call`: if the family of the request `r` is AF_INET or AF_INET6,
 -- its message with this type (`inet_message`) is written if the buffer is long enough
--- (`WritesMessage`). For any other family nothing is written, and the return value is 0.
-abbrev pub WritesInetMessage : ℕ → InetRequest → Call (List ℕ) → Type 0
+-- (`WritesMessage`). For any other family nothing is written, and the return value is the code of
+-- UnsupportedFamily.
+abbrev pub WritesInetMessage : ℕ → InetRequest → WriteCall → Type 0
 WritesInetMessage message_type r call =
     (IsInetFamily r.family
     → WritesMessage (inet_message_length r.protocol) (inet_message message_type r) call)
-    × (¬ IsInetFamily r.family → (call.returned ≡ 0) × (call.new ≡ call.old))
+    × (¬ IsInetFamily r.family
+    → WritesNothing 0 (error_code (UnsupportedFamily r.family)) call)
 
 -- ---- requests with attributes of the caller
 

@@ -4,7 +4,7 @@ use Rattle.netlink_core.specs.Bytes.{IsBytes}
 use Rattle.netlink_core.specs.declared.error.DecodeError.{DecodeError}
 use Rattle.netlink_core.specs.Errors.{error_code}
 use Rattle.netlink_core.specs.Response.{ResponseSpec, ReplyValue, response_bytes, response_codec}
-use Rattle.sockdiag_c.specs.declared.rewriting.Outcome.{Outcome}
+use Rattle.sockdiag_c.specs.declared.results.TheConstants.{NO_SPACE, TOO_LONG}
 
 -- How bytes of the caller are converted to the bytes that are written, by a value of type `V`.
 pub record Conversion (V : Type 0) : Type 1 where
@@ -22,46 +22,40 @@ pub record WriteCall : Type 0 where
   -- the buffer before and after the call
   pub old : List ℕ
   pub new : List ℕ
-  -- the outcome after the call
-  pub outcome : Outcome
+  -- the number that is stored: how many bytes were written, or the buffer has to have
+  pub written : ℕ
   -- the return value
   pub returned : ℕ
 
--- `outcome_struct error needed`: `struct sockdiag_outcome` with this error code, or 0 if there is
--- no error, and this number of bytes to write
-abbrev pub outcome_struct : ℕ → ℕ → Outcome
-outcome_struct error needed = record { error = error; needed = needed }
-
--- `WritesNothing call`: the return value is 0, and the buffer is unchanged
-abbrev pub WritesNothing : WriteCall → Type 0
-WritesNothing call = (call.returned ≡ 0) × (call.new ≡ call.old)
+-- `WritesNothing needed code call`: the buffer is unchanged, the number that is stored is `needed`,
+-- and the return value is the code
+abbrev pub WritesNothing : ℕ → ℕ → WriteCall → Type 0
+WritesNothing needed code call =
+    (call.returned ≡ code) × (call.written ≡ needed) × (call.new ≡ call.old)
 
 -- `WritesValue is_writable bytes call`: `is_writable` states that the value is writable, and
 -- `bytes` are the bytes that it serializes to. One of three holds:
 -- - The value is writable and the buffer is long enough. The bytes are written at its start, the
---   bytes after them are unchanged, and the return value and `outcome.needed` are their number.
--- - The value is writable and the buffer is too short. Nothing is written, the return value is 0,
---   and `outcome.needed` is the number of bytes.
--- - The value is not writable. Nothing is written, and the return value and `outcome.needed` are 0.
--- In each case `outcome.error` is 0.
+--   bytes after them are unchanged, their number is stored, and the return value is 0.
+-- - The value is writable and the buffer is too short. Nothing is written, the number of the bytes
+--   is stored, and the return value is NO_SPACE.
+-- - The value is not writable. Nothing is written, 0 is stored, and the return value is TOO_LONG.
 abbrev pub WritesValue : Type 0 → List ℕ → WriteCall → Type 0
 WritesValue is_writable bytes call =
-    (is_writable × (length bytes ≤ length call.old)
-    × (call.outcome ≡ outcome_struct 0 (length bytes))
-    × (call.returned ≡ length bytes) × (call.new ≡ bytes ++ drop (length bytes) call.old))
+    (is_writable × (length bytes ≤ length call.old) × (call.returned ≡ 0)
+    × (call.written ≡ length bytes) × (call.new ≡ bytes ++ drop (length bytes) call.old))
     ⊎ ((is_writable × (length call.old < length bytes)
-    × (call.outcome ≡ outcome_struct 0 (length bytes)) × WritesNothing call)
-    ⊎ (¬ is_writable × (call.outcome ≡ outcome_struct 0 0) × WritesNothing call))
+    × WritesNothing (length bytes) NO_SPACE call)
+    ⊎ (¬ is_writable × WritesNothing 0 TOO_LONG call))
 
 -- `ParsesAndWrites conversion call`: either the bytes of the caller have a value `v`, which is
 -- written if it is writable and the buffer is long enough (`WritesValue`). Or they have a first
--- error `e`: `outcome.error` is its code, `outcome.needed` is 0, and nothing is written.
+-- error `e`, whose code is returned; nothing is written, and 0 is stored.
 abbrev pub ParsesAndWrites : {V : Type 0} → Conversion V → WriteCall → Type 0
 ParsesAndWrites {V} conversion call =
     ((v : V) × conversion.parses v
     × WritesValue (conversion.is_writable v) (conversion.serialized v) call)
-    ⊎ ((e : DecodeError) × conversion.rejects e
-    × (call.outcome ≡ outcome_struct (error_code e) 0) × WritesNothing call)
+    ⊎ ((e : DecodeError) × conversion.rejects e × WritesNothing 0 (error_code e) call)
 
 -- `reply_conversion R payload`: the payload is parsed as a reply by the codec of `R`, and the value
 -- is serialized.

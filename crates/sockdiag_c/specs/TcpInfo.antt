@@ -1,6 +1,6 @@
 -- The bytes of `struct tcp_info` and `struct mptcp_info`.
-use Rattle.std.specs.Prelude.{ℕ, ◌-◌, ◌==◌, if◌then◌else◌, List, ◌++◌, length, take, drop}
-use Rattle.std.specs.Prelude.{replicate, [], Option, Some, None, unwrap_or}
+use Rattle.std.specs.Prelude.{ℕ, ◌==◌, if◌then◌else◌, List, drop, [], Option, Some, None}
+use Rattle.std.specs.Prelude.{unwrap_or}
 use Rattle.netlink_core.specs.Attribute.{Attribute, attribute_kind}
 use Rattle.netlink_core.specs.declared.error.DecodeError.{DecodeError}
 use Rattle.sock_diag_records.specs.declared.inet.response.TheConstants.{INET_RESPONSE_HEADER_LEN}
@@ -30,8 +30,3 @@ bytes_of_kind kind a = if attribute_kind a == kind then Some a.value else None
 abbrev pub first_bytes_of_kind : ℕ → List Attribute → List ℕ
 first_bytes_of_kind kind attributes =
     unwrap_or (first_content_of (bytes_of_kind kind) attributes) []
-
--- `padded_or_truncated n value`: exactly n bytes: the first n bytes of the value; or, if the value
--- is shorter, the value followed by zeros
-abbrev pub padded_or_truncated : ℕ → List ℕ → List ℕ
-padded_or_truncated n value = take n value ++ replicate (n - length value) 0

@@ -5,10 +5,11 @@ use Rattle.sock_diag_attributes.specs.UnixAttributes.{unix_attribute_set}
 use Rattle.sock_diag_replies.specs.UnixResponseSpec.{unix_response_spec}
 use Rattle.sock_diag_extras.specs.AnyNla.{AnyValue}
 use Rattle.sock_diag_extras.specs.declared.any.nla.Sockets.TheVariants.{Unix}
+use Rattle.sock_diag_extras.specs.AnyParts.{memory_of, owner_of, peer_of}
+use Rattle.sockdiag_c.specs.AnyParts.{file_device_of, file_inode_of, name_of, recv_queue_of}
+use Rattle.sockdiag_c.specs.AnyParts.{send_queue_of, shutdown_of}
 use Rattle.sockdiag_c.specs.declared.headers.UnixHeader.{UnixHeader}
 use Rattle.sockdiag_c.specs.declared.unix_details.UnixDetails.{UnixDetails}
-use Rattle.sockdiag_c.specs.AnyParts.{file_device_of, file_inode_of, memory_of, name_of, owner_of}
-use Rattle.sockdiag_c.specs.AnyParts.{peer_of, recv_queue_of, send_queue_of, shutdown_of}
 use Rattle.sockdiag_c.specs.CheckedKinds.{read_checked}
 use Rattle.sockdiag_c.specs.Details.{memory_row, number_row, text_row}
 use Rattle.sockdiag_c.specs.Family.{Family, StructRow}

@@ -8,6 +8,7 @@ use Rattle.netlink_core.specs.NetlinkMessage.{IsInnerMessageType, Payload, Parse
 use Rattle.netlink_core.specs.Errors.{error_code}
 use Rattle.netlink_core.specs.Header.{HasHeader, IsMessageError}
 use Rattle.netlink_packet_sock_diag.specs.Message.{Message, message_codec}
+use Rattle.sockdiag_c.specs.declared.results.TheConstants.{END, ITEM}
 use Rattle.sockdiag_c.specs.declared.walks.AttributeRange.{AttributeRange}
 use Rattle.sockdiag_c.specs.declared.walks.Cursor.{Cursor}
 use Rattle.sockdiag_c.specs.declared.walks.MessageRange.{MessageRange}
@@ -38,11 +39,11 @@ bytes_before_step step = bytes_after_cursor step.bytes step.old_cursor
 abbrev pub bytes_after_step : {T : Type 0} → IterationStep T → List ℕ
 bytes_after_step step = bytes_after_cursor step.bytes step.new_cursor
 
--- `IterationEnds step`: no bytes are left. The return value is 0, and neither the cursor nor the
+-- `IterationEnds step`: no bytes are left. The return value is END, and neither the cursor nor the
 -- output struct is changed.
 abbrev pub IterationEnds : {T : Type 0} → IterationStep T → Type 0
 IterationEnds step =
-    (step.returned ≡ 0) × (bytes_before_step step ≡ []) × (step.new_cursor ≡ step.old_cursor)
+    (step.returned ≡ END) × (bytes_before_step step ≡ []) × (step.new_cursor ≡ step.old_cursor)
     × (step.new_item ≡ step.old_item)
 
 -- `IterationFails IsDecodeError step`: bytes are left that do not begin with an item:
@@ -64,16 +65,16 @@ attribute_in bytes range =
     record { type_word = range.type_word; value = take range.length (drop range.offset bytes) }
 
 -- `StepsOverAttribute step`: one of:
--- - No bytes are left, and the return value is 0 (`IterationEnds`).
+-- - No bytes are left, and the return value is END (`IterationEnds`).
 -- - The bytes left begin with an attribute. The output struct describes it: its value starts 4
 --   bytes after the cursor. The cursor is advanced past the attribute and its padding, and the
---   return value is 1.
+--   return value is ITEM.
 -- - The bytes left do not begin with an attribute, and the return value is the code of the framing
 --   error (`IterationFails`).
 abbrev pub StepsOverAttribute : IterationStep AttributeRange → Type 0
 StepsOverAttribute step =
     IterationEnds step
-    ⊎ (((step.returned ≡ 1)
+    ⊎ (((step.returned ≡ ITEM)
     × StartsWithAttribute (bytes_before_step step) (attribute_in step.bytes step.new_item)
     (bytes_after_step step)
     × (step.new_item.offset ≡ step.old_cursor.offset + 4))
@@ -98,13 +99,13 @@ abbrev pub payload_in : List ℕ → MessageRange → List ℕ
 payload_in bytes range = take range.length (drop range.offset bytes)
 
 -- `IsPayloadCheckResult payload message_type returned`: one of:
--- - The payload parses under the message type, and the return value is 1. Under the types
+-- - The payload parses under the message type, and the return value is ITEM. Under the types
 --   NLMSG_NOOP, NLMSG_ERROR, NLMSG_DONE and NLMSG_OVERRUN (1 to 4) any payload parses.
 -- - The type is another one, that of an inner message. The payload is rejected, and the return
 --   value is the code of its first error `e`.
 abbrev pub IsPayloadCheckResult : List ℕ → ℕ → ℕ → Type 0
 IsPayloadCheckResult payload message_type returned =
-    ((returned ≡ 1) × ((value : Payload Message)
+    ((returned ≡ ITEM) × ((value : Payload Message)
     × ParsesAsPayload message_codec.parses payload message_type value))
     ⊎ ((e : DecodeError) × IsInnerMessageType message_type
     × message_codec.rejects payload message_type e
@@ -121,8 +122,8 @@ StoresMessage step =
     × (step.new_item.offset ≡ step.old_cursor.offset + 16)
 
 -- `StoresCheckedMessage step`: StoresMessage holds, and the return value is the result of the check
--- of the payload: 1 if it is accepted, else the code of its first error. The message is stored in
--- both cases.
+-- of the payload: ITEM if it is accepted, else the code of its first error. The message is stored
+-- in both cases.
 abbrev pub StoresCheckedMessage : IterationStep MessageRange → Type 0
 StoresCheckedMessage step =
     StoresMessage step
@@ -130,9 +131,9 @@ StoresCheckedMessage step =
     step.returned
 
 -- `StepsOverMessage step`: one of:
--- - No bytes are left, and the return value is 0 (`IterationEnds`).
--- - A message is stored, and the return value is 1, or the code of the first error of its payload
---   (`StoresCheckedMessage`).
+-- - No bytes are left, and the return value is END (`IterationEnds`).
+-- - A message is stored, and the return value is ITEM, or the code of the first error of its
+--   payload (`StoresCheckedMessage`).
 -- - The bytes left do not begin with a message, and the return value is the code of the framing
 --   error (`IterationFails`).
 abbrev pub StepsOverMessage : IterationStep MessageRange → Type 0
@@ -140,11 +141,11 @@ StepsOverMessage step =
     IterationEnds step ⊎ (StoresCheckedMessage step ⊎ IterationFails IsMessageError step)
 
 -- `StepsOverUncheckedMessage step`: one of:
--- - No bytes are left, and the return value is 0 (`IterationEnds`).
--- - A message is stored, and the return value is 1, whatever its payload (`StoresMessage`).
+-- - No bytes are left, and the return value is END (`IterationEnds`).
+-- - A message is stored, and the return value is ITEM, whatever its payload (`StoresMessage`).
 -- - The bytes left do not begin with a message, and the return value is the code of the framing
 --   error (`IterationFails`).
 abbrev pub StepsOverUncheckedMessage : IterationStep MessageRange → Type 0
 StepsOverUncheckedMessage step =
     IterationEnds step
-    ⊎ (((step.returned ≡ 1) × StoresMessage step) ⊎ IterationFails IsMessageError step)
+    ⊎ (((step.returned ≡ ITEM) × StoresMessage step) ⊎ IterationFails IsMessageError step)

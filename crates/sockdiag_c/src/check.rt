@@ -1,36 +1,16 @@
 //! Checks of borrowed replies.
 
-ghost use Rattle.std.specs.Prelude.{◌≡◌, MatchResult};
-ghost use Rattle.netlink_core.specs.Errors.{error_code};
 ghost use Rattle.sockdiag_c.specs.Answers.{IsCheckResult};
 ghost use Rattle.sockdiag_c.specs.Headers.{inet_check, message_check, unix_check};
 
 use crate::headers::{INET, InetHeader, Reply, UNIX, UnixHeader, inet_header};
-use netlink_core::DecodeError;
+use crate::results::{OK, store_parsed};
 use netlink_packet_sock_diag::SockDiagView;
 use netlink_packet_sock_diag::inet::InetResponseView;
 use netlink_packet_sock_diag::unix::UnixResponseView;
 
-/// Return value of a check that accepts the bytes.
-pub(crate) const OK: u32 = 0;
-
-/// Stores the parsed value in the target, and returns 0. If it was rejected, returns the code of
-/// the error; then the target is unchanged.
-pub(crate) fn store_parsed<T: Copy>(parsed: Result<T, DecodeError>, target: &mut T) -> u32
-    ensures { MatchResult parsed (λ found. (result ≡ 0) × (target.new ≡ found))
-        (λ e. (result ≡ error_code e) × (target.new ≡ target.old)) }
-{
-    match parsed {
-        Ok(found) => {
-            *target = found;
-            OK
-        }
-        Err(error) => u32::from(error.number()),
-    }
-}
-
-/// Checks a reply about a UNIX socket, as `sockdiag_unix_get_details` does, and returns its header
-/// only. Returns 0, or the code of the first error; then the header is unchanged.
+/// Checks a reply about a UNIX socket, as `sockdiag_unix_get_details` does, and stores its header
+/// only.
 #[unsafe(no_mangle)]
 pub extern "C" fn sockdiag_check_unix_reply(payload: &[u8], header: &mut UnixHeader) -> u32
     ensures { IsCheckResult (unix_check payload.now)
@@ -40,8 +20,8 @@ pub extern "C" fn sockdiag_check_unix_reply(payload: &[u8], header: &mut UnixHea
     store_parsed(parsed.map(|view| UnixHeader::from(view.header())), header)
 }
 
-/// Checks a reply about an IPv4 or IPv6 socket, as `sockdiag_inet_get_details` does, and returns
-/// its header only. Returns 0, or the code of the first error; then the header is unchanged.
+/// Checks a reply about an IPv4 or IPv6 socket, as `sockdiag_inet_get_details` does, and stores its
+/// header only.
 #[unsafe(no_mangle)]
 pub extern "C" fn sockdiag_check_inet_reply(payload: &[u8], header: &mut InetHeader) -> u32
     ensures { IsCheckResult (inet_check payload.now)
@@ -57,9 +37,8 @@ pub extern "C" fn sockdiag_check_inet_reply(payload: &[u8], header: &mut InetHea
 }
 
 /// Checks the payload of a message of this type, and stores the kind and the header of the reply.
-/// The header of the other kind is unchanged. Returns 0, or the code of the first error; then the
-/// reply is unchanged. A family other than `AF_UNIX`, `AF_INET` and `AF_INET6` is
-/// `SOCKDIAG_UNKNOWN_FAMILY`.
+/// The header of the other kind is unchanged. A family other than `AF_UNIX`, `AF_INET` and
+/// `AF_INET6` is `SOCKDIAG_UNKNOWN_FAMILY`.
 #[unsafe(no_mangle)]
 pub extern "C" fn sockdiag_check_message(
     payload: &[u8],

@@ -5,20 +5,22 @@
 //! has the code 0.
 
 ghost use Rattle.std.specs.Prelude.{◌≡◌, ◌≢◌, ℕ, [], drop, Err, IfErr, IfOk, None, Ok, Option};
-ghost use Rattle.std.specs.Prelude.{Some};
+ghost use Rattle.std.specs.Prelude.{Some, length};
 ghost use Rattle.std.specs.Option.{option_or};
 ghost use Rattle.netlink_core.specs.Errors.{map_ok};
 ghost use Rattle.netlink_core.specs.Walk.{buffered_attribute};
+ghost use Rattle.sockdiag_c.specs.Answers.{padded_or_truncated};
 ghost use Rattle.sockdiag_c.specs.Details.{optional_number, text_parts};
 ghost use Rattle.sockdiag_c.specs.Family.{AreDetailsOf, HasHeaderAndValuesOf, SplitsWithError};
 ghost use Rattle.sockdiag_c.specs.Family.{Family};
-ghost use Rattle.sockdiag_c.specs.Family.{HasRejections, HasValues, IsCodeOf, IsFirstError};
+ghost use Rattle.sockdiag_c.specs.Family.{HasRejections, HasValues, IsFirstError, StoresDetails};
 ghost use Rattle.sockdiag_c.specs.Family.{IsHeaderError, LenientDetailsAre, ReplyParts};
+ghost use Rattle.sockdiag_c.specs.Family.{StoresLenientDetails};
 ghost use Rattle.sockdiag_c.specs.Family.{first_error};
 ghost use Rattle.sockdiag_c.specs.private.Rows.{AddsParts};
 
-use crate::check::store_parsed;
 use crate::lenient::{Errors, Rejections};
+use crate::results::{OK, copy_padded, store_parsed};
 use netlink_core::{DecodeError, NlaBuffer, NlasIterator};
 
 /// A number that a reply may contain.
@@ -133,14 +135,21 @@ pub(crate) trait ReplyDetails<'a>: Copy {
             record { old = self.old; new = self.new } };
 }
 
-/// Stores the contents of the reply in the details. Returns 0, or the code of the first error; then
-/// the details are unchanged.
-pub(crate) fn store_details<'a, T: ReplyDetails<'a>>(payload: &'a [u8], details: &mut T) -> u32
-    ensures details { result ≡ 0 → AreDetailsOf T.family payload.entry.now details.new }
-    ensures error { result ≢ 0 → IsCodeOf (IsFirstError T.family payload.entry.now) result }
-    ensures unchanged { result ≢ 0 → details.new ≡ details.old }
+/// Stores the contents of the reply in the details, and zeros in the fields of later versions.
+/// Returns 0, or the code of the first error; then nothing is stored.
+pub(crate) fn store_details<'a, T: ReplyDetails<'a>>(
+    payload: &'a [u8],
+    details: &mut T,
+    later: &mut [u8],
+) -> u32
+    ensures { StoresDetails T.family payload.entry.now record {
+      old = (details.old, later.old);
+      new = (details.new, later.new);
+      returned = result;
+    } }
 {
-    store_parsed(strict_details::<T>(payload), details)
+    let code = store_parsed(strict_details::<T>(payload), details);
+    clear_later(code, later)
 }
 
 /// Parses the reply, and returns its contents, or fails with its first error.
@@ -157,39 +166,46 @@ pub(crate) fn strict_details<'a, T: ReplyDetails<'a>>(payload: &'a [u8]) -> Resu
     }
 }
 
-/// Stores the header and the first valid value of each kind in the details, and the first error of
-/// each kind in the rejections. Returns 0, or the code of the error of the header; then both are
-/// unchanged.
+/// Stores the header and the first valid value of each kind in the details, zeros in the fields of
+/// later versions, and the first error of each kind in the rejections. Returns 0, or the code of
+/// the error of the header; then nothing is stored.
 pub(crate) fn store_lenient_details<'a, T: ReplyDetails<'a>>(
     payload: &'a [u8],
     details: &mut T,
+    later: &mut [u8],
     rejections: &mut Rejections,
 ) -> u32
-    ensures details { result ≡ 0
-        → LenientDetailsAre T.family payload.entry.now (details.new, rejections.new) }
-    ensures error { result ≢ 0 → IsCodeOf (IsHeaderError T.family payload.entry.now) result }
-    ensures unchanged { result ≢ 0
-        → (details.new ≡ details.old) × (rejections.new ≡ rejections.old) }
+    ensures { StoresLenientDetails T.family payload.entry.now record {
+      old = ((details.old, rejections.old), later.old);
+      new = ((details.new, rejections.new), later.new);
+      returned = result;
+    } }
 {
-    store_parsed(lenient_details::<T>(payload, rejections), details)
+    let (found, attributes) = match T::parse_header(payload) {
+        Ok(parts) => parts,
+        Err(error) => return u32::from(error.number()),
+    };
+    // The struct of the caller is filled in place: it is not copied.
+    *details = found;
+    let mut errors = Errors::default();
+    set_values(attributes, details, &mut errors);
+    *rejections = errors.rejections;
+    copy_padded(&[], later);
+    OK
 }
 
-// Parses the reply. Returns its contents, and stores the codes of its errors in the rejections.
-// Fails with the error of the header; then the rejections are unchanged.
-fn lenient_details<'a, T: ReplyDetails<'a>>(
-    payload: &'a [u8],
-    rejections: &mut Rejections,
-) -> Result<T, DecodeError>
-    ensures details { IfOk result (λ details.
-        LenientDetailsAre T.family payload.entry.now (details, rejections.new)) }
-    ensures error { IfErr result (IsHeaderError T.family payload.entry.now) }
-    ensures unchanged { IfErr result (λ _. rejections.new ≡ rejections.old) }
+// Stores the fields of later versions, of which the library knows none, if the code is that of
+// success. Returns the code.
+#[inline(always)]
+fn clear_later(code: u32, later: &mut [u8]) -> u32
+    ensures code { result ≡ code }
+    ensures zeros { code ≡ 0 → later.new ≡ padded_or_truncated (length later.old) [] }
+    ensures unchanged { code ≢ 0 → later.new ≡ later.old }
 {
-    let (mut details, attributes) = T::parse_header(payload)?;
-    let mut errors = Errors::default();
-    set_values(attributes, &mut details, &mut errors);
-    *rejections = errors.rejections;
-    Ok(details)
+    if code == OK {
+        copy_padded(&[], later);
+    }
+    code
 }
 
 // Reads each attribute up to a framing error. Sets the fields of the valid ones, unless they are

@@ -1,6 +1,6 @@
 //! Decode errors with their fields, as a C struct. The other calls return the code only.
 
-ghost use Rattle.std.specs.Prelude.{◌≡◌, ◌<◌, MatchResult};
+ghost use Rattle.std.specs.Prelude.{◌≡◌, ◌≢◌, ◌⊎◌, [], MatchResult, length};
 ghost use Rattle.netlink_core.specs.Errors.{error_code};
 ghost use Rattle.netlink_core.specs.Header.{HasHeader, IsMessageError};
 ghost use Rattle.netlink_core.specs.Response.{response_codec};
@@ -9,15 +9,16 @@ ghost use Rattle.sock_diag_replies.specs.InetResponseSpec.{inet_response_spec};
 ghost use Rattle.sock_diag_replies.specs.UnixResponseSpec.{unix_response_spec};
 ghost use Rattle.sock_diag_attributes.specs.InetAttributes.{inet_attribute_set};
 ghost use Rattle.sock_diag_attributes.specs.UnixAttributes.{unix_attribute_set};
+ghost use Rattle.sockdiag_c.specs.Answers.{padded_or_truncated};
 ghost use Rattle.sockdiag_c.specs.ErrorDetails.{IsExplained, IsItemExplained, error_details_of};
-ghost use Rattle.sockdiag_c.specs.ExplainedReplies.{IsReplyExplained};
+ghost use Rattle.sockdiag_c.specs.ExplainedReplies.{IsErrorExplained, IsReplyExplained};
 ghost use Rattle.sockdiag_c.specs.ErrorDetails.{record_code, record_family, record_kind};
 ghost use Rattle.sockdiag_c.specs.Family.{AreDetailsOf, IsFirstError};
 
-use crate::check::OK;
 use crate::details::{Number, ReplyDetails, strict_details};
 use crate::netlink_details::NetlinkDetails;
 use crate::packet_details::PacketDetails;
+use crate::results::{INVALID_ARGUMENT, OK, copy_padded};
 use crate::xdp_details::XdpDetails;
 use netlink_core::{DecodeError, FamilyView, NetlinkHeader, NlasIterator, RecordName};
 use netlink_packet_sock_diag::constants::{AF_INET, AF_INET6, AF_UNIX, SOCK_DIAG_BY_FAMILY};
@@ -45,7 +46,7 @@ pub(crate) const EXPLAIN_INET_ATTRIBUTE: u32 = 259;
 #[repr(C)]
 #[derive(Clone, Copy, Default)]
 pub struct ErrorDetails {
-    /// Code of the error, one of `enum sockdiag_error`.
+    /// Code of the error, one of `enum sockdiag_code`.
     pub code: u32,
     /// Record that has too few bytes, one of `SOCKDIAG_RECORD_..`
     /// (`SOCKDIAG_BUFFER_TOO_SMALL`). `SOCKDIAG_RECORD_MEM_INFO` is also the memory of a netlink,
@@ -60,7 +61,7 @@ pub struct ErrorDetails {
     /// as memory counters.
     pub kind: Number,
     /// Number of bytes that were found: of the record, value or message; or, for an attribute whose
-    /// header or length field is invalid, up to the end.
+    /// header is cut or whose length field is too large, up to the end.
     pub got: usize,
     /// Number of bytes that are needed.
     pub need: usize,
@@ -154,44 +155,52 @@ fn explain<T: Drop>(parsed: Result<T, DecodeError>, error: &mut ErrorDetails) ->
     }
 }
 
-/// Stores the error of bytes that another call rejected, with its fields. Returns its code; or 0 if
-/// the bytes are accepted, and then the error is unchanged. `what` says what the bytes are:
-/// - a family, such as `AF_INET`: a whole reply about a socket of this family, which
-///   `sockdiag_.._get_details` rejects. It is the first byte of the reply. If it is another family,
-///   the error is `SOCKDIAG_UNKNOWN_FAMILY`;
+/// Stores the error of bytes that another call rejected, with its fields, and returns its code.
+/// Returns 0 if the bytes are accepted; then the error is unchanged. `what` says what the bytes
+/// are:
+/// - a family, such as `AF_INET`: a whole reply about a socket of this family, which is its first
+///   byte, and which `sockdiag_.._get_details` rejects. Another family is
+///   `SOCKDIAG_UNKNOWN_FAMILY`;
 /// - `SOCKDIAG_EXPLAIN_MESSAGE`: the payload of a message of type `SOCK_DIAG_BY_FAMILY`, which
 ///   `sockdiag_next_message` rejects;
-/// - `SOCKDIAG_EXPLAIN_DATAGRAM`: a datagram from the cursor on, whose framing
-///   `sockdiag_next_any_message` rejects;
+/// - `SOCKDIAG_EXPLAIN_DATAGRAM`: the rest of a datagram, from the offset that the cursor had
+///   before `sockdiag_next_any_message` rejected it;
 /// - `SOCKDIAG_EXPLAIN_UNIX_ATTRIBUTE` or `SOCKDIAG_EXPLAIN_INET_ATTRIBUTE`: a part of a reply that
-///   begins with the attribute, which a lenient call rejects. No bytes are accepted;
-/// - any other number: returns 0.
+///   begins with an attribute, which a lenient call rejects. Only this attribute is checked.
+///
+/// Any other number is `SOCKDIAG_INVALID_ARGUMENT`.
 #[unsafe(no_mangle)]
-pub extern "C" fn sockdiag_explain(what: u32, bytes: &[u8], error: &mut ErrorDetails) -> u32
-    ensures reply { what < 256 → IsReplyExplained what bytes.now
+pub extern "C" fn sockdiag_fill_explain(
+    what: u32,
+    bytes: &[u8],
+    error: &mut ErrorDetails,
+    later: &mut [u8],
+) -> u32
+    ensures error { IsErrorExplained what bytes.now
         record { old = error.old; new = error.new; returned = result } }
-    ensures message { what ≡ EXPLAIN_MESSAGE
-        → IsExplained (message_codec.parses bytes.now SOCK_DIAG_BY_FAMILY)
-        (message_codec.rejects bytes.now SOCK_DIAG_BY_FAMILY)
+    ensures later { result ≢ 0 → result ≢ INVALID_ARGUMENT
+        → later.new ≡ padded_or_truncated (length later.old) [] }
+    ensures unchanged { (result ≡ 0) ⊎ (result ≡ INVALID_ARGUMENT) → later.new ≡ later.old }
+{
+    let code = explain_bytes(what, bytes, error);
+    if code != OK && code != INVALID_ARGUMENT {
+        copy_padded(&[], later);
+    }
+    code
+}
+
+// Explains the first error of the bytes, which are what `what` says.
+fn explain_bytes(what: u32, bytes: &[u8], error: &mut ErrorDetails) -> u32
+    ensures { IsErrorExplained what bytes.now
         record { old = error.old; new = error.new; returned = result } }
-    ensures datagram { what ≡ EXPLAIN_DATAGRAM
-        → IsExplained (HasHeader bytes.now) (IsMessageError bytes.now)
-        record { old = error.old; new = error.new; returned = result } }
-    ensures unix_attribute { what ≡ EXPLAIN_UNIX_ATTRIBUTE
-        → IsItemExplained unix_attribute_set bytes.now
-        record { old = error.old; new = error.new; returned = result } }
-    ensures inet_attribute { what ≡ EXPLAIN_INET_ATTRIBUTE
-        → IsItemExplained inet_attribute_set bytes.now
-        record { old = error.old; new = error.new; returned = result } }
-    ensures other { EXPLAIN_INET_ATTRIBUTE < what → (result ≡ 0) × (error.new ≡ error.old) }
 {
     match what {
         EXPLAIN_MESSAGE => explain_message(bytes, error),
         EXPLAIN_DATAGRAM => explain_datagram(bytes, error),
         EXPLAIN_UNIX_ATTRIBUTE => explain_item::<UnixNlaView<'_>>(bytes, error),
         EXPLAIN_INET_ATTRIBUTE => explain_item::<InetNlaView<'_>>(bytes, error),
-        _ if what < 256 => explain_reply(what as u8, bytes, error),
-        _ => OK,
+        _ if what < EXPLAIN_MESSAGE => explain_reply(what as u8, bytes, error),
+        _ => INVALID_ARGUMENT,
     }
 }
 

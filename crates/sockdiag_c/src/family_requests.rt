@@ -2,9 +2,13 @@
 
 ghost use Rattle.std.specs.Prelude.{◌≡◌, ◌≢◌, ◌⊎◌};
 ghost use Rattle.sockdiag_c.specs.FamilyRequests.{show_message, show_request_from_c, vsock_message};
+ghost use Rattle.netlink_core.specs.Errors.{error_code};
 ghost use Rattle.sockdiag_c.specs.Requests.{WritesMessage};
+ghost use Rattle.sockdiag_c.specs.Rewriting.{WritesNothing};
 
 use crate::requests::{RequestHeader, write_message};
+use crate::rewriting::reject;
+use netlink_core::DecodeError;
 use netlink_packet_sock_diag::constants::SOCK_DIAG_BY_FAMILY;
 use netlink_packet_sock_diag::{AF_NETLINK, AF_PACKET};
 use sock_diag_families::vsock;
@@ -50,43 +54,79 @@ pub struct VsockRequest {
 
 const _: () = prove!(std::mem::size_of::<VsockRequest>() == 24);
 
-/// Writes a request for netlink, packet or XDP sockets: 36 bytes. Returns 36; or 0 if the buffer is
-/// shorter, or if the family is none of `AF_NETLINK`, `AF_PACKET` and `AF_XDP`.
+/// Writes a request for netlink, packet or XDP sockets: 36 bytes. A family other than `AF_NETLINK`,
+/// `AF_PACKET` and `AF_XDP` is `SOCKDIAG_UNKNOWN_FAMILY`.
 #[unsafe(no_mangle)]
-pub extern "C" fn sockdiag_write_show_request(request: &ShowRequest, buffer: &mut [u8]) -> usize
-    ensures written { (request.now.family ≡ AF_NETLINK) ⊎ ((request.now.family ≡ AF_PACKET)
+pub extern "C" fn sockdiag_write_show_request(
+    request: &ShowRequest,
+    buffer: &mut [u8],
+    written: &mut usize,
+) -> u32
+    ensures message { (request.now.family ≡ AF_NETLINK) ⊎ ((request.now.family ≡ AF_PACKET)
         ⊎ (request.now.family ≡ AF_XDP)) → WritesMessage 36
-        (show_message request.now.family request.now)
-        record { old = buffer.old; new = buffer.new; returned = result } }
+        (show_message request.now.family request.now) record {
+          old = buffer.old;
+          new = buffer.new;
+          written = written.new;
+          returned = result;
+        } }
     ensures family { request.now.family ≢ AF_NETLINK → request.now.family ≢ AF_PACKET
-        → request.now.family ≢ AF_XDP → (result ≡ 0) × (buffer.new ≡ buffer.old) }
+        → request.now.family ≢ AF_XDP
+        → WritesNothing 0 (error_code (DecodeError.UnknownFamily request.now.family)) record {
+          old = buffer.old;
+          new = buffer.new;
+          written = written.new;
+          returned = result;
+        } }
 {
     match request.family {
-        AF_NETLINK => write_show::<AF_NETLINK>(request, buffer),
-        AF_PACKET => write_show::<AF_PACKET>(request, buffer),
-        AF_XDP => write_show::<AF_XDP>(request, buffer),
-        _ => 0,
+        AF_NETLINK => write_show::<AF_NETLINK>(request, buffer, written),
+        AF_PACKET => write_show::<AF_PACKET>(request, buffer, written),
+        AF_XDP => write_show::<AF_XDP>(request, buffer, written),
+        family => reject(&DecodeError::UnknownFamily { family }, written),
     }
 }
 
-/// Writes a request for vsock sockets: 40 bytes. Returns 40, or 0 if the buffer is shorter.
+/// Writes a request for vsock sockets: 40 bytes.
 #[unsafe(no_mangle)]
-pub extern "C" fn sockdiag_write_vsock_request(request: &VsockRequest, buffer: &mut [u8]) -> usize
-    ensures { WritesMessage 40 (vsock_message request.now)
-        record { old = buffer.old; new = buffer.new; returned = result } }
+pub extern "C" fn sockdiag_write_vsock_request(
+    request: &VsockRequest,
+    buffer: &mut [u8],
+    written: &mut usize,
+) -> u32
+    ensures { WritesMessage 40 (vsock_message request.now) record {
+      old = buffer.old;
+      new = buffer.new;
+      written = written.new;
+      returned = result;
+    } }
 {
     let record = vsock::VsockRequest {
         states: request.states,
         cookie: request.cookie,
     };
-    write_message(SOCK_DIAG_BY_FAMILY, &request.header, &record, &[], buffer)
+    write_message(
+        SOCK_DIAG_BY_FAMILY,
+        &request.header,
+        &record,
+        &[],
+        buffer,
+        written,
+    )
 }
 
-// Writes a request for the sockets of this family. Returns 36, or 0 if the buffer is shorter; then
-// nothing is written.
-fn write_show<const FAMILY: u8>(request: &ShowRequest, buffer: &mut [u8]) -> usize
-    ensures { WritesMessage 36 (show_message FAMILY request.now)
-        record { old = buffer.old; new = buffer.new; returned = result } }
+// Writes a request for the sockets of this family, of 36 bytes.
+fn write_show<const FAMILY: u8>(
+    request: &ShowRequest,
+    buffer: &mut [u8],
+    written: &mut usize,
+) -> u32
+    ensures { WritesMessage 36 (show_message FAMILY request.now) record {
+      old = buffer.old;
+      new = buffer.new;
+      written = written.new;
+      returned = result;
+    } }
 {
     let record = sock_diag_families::ShowRequest::<FAMILY> {
         protocol: request.protocol,
@@ -94,5 +134,12 @@ fn write_show<const FAMILY: u8>(request: &ShowRequest, buffer: &mut [u8]) -> usi
         show: request.show,
         cookie: request.cookie,
     };
-    write_message(SOCK_DIAG_BY_FAMILY, &request.header, &record, &[], buffer)
+    write_message(
+        SOCK_DIAG_BY_FAMILY,
+        &request.header,
+        &record,
+        &[],
+        buffer,
+        written,
+    )
 }

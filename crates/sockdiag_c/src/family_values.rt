@@ -1,21 +1,14 @@
-//! Memory counters and records as C structs; and helpers that split a header off a payload, decode
-//! an attribute, and store a value for C. In the contracts `o` is the value before a call, or None.
+//! Memory counters and records as C structs, and a helper that splits a header off a payload. In
+//! the contracts `o` is the value before a call, or None.
 
 ghost use Rattle.std.specs.Prelude.{◌≡◌, drop, IfErr, IfOk, Ok, Err, Option, Some};
 ghost use Rattle.std.specs.Option.{option_or};
-ghost use Rattle.netlink_core.specs.Errors.{map_ok};
 ghost use Rattle.netlink_core.specs.Layout.{parse_record};
-ghost use Rattle.netlink_core.specs.Walk.{buffered_attribute};
 ghost use Rattle.sock_diag_values.specs.declared.inet.mem_info.MemInfo.{MemInfo as MemInfoModel};
-ghost use Rattle.sock_diag_extras.specs.AnyNla.{any_model, read_any};
-ghost use Rattle.sockdiag_c.specs.Answers.{IsGetterResult};
-ghost use Rattle.sockdiag_c.specs.CheckedKinds.{rejected_if};
 ghost use Rattle.sockdiag_c.specs.Details.{memory_struct, optional_number, optional_record};
 
 use crate::details::Number;
-use crate::walks::{END, ITEM};
-use netlink_core::{DecodeError, NlaBuffer, Record, read_record};
-use sock_diag_extras::any::{AnyNla, Sockets};
+use netlink_core::{DecodeError, Record, read_record};
 use sock_diag_values::inet::MemInfo;
 
 /// Memory of a socket: the fields `SK_MEMINFO_..` of `linux/sock_diag.h`. A reply contains the
@@ -94,38 +87,6 @@ pub(crate) fn set_record<T: Copy>(found: T, is_set: &mut u32, record: &mut T)
     if *is_set == 0 {
         *is_set = 1;
         *record = found;
-    }
-}
-
-/// Returns the error of an attribute with an invalid value. If it is not checked, returns
-/// `AnyNla::Unknown`, and no error.
-pub(crate) fn reject<'a>(
-    is_checked: bool,
-    nla: &NlaBuffer<'a>,
-    error: DecodeError,
-) -> Result<AnyNla<'a>, DecodeError>
-    ensures { map_ok any_model result
-        ≡ rejected_if is_checked (buffered_attribute nla.now) (Err error) }
-{
-    if is_checked {
-        Err(error)
-    } else {
-        Ok(AnyNla::Unknown(*nla))
-    }
-}
-
-/// Stores the record, if there is one. Returns 1, or 0 if there is none; then the target is
-/// unchanged.
-pub(crate) fn store<T: Copy>(found: Option<T>, target: &mut T) -> u32
-    ensures { IsGetterResult found
-        record { old = target.old; new = target.new; returned = result } }
-{
-    match found {
-        Some(item) => {
-            *target = item;
-            ITEM
-        }
-        None => END,
     }
 }
 

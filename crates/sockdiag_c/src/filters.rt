@@ -14,7 +14,7 @@ ghost use Rattle.sockdiag_c.specs.Requests.{request_with_attributes, with_paddin
 ghost use Rattle.sockdiag_c.specs.Rewriting.{ParsesAndWrites};
 
 use crate::requests::{InetRequest, write_inet};
-use crate::rewriting::{Outcome, reject, write_value};
+use crate::rewriting::{reject, write_value};
 use attribute_lists::check_nlas;
 use byteorder::{ByteOrder, LittleEndian};
 use netlink_core::{DecodeError, Emitable, NETLINK_HEADER_LEN, padded};
@@ -23,9 +23,9 @@ use netlink_packet_sock_diag::inet::INET_REQUEST_LEN;
 use sock_diag_families::RawNla;
 
 /// Writes a request as `sockdiag_write_inet_request` does, followed by the attributes and by zeros
-/// up to a multiple of 4. Returns the number of bytes that were written, or 0: see `outcome`. The
-/// bytes have to be a sequence of complete attributes, whose values are not checked. If the family
-/// is neither `AF_INET` nor `AF_INET6`, `outcome.error` is `SOCKDIAG_UNSUPPORTED_FAMILY`.
+/// up to a multiple of 4. The bytes have to be a sequence of complete attributes, whose values are
+/// not checked: else the error is that of their framing. `SOCKDIAG_TOO_LONG` is returned for
+/// attributes of 4 GiB.
 ///
 /// One such attribute is the bytecode of a filter, `INET_DIAG_REQ_BYTECODE`, which the kernel runs
 /// on each socket. It answers with `-EINVAL` if a jump of the filter leads into the middle of an
@@ -36,26 +36,26 @@ pub extern "C" fn sockdiag_write_inet_request_with_attributes(
     request: &InetRequest,
     attributes: &[u8],
     buffer: &mut [u8],
-    outcome: &mut Outcome,
-) -> usize
+    written: &mut usize,
+) -> u32
     ensures { ParsesAndWrites (filtered_request request.now attributes.now) record {
       old = buffer.old;
       new = buffer.new;
-      outcome = outcome.new;
+      written = written.new;
       returned = result;
     } }
 {
     let family = request.family;
     if family != AF_INET && family != AF_INET6 {
-        return reject(&DecodeError::UnsupportedFamily { family }, outcome);
+        return reject(&DecodeError::UnsupportedFamily { family }, written);
     }
     let filtered = FilteredRequest {
         request,
         attributes,
     };
     match check_nlas::<RawNla<'_>>(attributes) {
-        Ok(_) => write_value(&filtered, buffer, outcome),
-        Err(error) => reject(&error, outcome),
+        Ok(_) => write_value(&filtered, buffer, written),
+        Err(error) => reject(&error, written),
     }
 }
 
@@ -114,7 +114,8 @@ fn write_request(len: u32, request: &InetRequest, buffer: &mut [u8])
         ++ record_bytes inet_request (inet_request_from_c request.now)
         ++ protocol_attribute request.now.protocol }
 {
-    write_inet(SOCK_DIAG_BY_FAMILY, request, buffer);
+    let mut written = 0;
+    write_inet(SOCK_DIAG_BY_FAMILY, request, buffer, &mut written);
     // `write_inet` has written the length of the request alone.
     LittleEndian::write_u32(buffer, len);
 }

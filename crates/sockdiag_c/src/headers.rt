@@ -4,9 +4,10 @@ ghost use Rattle.std.specs.Prelude.{◌≡◌, ◌≤◌, length};
 ghost use Rattle.sock_diag_extras.specs.AnyHeader.{timer_at};
 ghost use Rattle.sockdiag_c.specs.Headers.{address_octets_of, inet_header_of, unix_header_of};
 
-use byteorder::{BigEndian, ByteOrder, LittleEndian};
+use byteorder::{BigEndian, ByteOrder};
 use netlink_packet_sock_diag::inet::{INET_RESPONSE_HEADER_LEN, InetResponseHeader};
 use netlink_packet_sock_diag::unix::UnixResponseHeader;
+use sock_diag_extras::any::RawTimer;
 use std::net::IpAddr;
 
 /// Header of a reply about a UNIX socket: `struct unix_diag_msg` of sock_diag(7).
@@ -113,12 +114,13 @@ pub(crate) fn inet_header(payload: &[u8], header: InetResponseHeader) -> InetHea
 {
     let id = header.socket_id;
     let cookie = id.cookie;
+    let timer = RawTimer::parse(payload);
     InetHeader {
         family: header.family,
         state: header.state,
-        timer: payload[2],
-        retransmits: payload[3],
-        expires: LittleEndian::read_u32(&payload[52..]),
+        timer: timer.kind,
+        retransmits: timer.retransmits,
+        expires: timer.expires,
         source_port: id.source_port,
         destination_port: id.destination_port,
         source_address: address_octets(id.source_address),

@@ -1,20 +1,23 @@
 //! The contents of a reply about an IPv4 or IPv6 socket as a C struct, except for its connection,
 //! `INET_DIAG_INFO`.
 
-ghost use Rattle.std.specs.Prelude.{◌≡◌, ◌≢◌};
-ghost use Rattle.netlink_core.specs.Attribute.{Attribute, attribute_kind};
+ghost use Rattle.std.specs.Prelude.{◌≡◌, Err};
+ghost use Rattle.netlink_core.specs.Errors.{map_ok};
+ghost use Rattle.netlink_core.specs.Walk.{buffered_attribute};
 ghost use Rattle.sock_diag_attributes.specs.InetAttributes.{inet_attribute_set};
-ghost use Rattle.sock_diag_extras.specs.AnyAgreement.{has_kind};
-ghost use Rattle.sock_diag_extras.specs.AnyNla.{any_model};
-ghost use Rattle.sockdiag_c.specs.Family.{AreDetailsOf, IsCodeOf, IsFirstError};
+ghost use Rattle.sock_diag_extras.specs.AnyNla.{any_model, read_any};
+ghost use Rattle.sock_diag_extras.specs.declared.any.nla.InfoFormat.TheVariants.{Unknown};
+ghost use Rattle.sock_diag_extras.specs.declared.any.nla.Sockets.TheVariants.{Inet};
+ghost use Rattle.sockdiag_c.specs.CheckedKinds.{read_checked};
+ghost use Rattle.sockdiag_c.specs.Family.{StoresDetails};
 ghost use Rattle.sockdiag_c.specs.InetDetails.{inet_family, legacy_memory_struct};
 
 use crate::details::{Number, ReplyDetails, TEXT, Text, store_details};
-use crate::family_values::{Memory, reject, set_record};
+use crate::family_values::{Memory, set_record};
 use crate::headers::{InetHeader, inet_header};
 use netlink_core::{DecodeError, NlaBuffer};
-use netlink_packet_sock_diag::constants::*;
 use netlink_packet_sock_diag::inet::{INET_RESPONSE_HEADER_LEN, InetResponseHeader};
+use sock_diag_attributes::inet::nlas::NlaView as InetNlaView;
 use sock_diag_extras::any::{AnyNla, InfoFormat, Sockets};
 use sock_diag_values::inet::LegacyMemInfo;
 
@@ -78,19 +81,21 @@ pub struct InetDetails<'a> {
 
 const _: () = prove!(std::mem::size_of::<InetDetails<'static>>() == 264);
 
-/// Parses a reply about an IPv4 or IPv6 socket. Returns 0, or the code of its first error; then the
-/// details are unchanged. `INET_DIAG_INFO` is checked, and not returned:
+/// Parses a reply about an IPv4 or IPv6 socket. `INET_DIAG_INFO` is checked, and not returned:
 /// `sockdiag_inet_get_tcp_info` returns it.
 #[unsafe(no_mangle)]
-pub extern "C" fn sockdiag_inet_get_details<'a>(
+pub extern "C" fn sockdiag_inet_fill_details<'a>(
     payload: &'a [u8],
     details: &mut InetDetails<'a>,
+    later: &mut [u8],
 ) -> u32
-    ensures details { result ≡ 0 → AreDetailsOf inet_family payload.entry.now details.new }
-    ensures error { result ≢ 0 → IsCodeOf (IsFirstError inet_family payload.entry.now) result }
-    ensures unchanged { result ≢ 0 → details.new ≡ details.old }
+    ensures { StoresDetails inet_family payload.entry.now record {
+      old = (details.old, later.old);
+      new = (details.new, later.new);
+      returned = result;
+    } }
 {
-    store_details(payload, details)
+    store_details(payload, details, later)
 }
 
 impl From<LegacyMemInfo> for LegacyMemory {
@@ -127,7 +132,7 @@ impl<'a> ReplyDetails<'a> for InetDetails<'a> {
     fn read(nla: &NlaBuffer<'a>) -> Result<AnyNla<'a>, DecodeError> {
         match AnyNla::read(Sockets::Inet(InfoFormat::Unknown), nla) {
             Ok(value) => Ok(value),
-            Err(error) => reject(is_checked(nla.kind()), nla, error),
+            Err(_) => reject_if_checked(nla),
         }
     }
 
@@ -156,20 +161,17 @@ impl<'a> ReplyDetails<'a> for InetDetails<'a> {
     }
 }
 
-// Returns whether the kind is one that `sockdiag_check_inet_reply` checks.
-fn is_checked(kind: u16) -> bool
-    ensures { (a : Attribute) → attribute_kind a ≡ kind
-        → result ≡ has_kind inet_attribute_set a }
+// Returns the error of an attribute with an invalid value. If the checks do not know its kind,
+// returns `AnyNla::Unknown`, and no error.
+#[inline(always)]
+fn reject_if_checked<'a>(nla: &NlaBuffer<'a>) -> Result<AnyNla<'a>, DecodeError>
+    // An attribute with a valid value is not passed.
+    ensures { let a = buffered_attribute nla.now in (e : DecodeError)
+        → read_any (Inet Unknown) a ≡ Err e
+        → map_ok any_model result ≡ read_checked inet_attribute_set (Inet Unknown) a }
 {
-    kind == INET_DIAG_MEMINFO
-        || kind == INET_DIAG_INFO
-        || kind == INET_DIAG_CONG
-        || kind == INET_DIAG_TOS
-        || kind == INET_DIAG_TCLASS
-        || kind == INET_DIAG_SKMEMINFO
-        || kind == INET_DIAG_SHUTDOWN
-        || kind == INET_DIAG_PROTOCOL
-        || kind == INET_DIAG_SKV6ONLY
-        || kind == INET_DIAG_MARK
-        || kind == INET_DIAG_CLASS_ID
+    match InetNlaView::parse(nla) {
+        Ok(_) => Ok(AnyNla::Unknown(*nla)),
+        Err(error) => Err(error),
+    }
 }

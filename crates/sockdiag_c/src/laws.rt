@@ -16,6 +16,7 @@ ghost use Rattle.sockdiag_c.specs.PacketDetails.{packet_family};
 ghost use Rattle.sockdiag_c.specs.UnixDetails.{unix_family};
 ghost use Rattle.sockdiag_c.specs.VsockDetails.{vsock_family};
 ghost use Rattle.sockdiag_c.specs.XdpDetails.{xdp_family};
+ghost use Rattle.sockdiag_c.specs.declared.results.TheConstants.{END, ITEM};
 ghost use Rattle.sockdiag_c.specs.declared.walks.AttributeRange.{AttributeRange};
 ghost use Rattle.sockdiag_c.specs.declared.walks.MessageRange.{MessageRange};
 ghost use Rattle.sockdiag_c.specs.Walks.{IterationStep, StepsOverAttribute, StepsOverMessage};
@@ -23,23 +24,24 @@ ghost use Rattle.sockdiag_c.specs.Walks.{StoresCheckedMessage, attribute_in, byt
 ghost use Rattle.sockdiag_c.specs.Walks.{bytes_before_step};
 
 /// States that a call of `sockdiag_next_attribute` returns the first of the attributes left, and
-/// leaves the others (`next`); and that it returns 0 if none is left (`end`). The bytes left have
+/// leaves the others (`next`); and that it returns END if none is left (`end`). The bytes left have
 /// to be a sequence of attributes, as those after the header of an accepted reply are.
 pub fn a_step_passes_the_first_attribute()
     ensures next { (step : IterationStep AttributeRange)
         (first : Attribute) (later : List Attribute)
         → SplitsIntoAttributes (bytes_before_step step) (first ∷ later) []
         → StepsOverAttribute step
-        → (step.returned ≡ 1) × (attribute_in step.bytes step.new_item ≡ first)
+        → (step.returned ≡ ITEM) × (attribute_in step.bytes step.new_item ≡ first)
         × SplitsIntoAttributes (bytes_after_step step) later [] }
     ensures end { (step : IterationStep AttributeRange)
         → SplitsIntoAttributes (bytes_before_step step) [] []
-        → StepsOverAttribute step → step.returned ≡ 0 }
+        → StepsOverAttribute step → step.returned ≡ END }
 {}
 
 /// States that a call of `sockdiag_next_message` stores the first message of the bytes left, and
-/// leaves the others (`next`); that it returns 0 if no bytes are left (`end`); and that it returns
-/// the code of the framing error if bytes are left that do not begin with a message (`error`).
+/// leaves the others (`next`); that it returns END if no bytes are left (`end`); and that it
+/// returns the code of the framing error if bytes are left that do not begin with a message
+/// (`error`).
 pub fn a_step_passes_the_first_message()
     ensures next { (step : IterationStep MessageRange)
         (message : List ℕ) (later : List (List ℕ)) (end : Option DecodeError)
@@ -50,7 +52,7 @@ pub fn a_step_passes_the_first_message()
     ensures end { (step : IterationStep MessageRange)
         → IsBytes (bytes_before_step step)
         → SplitsIntoMessages (bytes_before_step step) [] None
-        → StepsOverMessage step → step.returned ≡ 0 }
+        → StepsOverMessage step → step.returned ≡ END }
     ensures error { (step : IterationStep MessageRange) (e : DecodeError)
         → IsBytes (bytes_before_step step)
         → SplitsIntoMessages (bytes_before_step step) [] (Some e)

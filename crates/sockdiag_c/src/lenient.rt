@@ -5,8 +5,7 @@ ghost use Rattle.std.specs.Prelude.{◌≡◌, ◌≢◌, ◌<◌, ◌==◌, if�
 ghost use Rattle.std.specs.Prelude.{slice_index};
 ghost use Rattle.std.specs.Option.{option_or};
 ghost use Rattle.netlink_core.specs.declared.error.DecodeError.{DecodeError};
-ghost use Rattle.sockdiag_c.specs.Family.{IsCodeOf, IsHeaderError, LenientDetailsAre};
-ghost use Rattle.sockdiag_c.specs.Family.{optional_code};
+ghost use Rattle.sockdiag_c.specs.Family.{StoresLenientDetails, optional_code};
 ghost use Rattle.sockdiag_c.specs.InetDetails.{inet_family};
 ghost use Rattle.sockdiag_c.specs.NetlinkDetails.{netlink_family};
 ghost use Rattle.sockdiag_c.specs.PacketDetails.{packet_family};
@@ -39,8 +38,7 @@ pub const REJECTION_KINDS: usize = 32;
 ///   `INET_DIAG_CLASS_ID` (17);
 /// - netlink sockets: `NETLINK_DIAG_MEMINFO` (0) and `NETLINK_DIAG_FLAGS` (4) of
 ///   `linux/netlink_diag.h`;
-/// - packet sockets: `PACKET_DIAG_INFO` (0), `PACKET_DIAG_RX_RING` (2), `PACKET_DIAG_TX_RING` (3),
-///   `PACKET_DIAG_FANOUT` (4), `PACKET_DIAG_UID` (5) and `PACKET_DIAG_MEMINFO` (6) of
+/// - packet sockets: 0 to 7, from `PACKET_DIAG_INFO` to `PACKET_DIAG_FILTER` of
 ///   `linux/packet_diag.h`;
 /// - vsock sockets: none;
 /// - XDP sockets: 1 to 9, from `XDP_DIAG_INFO` to `XDP_DIAG_STATS` of `linux/xdp_diag.h`.
@@ -109,107 +107,107 @@ impl Errors {
     }
 }
 
-/// Parses a reply about a UNIX socket leniently. Returns 0, or the code of the error of its header;
-/// then details and rejections are unchanged.
+/// Parses a reply about a UNIX socket leniently.
 #[unsafe(no_mangle)]
-pub extern "C" fn sockdiag_unix_get_lenient_details<'a>(
+pub extern "C" fn sockdiag_unix_fill_lenient_details<'a>(
     payload: &'a [u8],
     details: &mut UnixDetails<'a>,
+    later: &mut [u8],
     rejections: &mut Rejections,
 ) -> u32
-    ensures details { result ≡ 0
-        → LenientDetailsAre unix_family payload.entry.now (details.new, rejections.new) }
-    ensures error { result ≢ 0 → IsCodeOf (IsHeaderError unix_family payload.entry.now) result }
-    ensures unchanged { result ≢ 0
-        → (details.new ≡ details.old) × (rejections.new ≡ rejections.old) }
+    ensures { StoresLenientDetails unix_family payload.entry.now record {
+      old = ((details.old, rejections.old), later.old);
+      new = ((details.new, rejections.new), later.new);
+      returned = result;
+    } }
 {
-    store_lenient_details(payload, details, rejections)
+    store_lenient_details(payload, details, later, rejections)
 }
 
-/// Parses a reply about an IPv4 or IPv6 socket leniently. Returns 0, or the code of the error of
-/// its header; then details and rejections are unchanged. An `INET_DIAG_INFO` of fewer than 232
+/// Parses a reply about an IPv4 or IPv6 socket leniently. An `INET_DIAG_INFO` of fewer than 232
 /// bytes, as of MPTCP, is in the rejections: `sockdiag_inet_get_tcp_info` and
 /// `sockdiag_inet_get_mptcp_info` return a value of any length.
 #[unsafe(no_mangle)]
-pub extern "C" fn sockdiag_inet_get_lenient_details<'a>(
+pub extern "C" fn sockdiag_inet_fill_lenient_details<'a>(
     payload: &'a [u8],
     details: &mut InetDetails<'a>,
+    later: &mut [u8],
     rejections: &mut Rejections,
 ) -> u32
-    ensures details { result ≡ 0
-        → LenientDetailsAre inet_family payload.entry.now (details.new, rejections.new) }
-    ensures error { result ≢ 0 → IsCodeOf (IsHeaderError inet_family payload.entry.now) result }
-    ensures unchanged { result ≢ 0
-        → (details.new ≡ details.old) × (rejections.new ≡ rejections.old) }
+    ensures { StoresLenientDetails inet_family payload.entry.now record {
+      old = ((details.old, rejections.old), later.old);
+      new = ((details.new, rejections.new), later.new);
+      returned = result;
+    } }
 {
-    store_lenient_details(payload, details, rejections)
+    store_lenient_details(payload, details, later, rejections)
 }
 
-/// Parses a reply about a netlink socket leniently. Returns 0, or the code of the error of its
-/// header; then details and rejections are unchanged.
+/// Parses a reply about a netlink socket leniently.
 #[unsafe(no_mangle)]
-pub extern "C" fn sockdiag_netlink_get_lenient_details<'a>(
+pub extern "C" fn sockdiag_netlink_fill_lenient_details<'a>(
     payload: &'a [u8],
     details: &mut NetlinkDetails<'a>,
+    later: &mut [u8],
     rejections: &mut Rejections,
 ) -> u32
-    ensures details { result ≡ 0
-        → LenientDetailsAre netlink_family payload.entry.now (details.new, rejections.new) }
-    ensures error { result ≢ 0 → IsCodeOf (IsHeaderError netlink_family payload.entry.now) result }
-    ensures unchanged { result ≢ 0
-        → (details.new ≡ details.old) × (rejections.new ≡ rejections.old) }
+    ensures { StoresLenientDetails netlink_family payload.entry.now record {
+      old = ((details.old, rejections.old), later.old);
+      new = ((details.new, rejections.new), later.new);
+      returned = result;
+    } }
 {
-    store_lenient_details(payload, details, rejections)
+    store_lenient_details(payload, details, later, rejections)
 }
 
-/// Parses a reply about a packet socket leniently. Returns 0, or the code of the error of its
-/// header; then details and rejections are unchanged.
+/// Parses a reply about a packet socket leniently.
 #[unsafe(no_mangle)]
-pub extern "C" fn sockdiag_packet_get_lenient_details<'a>(
+pub extern "C" fn sockdiag_packet_fill_lenient_details<'a>(
     payload: &'a [u8],
     details: &mut PacketDetails<'a>,
+    later: &mut [u8],
     rejections: &mut Rejections,
 ) -> u32
-    ensures details { result ≡ 0
-        → LenientDetailsAre packet_family payload.entry.now (details.new, rejections.new) }
-    ensures error { result ≢ 0 → IsCodeOf (IsHeaderError packet_family payload.entry.now) result }
-    ensures unchanged { result ≢ 0
-        → (details.new ≡ details.old) × (rejections.new ≡ rejections.old) }
+    ensures { StoresLenientDetails packet_family payload.entry.now record {
+      old = ((details.old, rejections.old), later.old);
+      new = ((details.new, rejections.new), later.new);
+      returned = result;
+    } }
 {
-    store_lenient_details(payload, details, rejections)
+    store_lenient_details(payload, details, later, rejections)
 }
 
-/// Parses a reply about a vsock socket leniently. Returns 0, or the code of the error of its
-/// header; then header and rejections are unchanged. The only rejection can be the framing error of
+/// Parses a reply about a vsock socket leniently. The only rejection can be the framing error of
 /// bytes after the header.
 #[unsafe(no_mangle)]
-pub extern "C" fn sockdiag_vsock_get_lenient_details(
+pub extern "C" fn sockdiag_vsock_fill_lenient_details(
     payload: &[u8],
     details: &mut VsockResponseHeader,
+    later: &mut [u8],
     rejections: &mut Rejections,
 ) -> u32
-    ensures details { result ≡ 0
-        → LenientDetailsAre vsock_family payload.now (details.new, rejections.new) }
-    ensures error { result ≢ 0 → IsCodeOf (IsHeaderError vsock_family payload.now) result }
-    ensures unchanged { result ≢ 0
-        → (details.new ≡ details.old) × (rejections.new ≡ rejections.old) }
+    ensures { StoresLenientDetails vsock_family payload.now record {
+      old = ((details.old, rejections.old), later.old);
+      new = ((details.new, rejections.new), later.new);
+      returned = result;
+    } }
 {
-    store_lenient_details(payload, details, rejections)
+    store_lenient_details(payload, details, later, rejections)
 }
 
-/// Parses a reply about an XDP socket leniently. Returns 0, or the code of the error of its header;
-/// then details and rejections are unchanged.
+/// Parses a reply about an XDP socket leniently.
 #[unsafe(no_mangle)]
-pub extern "C" fn sockdiag_xdp_get_lenient_details(
+pub extern "C" fn sockdiag_xdp_fill_lenient_details(
     payload: &[u8],
     details: &mut XdpDetails,
+    later: &mut [u8],
     rejections: &mut Rejections,
 ) -> u32
-    ensures details { result ≡ 0
-        → LenientDetailsAre xdp_family payload.now (details.new, rejections.new) }
-    ensures error { result ≢ 0 → IsCodeOf (IsHeaderError xdp_family payload.now) result }
-    ensures unchanged { result ≢ 0
-        → (details.new ≡ details.old) × (rejections.new ≡ rejections.old) }
+    ensures { StoresLenientDetails xdp_family payload.now record {
+      old = ((details.old, rejections.old), later.old);
+      new = ((details.new, rejections.new), later.new);
+      returned = result;
+    } }
 {
-    store_lenient_details(payload, details, rejections)
+    store_lenient_details(payload, details, later, rejections)
 }

@@ -21,6 +21,7 @@ mod messages;
 mod netlink_details;
 mod packet_details;
 mod requests;
+mod results;
 mod rewriting;
 mod tcp_info;
 mod unix_details;

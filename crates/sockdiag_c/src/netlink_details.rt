@@ -2,7 +2,7 @@
 
 ghost use Rattle.std.specs.Prelude.{◌≡◌, ◌≢◌};
 ghost use Rattle.sock_diag_extras.specs.AnyNla.{any_model};
-ghost use Rattle.sockdiag_c.specs.Family.{AreDetailsOf, IsCodeOf, IsFirstError};
+ghost use Rattle.sockdiag_c.specs.Family.{StoresDetails};
 ghost use Rattle.sockdiag_c.specs.NetlinkDetails.{netlink_family};
 
 use crate::details::{BYTES, Number, ReplyDetails, Text, store_details};
@@ -32,18 +32,21 @@ pub struct NetlinkDetails<'a> {
 
 const _: () = prove!(std::mem::size_of::<NetlinkDetails<'static>>() == 136);
 
-/// Parses a reply about a netlink socket. Returns 0, or the code of its first error; then the
-/// details are unchanged. Linux 6.18 lists a netlink socket twice if it is a member of a group.
+/// Parses a reply about a netlink socket. Linux 6.18 lists a netlink socket twice if it is a member
+/// of a group.
 #[unsafe(no_mangle)]
-pub extern "C" fn sockdiag_netlink_get_details<'a>(
+pub extern "C" fn sockdiag_netlink_fill_details<'a>(
     payload: &'a [u8],
     details: &mut NetlinkDetails<'a>,
+    later: &mut [u8],
 ) -> u32
-    ensures details { result ≡ 0 → AreDetailsOf netlink_family payload.entry.now details.new }
-    ensures error { result ≢ 0 → IsCodeOf (IsFirstError netlink_family payload.entry.now) result }
-    ensures unchanged { result ≢ 0 → details.new ≡ details.old }
+    ensures { StoresDetails netlink_family payload.entry.now record {
+      old = (details.old, later.old);
+      new = (details.new, later.new);
+      returned = result;
+    } }
 {
-    store_details(payload, details)
+    store_details(payload, details, later)
 }
 
 impl<'a> ReplyDetails<'a> for NetlinkDetails<'a> {

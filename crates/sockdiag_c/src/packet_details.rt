@@ -2,7 +2,7 @@
 
 ghost use Rattle.std.specs.Prelude.{◌≡◌, ◌≢◌};
 ghost use Rattle.sock_diag_extras.specs.AnyNla.{any_model};
-ghost use Rattle.sockdiag_c.specs.Family.{AreDetailsOf, IsCodeOf, IsFirstError};
+ghost use Rattle.sockdiag_c.specs.Family.{StoresDetails};
 ghost use Rattle.sockdiag_c.specs.PacketDetails.{packet_family};
 
 use crate::details::{BYTES, Number, ReplyDetails, Text, store_details};
@@ -28,9 +28,9 @@ pub struct PacketDetails<'a> {
     pub has_info: u32,
     /// Settings of the socket (`PACKET_DIAG_INFO`, type 0).
     pub info: PacketInfo,
-    /// Memberships of the socket (`PACKET_ADD_MEMBERSHIP`, packet(7)), 44 bytes each, `struct
-    /// packet_diag_mclist` (`PACKET_DIAG_MCLIST`, type 1): addresses that it also receives, and
-    /// promiscuous or all-multicast mode, which have no address. The kind of the text is
+    /// Memberships of the socket (`PACKET_ADD_MEMBERSHIP`, packet(7); `PACKET_DIAG_MCLIST`, type
+    /// 1), 44 bytes each, which `sockdiag_next_membership` reads: addresses that it also receives,
+    /// and promiscuous or all-multicast mode, which have no address. The kind of the text is
     /// `SOCKDIAG_BYTES`.
     pub addresses: Text<'a>,
     /// 1 if `receive_ring` is set, else 0.
@@ -48,25 +48,27 @@ pub struct PacketDetails<'a> {
     pub owner: Number,
     /// Socket memory (`PACKET_DIAG_MEMINFO`, type 6).
     pub memory: Memory,
-    /// Instructions of the socket filter, 8 bytes each, `struct sock_filter` (`PACKET_DIAG_FILTER`,
-    /// type 7). The kind of the text is `SOCKDIAG_BYTES`.
+    /// Instructions of the socket filter (`PACKET_DIAG_FILTER`, type 7), 8 bytes each, which
+    /// `sockdiag_next_instruction` reads. The kind of the text is `SOCKDIAG_BYTES`.
     pub filter: Text<'a>,
 }
 
 const _: () = prove!(std::mem::size_of::<PacketDetails<'static>>() == 248);
 
-/// Parses a reply about a packet socket. Returns 0, or the code of its first error; then the
-/// details are unchanged.
+/// Parses a reply about a packet socket.
 #[unsafe(no_mangle)]
-pub extern "C" fn sockdiag_packet_get_details<'a>(
+pub extern "C" fn sockdiag_packet_fill_details<'a>(
     payload: &'a [u8],
     details: &mut PacketDetails<'a>,
+    later: &mut [u8],
 ) -> u32
-    ensures details { result ≡ 0 → AreDetailsOf packet_family payload.entry.now details.new }
-    ensures error { result ≢ 0 → IsCodeOf (IsFirstError packet_family payload.entry.now) result }
-    ensures unchanged { result ≢ 0 → details.new ≡ details.old }
+    ensures { StoresDetails packet_family payload.entry.now record {
+      old = (details.old, later.old);
+      new = (details.new, later.new);
+      returned = result;
+    } }
 {
-    store_details(payload, details)
+    store_details(payload, details, later)
 }
 
 impl<'a> ReplyDetails<'a> for PacketDetails<'a> {

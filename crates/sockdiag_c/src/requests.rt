@@ -10,9 +10,11 @@ ghost use Rattle.sockdiag_c.specs.Requests.{WritesInetMessage, WritesMessage, ad
 ghost use Rattle.sockdiag_c.specs.Requests.{inet_request_from_c, protocol_byte, request_header_of};
 ghost use Rattle.sockdiag_c.specs.Requests.{unix_message, unix_request_from_c};
 
+use crate::results::{NO_SPACE, OK};
+use crate::rewriting::reject;
 use bitflags::Flags;
 use byteorder::{ByteOrder, LittleEndian};
-use netlink_core::{Emitable, NETLINK_HEADER_LEN};
+use netlink_core::{DecodeError, Emitable, NETLINK_HEADER_LEN};
 use netlink_packet_sock_diag::constants::{AF_INET, AF_INET6, SOCK_DESTROY, SOCK_DIAG_BY_FAMILY};
 use netlink_packet_sock_diag::inet::{self, ExtensionFlags, SocketId};
 use netlink_packet_sock_diag::unix::{self, ShowFlags};
@@ -70,8 +72,10 @@ pub struct InetRequest {
     /// `AF_INET` or `AF_INET6` (`sdiag_family`).
     pub family: u8,
     /// Attributes that the replies shall have, with the bit `1 << (kind - 1)` for each kind
-    /// (`idiag_ext`). For MPTCP, and for kernels without `tcpi_snd_wnd`, leave out
-    /// `INET_DIAG_INFO`, or use a lenient call: `sockdiag_inet_get_details` rejects their replies.
+    /// (`idiag_ext`). That of `INET_DIAG_VEGASINFO` requests what the socket's algorithm has, also
+    /// `INET_DIAG_DCTCPINFO` or `INET_DIAG_BBRINFO`. For MPTCP, and for kernels without
+    /// `tcpi_snd_wnd`, leave out `INET_DIAG_INFO`, or use a lenient call:
+    /// `sockdiag_inet_get_details` rejects their replies.
     pub extensions: u8,
     /// Protocol, one of `IPPROTO_..` (`sdiag_protocol`). Request one protocol at a time: replies to
     /// a request do not contain it. A protocol above 255, such as `IPPROTO_MPTCP`, is written as an
@@ -100,11 +104,19 @@ pub struct InetRequest {
 
 const _: () = prove!(std::mem::size_of::<InetRequest>() == 72);
 
-/// Writes a request for UNIX sockets: 40 bytes. Returns 40, or 0 if the buffer is shorter.
+/// Writes a request for UNIX sockets: 40 bytes.
 #[unsafe(no_mangle)]
-pub extern "C" fn sockdiag_write_unix_request(request: &UnixRequest, buffer: &mut [u8]) -> usize
-    ensures { WritesMessage 40 (unix_message request.now)
-        record { old = buffer.old; new = buffer.new; returned = result } }
+pub extern "C" fn sockdiag_write_unix_request(
+    request: &UnixRequest,
+    buffer: &mut [u8],
+    written: &mut usize,
+) -> u32
+    ensures { WritesMessage 40 (unix_message request.now) record {
+      old = buffer.old;
+      new = buffer.new;
+      written = written.new;
+      returned = result;
+    } }
 {
     let record = unix::UnixRequest {
         state_flags: unix::StateFlags::from_bits_retain(request.states),
@@ -112,18 +124,32 @@ pub extern "C" fn sockdiag_write_unix_request(request: &UnixRequest, buffer: &mu
         show_flags: ShowFlags::from_bits_retain(request.show),
         cookie: request.cookie,
     };
-    write_message(SOCK_DIAG_BY_FAMILY, &request.header, &record, &[], buffer)
+    write_message(
+        SOCK_DIAG_BY_FAMILY,
+        &request.header,
+        &record,
+        &[],
+        buffer,
+        written,
+    )
 }
 
-/// Writes a request for IPv4 or IPv6 sockets: 72 bytes, or 80 if the protocol is above 255. Returns
-/// this number; or 0 if the buffer is shorter, or if the family is neither `AF_INET` nor
-/// `AF_INET6`.
+/// Writes a request for IPv4 or IPv6 sockets: 72 bytes, or 80 if the protocol is above 255. A
+/// family other than `AF_INET` and `AF_INET6` is `SOCKDIAG_UNSUPPORTED_FAMILY`.
 #[unsafe(no_mangle)]
-pub extern "C" fn sockdiag_write_inet_request(request: &InetRequest, buffer: &mut [u8]) -> usize
-    ensures { WritesInetMessage SOCK_DIAG_BY_FAMILY request.now
-        record { old = buffer.old; new = buffer.new; returned = result } }
+pub extern "C" fn sockdiag_write_inet_request(
+    request: &InetRequest,
+    buffer: &mut [u8],
+    written: &mut usize,
+) -> u32
+    ensures { WritesInetMessage SOCK_DIAG_BY_FAMILY request.now record {
+      old = buffer.old;
+      new = buffer.new;
+      written = written.new;
+      returned = result;
+    } }
 {
-    write_inet(SOCK_DIAG_BY_FAMILY, request, buffer)
+    write_inet(SOCK_DIAG_BY_FAMILY, request, buffer, written)
 }
 
 /// Writes a request for the kernel to close the selected IPv4 or IPv6 sockets, of type
@@ -131,31 +157,55 @@ pub extern "C" fn sockdiag_write_inet_request(request: &InetRequest, buffer: &mu
 /// `NLM_F_ACK` to have success acknowledged. Linux closes TCP, UDP and raw sockets if the caller
 /// has `CAP_NET_ADMIN`.
 #[unsafe(no_mangle)]
-pub extern "C" fn sockdiag_write_inet_destroy(request: &InetRequest, buffer: &mut [u8]) -> usize
-    ensures { WritesInetMessage SOCK_DESTROY request.now
-        record { old = buffer.old; new = buffer.new; returned = result } }
+pub extern "C" fn sockdiag_write_inet_destroy(
+    request: &InetRequest,
+    buffer: &mut [u8],
+    written: &mut usize,
+) -> u32
+    ensures { WritesInetMessage SOCK_DESTROY request.now record {
+      old = buffer.old;
+      new = buffer.new;
+      written = written.new;
+      returned = result;
+    } }
 {
-    write_inet(SOCK_DESTROY, request, buffer)
+    write_inet(SOCK_DESTROY, request, buffer, written)
 }
 
-// Writes a request for IPv4 or IPv6 sockets with this message type. Returns the number of bytes
-// that were written; or 0 if the buffer is shorter or the family is another one, and then nothing
-// is written.
-pub(crate) fn write_inet(message_type: u16, request: &InetRequest, buffer: &mut [u8]) -> usize
-    ensures { WritesInetMessage message_type request.now
-        record { old = buffer.old; new = buffer.new; returned = result } }
+// Writes a request for IPv4 or IPv6 sockets with this message type, and stores its length. Returns
+// 0, or the code of the error.
+pub(crate) fn write_inet(
+    message_type: u16,
+    request: &InetRequest,
+    buffer: &mut [u8],
+    written: &mut usize,
+) -> u32
+    ensures { WritesInetMessage message_type request.now record {
+      old = buffer.old;
+      new = buffer.new;
+      written = written.new;
+      returned = result;
+    } }
 {
-    if request.family != AF_INET && request.family != AF_INET6 {
-        return 0;
+    let family = request.family;
+    if family != AF_INET && family != AF_INET6 {
+        return reject(&DecodeError::UnsupportedFamily { family }, written);
     }
     let record = inet_record(request);
     if request.protocol < 256 {
-        return write_message(message_type, &request.header, &record, &[], buffer);
+        return write_message(message_type, &request.header, &record, &[], buffer, written);
     }
     // The attribute has 8 bytes: its length, its type and, in the last four, the protocol.
     let mut attribute = [8, 0, INET_DIAG_REQ_PROTOCOL as u8, 0, 0, 0, 0, 0];
     LittleEndian::write_u32(&mut attribute[4..], request.protocol);
-    write_message(message_type, &request.header, &record, &attribute, buffer)
+    write_message(
+        message_type,
+        &request.header,
+        &record,
+        &attribute,
+        buffer,
+        written,
+    )
 }
 
 // Returns the record of a request for IPv4 or IPv6 sockets, `struct inet_diag_req_v2`.
@@ -196,27 +246,32 @@ fn address_in(family: u8, octets: &[u8; 16]) -> IpAddr
 }
 
 // Writes a netlink header with this message type and the fields of `header`, the record `value` and
-// the bytes of the attributes, if the buffer is long enough. Returns the number of bytes that were
-// written, or 0.
+// the bytes of the attributes, if the buffer is long enough. Stores the length of the message.
 pub(crate) fn write_message<R: Emitable>(
     message_type: u16,
     header: &RequestHeader,
     value: &R,
     attributes: &[u8],
     buffer: &mut [u8],
-) -> usize
+    written: &mut usize,
+) -> u32
     requires writable { R.writable value.now }
     // The length of the message fits `nlmsg_len`, a `__u32`.
     requires small { 16 + length (R.bytes value.now) + length attributes.now ≤ 4294967295 }
     ensures { let len = 16 + length (R.bytes value.now) + length attributes.now in
         WritesMessage len (header_bytes (request_header_of len message_type header.now)
-        ++ R.bytes value.now ++ attributes.now)
-        record { old = buffer.old; new = buffer.new; returned = result } }
+        ++ R.bytes value.now ++ attributes.now) record {
+          old = buffer.old;
+          new = buffer.new;
+          written = written.new;
+          returned = result;
+        } }
 {
     let end = NETLINK_HEADER_LEN + value.buffer_len();
     let len = end + attributes.len();
+    *written = len;
     if buffer.len() < len {
-        return 0;
+        return NO_SPACE;
     }
     let (header_and_record, after_record) = buffer.split_at_mut(end);
     let (header_part, record_part) = header_and_record.split_at_mut(NETLINK_HEADER_LEN);
@@ -224,7 +279,7 @@ pub(crate) fn write_message<R: Emitable>(
     write_header(len as u32, message_type, header, header_part);
     value.emit(record_part);
     attributes_part.copy_from_slice(attributes);
-    len
+    OK
 }
 
 // Writes a netlink header to the sixteen bytes of a buffer: of a message of `len` bytes and this

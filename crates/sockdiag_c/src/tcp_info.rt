@@ -1,11 +1,13 @@
 //! The value of `INET_DIAG_INFO`: the state of a connection of TCP or MPTCP. In the contracts
 //! `attributes` are the attributes up to the end or to a framing error.
 
-ghost use Rattle.std.specs.Prelude.{◌≡◌, List, length};
+ghost use Rattle.std.specs.Prelude.{◌≡◌, List};
 ghost use Rattle.netlink_core.specs.Attribute.{Attribute};
+ghost use Rattle.sockdiag_c.specs.Answers.{CopiesValue};
 ghost use Rattle.sockdiag_c.specs.TcpInfo.{AreAttributesIn, AreInetReplyAttributes};
-ghost use Rattle.sockdiag_c.specs.TcpInfo.{first_bytes_of_kind, padded_or_truncated};
+ghost use Rattle.sockdiag_c.specs.TcpInfo.{first_bytes_of_kind};
 
+use crate::results::{END, OK, copy_padded};
 use crate::walks::bytes_from;
 use netlink_core::NlasIterator;
 use netlink_packet_sock_diag::constants::INET_DIAG_INFO;
@@ -13,7 +15,8 @@ use netlink_packet_sock_diag::inet::INET_RESPONSE_HEADER_LEN;
 
 /// Copies the TCP connection of a reply about an IPv4 or IPv6 socket: the value of the first
 /// `INET_DIAG_INFO`. `info_size` is `sizeof *info`: at most as many bytes are copied, and the
-/// remaining ones are set to 0. Returns the length of the value in bytes, or 0 if there is none.
+/// remaining ones are set to 0. Stores the length of the value in bytes. Returns `SOCKDIAG_END` if
+/// the reply has no value; then nothing is stored.
 ///
 /// Each kernel sends the struct in its own length, which may also be longer: `SOCKDIAG_HAS` tests
 /// whether the value contains a field. A value of any length is accepted, also one that
@@ -25,53 +28,63 @@ use netlink_packet_sock_diag::inet::INET_RESPONSE_HEADER_LEN;
 /// If the protocol that was requested is not TCP, the value is another struct, `struct mptcp_info`
 /// or `struct sctp_info`.
 #[unsafe(no_mangle)]
-pub extern "C" fn sockdiag_inet_get_tcp_info(payload: &[u8], info: &mut [u8]) -> usize
-    ensures length { (attributes : List Attribute)
+pub extern "C" fn sockdiag_inet_get_tcp_info(
+    payload: &[u8],
+    info: &mut [u8],
+    value_length: &mut usize,
+) -> u32
+    ensures { (attributes : List Attribute)
         → AreInetReplyAttributes payload.now attributes
-        → result ≡ length (first_bytes_of_kind INET_DIAG_INFO attributes) }
-    ensures bytes { (attributes : List Attribute)
-        → AreInetReplyAttributes payload.now attributes
-        → info.new ≡ padded_or_truncated (length info.old)
-        (first_bytes_of_kind INET_DIAG_INFO attributes) }
+        → CopiesValue (first_bytes_of_kind INET_DIAG_INFO attributes) record {
+          old = (info.old, value_length.old);
+          new = (info.new, value_length.new);
+          returned = result;
+        } }
 {
-    copy_first_value(payload, INET_DIAG_INFO, info)
+    copy_info(payload, info, value_length)
 }
 
 /// Copies the MPTCP connection of a reply to a request for MPTCP, as `sockdiag_inet_get_tcp_info`
-/// copies that of TCP: the value of the first `INET_DIAG_INFO`, at most `info_size` bytes, followed
-/// by zeros. Returns the length of the value in bytes, or 0 if there is none. All fields of a
-/// socket that listens are 0, except `subflows_max` of Linux 6.1.
+/// copies that of TCP. All fields of a socket that listens are 0, except `subflows_max` of Linux
+/// 6.1.
 #[unsafe(no_mangle)]
-pub extern "C" fn sockdiag_inet_get_mptcp_info(payload: &[u8], info: &mut [u8]) -> usize
-    ensures length { (attributes : List Attribute)
+pub extern "C" fn sockdiag_inet_get_mptcp_info(
+    payload: &[u8],
+    info: &mut [u8],
+    value_length: &mut usize,
+) -> u32
+    ensures { (attributes : List Attribute)
         → AreInetReplyAttributes payload.now attributes
-        → result ≡ length (first_bytes_of_kind INET_DIAG_INFO attributes) }
-    ensures bytes { (attributes : List Attribute)
-        → AreInetReplyAttributes payload.now attributes
-        → info.new ≡ padded_or_truncated (length info.old)
-        (first_bytes_of_kind INET_DIAG_INFO attributes) }
+        → CopiesValue (first_bytes_of_kind INET_DIAG_INFO attributes) record {
+          old = (info.old, value_length.old);
+          new = (info.new, value_length.new);
+          returned = result;
+        } }
 {
-    copy_first_value(payload, INET_DIAG_INFO, info)
+    copy_info(payload, info, value_length)
 }
 
-// Copies the value of the first attribute of the kind after the header of a reply to `found`,
-// truncated to its length or followed by zeros. Returns the length of the whole value, or 0 if
-// there is none.
-fn copy_first_value(payload: &[u8], kind: u16, found: &mut [u8]) -> usize
-    ensures length { (attributes : List Attribute)
+// Copies the value of the first `INET_DIAG_INFO` after the header of a reply to `info`, truncated
+// to its length or followed by zeros, and stores the length of the whole value.
+fn copy_info(payload: &[u8], info: &mut [u8], value_length: &mut usize) -> u32
+    ensures { (attributes : List Attribute)
         → AreInetReplyAttributes payload.now attributes
-        → result ≡ length (first_bytes_of_kind kind attributes) }
-    ensures bytes { (attributes : List Attribute)
-        → AreInetReplyAttributes payload.now attributes
-        → found.new ≡ padded_or_truncated (length found.old)
-        (first_bytes_of_kind kind attributes) }
+        → CopiesValue (first_bytes_of_kind INET_DIAG_INFO attributes) record {
+          old = (info.old, value_length.old);
+          new = (info.new, value_length.new);
+          returned = result;
+        } }
 {
-    let value = first_value(bytes_from(payload, INET_RESPONSE_HEADER_LEN), kind);
-    let len = value.len().min(found.len());
-    let (value_part, zeros) = found.split_at_mut(len);
-    value_part.copy_from_slice(&value[..len]);
-    zeros.fill(0);
-    value.len()
+    let value = first_value(
+        bytes_from(payload, INET_RESPONSE_HEADER_LEN),
+        INET_DIAG_INFO,
+    );
+    if value.is_empty() {
+        return END;
+    }
+    copy_padded(value, info);
+    *value_length = value.len();
+    OK
 }
 
 // Returns the value of the first attribute of the kind, or no bytes if there is none before the end

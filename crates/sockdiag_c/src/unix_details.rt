@@ -1,17 +1,22 @@
 //! The contents of a reply about a UNIX socket, as a C struct.
 
-ghost use Rattle.std.specs.Prelude.{◌≡◌, ◌≢◌};
-ghost use Rattle.sock_diag_extras.specs.AnyNla.{any_model};
-ghost use Rattle.sockdiag_c.specs.Family.{AreDetailsOf, IsCodeOf, IsFirstError};
+ghost use Rattle.std.specs.Prelude.{◌≡◌, Err};
+ghost use Rattle.netlink_core.specs.Errors.{map_ok};
+ghost use Rattle.netlink_core.specs.Walk.{buffered_attribute};
+ghost use Rattle.sock_diag_attributes.specs.UnixAttributes.{unix_attribute_set};
+ghost use Rattle.sock_diag_extras.specs.AnyNla.{any_model, read_any};
+ghost use Rattle.sock_diag_extras.specs.declared.any.nla.Sockets.TheVariants.{Unix};
+ghost use Rattle.sockdiag_c.specs.CheckedKinds.{read_checked};
+ghost use Rattle.sockdiag_c.specs.Family.{StoresDetails};
 ghost use Rattle.sockdiag_c.specs.UnixDetails.{unix_family};
 
 use crate::details::{ABSTRACT, Number, ReplyDetails, TEXT, Text, store_details};
-use crate::family_values::{Memory, reject, split_header};
+use crate::family_values::{Memory, split_header};
 use crate::headers::UnixHeader;
 use netlink_core::{DecodeError, NlaBuffer};
-use netlink_packet_sock_diag::constants::UNIX_DIAG_SHUTDOWN;
 use netlink_packet_sock_diag::unix::UnixResponseHeader;
 use netlink_packet_sock_diag::unix::nlas::NameView;
+use sock_diag_attributes::unix::nlas::NlaView as UnixNlaView;
 use sock_diag_extras::any::{AnyNla, Sockets};
 
 /// Everything that a reply contains about a UNIX socket, except the connections that wait to be
@@ -49,18 +54,20 @@ pub struct UnixDetails<'a> {
 
 const _: () = prove!(std::mem::size_of::<UnixDetails<'static>>() == 168);
 
-/// Parses a reply about a UNIX socket. Returns 0, or the code of its first error; then the details
-/// are unchanged.
+/// Parses a reply about a UNIX socket.
 #[unsafe(no_mangle)]
-pub extern "C" fn sockdiag_unix_get_details<'a>(
+pub extern "C" fn sockdiag_unix_fill_details<'a>(
     payload: &'a [u8],
     details: &mut UnixDetails<'a>,
+    later: &mut [u8],
 ) -> u32
-    ensures details { result ≡ 0 → AreDetailsOf unix_family payload.entry.now details.new }
-    ensures error { result ≢ 0 → IsCodeOf (IsFirstError unix_family payload.entry.now) result }
-    ensures unchanged { result ≢ 0 → details.new ≡ details.old }
+    ensures { StoresDetails unix_family payload.entry.now record {
+      old = (details.old, later.old);
+      new = (details.new, later.new);
+      returned = result;
+    } }
 {
-    store_details(payload, details)
+    store_details(payload, details, later)
 }
 
 impl<'a> ReplyDetails<'a> for UnixDetails<'a> {
@@ -82,8 +89,7 @@ impl<'a> ReplyDetails<'a> for UnixDetails<'a> {
     fn read(nla: &NlaBuffer<'a>) -> Result<AnyNla<'a>, DecodeError> {
         match AnyNla::read(Sockets::Unix, nla) {
             Ok(value) => Ok(value),
-            // The kinds that a check knows are 0 to 6.
-            Err(error) => reject(nla.kind() <= UNIX_DIAG_SHUTDOWN, nla, error),
+            Err(_) => reject_if_checked(nla),
         }
     }
 
@@ -108,5 +114,18 @@ impl<'a> ReplyDetails<'a> for UnixDetails<'a> {
             // These have no field: `sockdiag_next_attribute` returns them.
             _ => {}
         }
+    }
+}
+
+// Returns the error of an attribute with an invalid value. If the checks do not know its kind,
+// returns `AnyNla::Unknown`, and no error.
+fn reject_if_checked<'a>(nla: &NlaBuffer<'a>) -> Result<AnyNla<'a>, DecodeError>
+    // An attribute with a valid value is not passed.
+    ensures { let a = buffered_attribute nla.now in (e : DecodeError) → read_any Unix a ≡ Err e
+        → map_ok any_model result ≡ read_checked unix_attribute_set Unix a }
+{
+    match UnixNlaView::parse(nla) {
+        Ok(_) => Ok(AnyNla::Unknown(*nla)),
+        Err(error) => Err(error),
     }
 }

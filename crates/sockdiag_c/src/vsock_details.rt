@@ -2,7 +2,7 @@
 
 ghost use Rattle.std.specs.Prelude.{◌≡◌, ◌≢◌};
 ghost use Rattle.sock_diag_extras.specs.AnyNla.{any_model};
-ghost use Rattle.sockdiag_c.specs.Family.{AreDetailsOf, IsCodeOf, IsFirstError};
+ghost use Rattle.sockdiag_c.specs.Family.{StoresDetails};
 ghost use Rattle.sockdiag_c.specs.VsockDetails.{vsock_family};
 
 use crate::details::{ReplyDetails, store_details};
@@ -13,18 +13,21 @@ use sock_diag_families::vsock::VsockResponseHeader;
 
 const _: () = prove!(std::mem::size_of::<VsockResponseHeader>() == 32);
 
-/// Parses a reply about a vsock socket. Returns 0, or the code of its first error; then the header
-/// is unchanged. Linux sends no attributes: of bytes after the header only the framing is checked.
+/// Parses a reply about a vsock socket. Linux sends no attributes: of bytes after the header only
+/// the framing is checked.
 #[unsafe(no_mangle)]
-pub extern "C" fn sockdiag_vsock_get_details(
+pub extern "C" fn sockdiag_vsock_fill_details(
     payload: &[u8],
     details: &mut VsockResponseHeader,
+    later: &mut [u8],
 ) -> u32
-    ensures details { result ≡ 0 → AreDetailsOf vsock_family payload.now details.new }
-    ensures error { result ≢ 0 → IsCodeOf (IsFirstError vsock_family payload.now) result }
-    ensures unchanged { result ≢ 0 → details.new ≡ details.old }
+    ensures { StoresDetails vsock_family payload.now record {
+      old = (details.old, later.old);
+      new = (details.new, later.new);
+      returned = result;
+    } }
 {
-    store_details(payload, details)
+    store_details(payload, details, later)
 }
 
 // A reply about a vsock socket has no attributes that are known.

@@ -6,19 +6,15 @@ ghost use Rattle.sockdiag_c.specs.Answers.{IsGetterResult};
 ghost use Rattle.sockdiag_c.specs.Walks.{StepsOverAttribute, StepsOverMessage};
 ghost use Rattle.sockdiag_c.specs.Walks.{StepsOverUncheckedMessage};
 
-use crate::family_values::store;
+use crate::results::{END, ITEM, store};
 use netlink_core::{
     NETLINK_HEADER_LEN, NLA_HEADER_SIZE, NLMSG_DONE, NLMSG_ERROR, NLMSG_NOOP, NLMSG_OVERRUN,
     NetlinkHeader, NlasIterator, error_number, padded,
 };
 use netlink_packet_sock_diag::SockDiagView;
 
-/// Return value of an iteration at its end, and of a getter that finds no value.
-pub(crate) const END: u32 = 0;
-
-/// Return value of an iteration that returns an item, and of a getter that returns a value. It is
-/// not the code of an error here: code 1 is an allocation failure, which cannot happen.
-pub(crate) const ITEM: u32 = 1;
+/// Length of the error number of an `NLMSG_ERROR` or `NLMSG_DONE`, in bytes.
+pub(crate) const ERROR_NUMBER_LEN: usize = 4;
 
 /// State of an iteration. An iteration over all of the bytes starts with `offset` 0.
 #[repr(C)]
@@ -73,13 +69,13 @@ const _: () = prove!(std::mem::size_of::<MessageRange>() == 32);
 
 /// Stores the attribute at the cursor, and advances the cursor past it and its padding. The value
 /// of the attribute is not checked. Returns one of:
-/// - 1 if an attribute was stored;
-/// - 0 if no bytes are left, and then nothing is written;
+/// - `SOCKDIAG_ITEM` if an attribute was stored;
+/// - `SOCKDIAG_END` if no bytes are left, and then nothing is written;
 /// - the code of the framing error at the cursor, 7 to 9; then the attribute is unchanged, and no
 ///   bytes are left.
 ///
-/// In a checked reply, starting at the end of its header, the return value is 1 for each attribute,
-/// in order, and then 0.
+/// In a checked reply, starting at the end of its header, the calls return each attribute, in
+/// order, and then `SOCKDIAG_END`.
 #[unsafe(no_mangle)]
 pub extern "C" fn sockdiag_next_attribute(
     bytes: &[u8],
@@ -118,9 +114,9 @@ pub extern "C" fn sockdiag_next_attribute(
 
 /// Stores the message at the cursor, and advances the cursor past it and its padding. Returns one
 /// of:
-/// - 1 if the message has one of the four `NLMSG_..` types, or is a reply that
+/// - `SOCKDIAG_ITEM` if the message has one of the four `NLMSG_..` types, or is a reply that
 ///   `sockdiag_check_message` accepts;
-/// - 0 if no bytes are left, and then nothing is written;
+/// - `SOCKDIAG_END` if no bytes are left, and then nothing is written;
 /// - the code of the first error of the payload of a message of any other type; the message is set,
 ///   and the iteration may continue;
 /// - the code of the framing error at the cursor, 16 to 18; then the message is unchanged, and no
@@ -161,8 +157,8 @@ pub extern "C" fn sockdiag_next_message(
 
 /// Stores the message at the cursor, and advances the cursor past it and its padding. Returns one
 /// of:
-/// - 1 if a message was stored, whatever its type and its payload;
-/// - 0 if no bytes are left, and then nothing is written;
+/// - `SOCKDIAG_ITEM` if a message was stored, whatever its type and its payload;
+/// - `SOCKDIAG_END` if no bytes are left, and then nothing is written;
 /// - the code of the framing error at the cursor, 16 to 18; then the message is unchanged, and no
 ///   bytes are left. The rest of the datagram is lost, and with it possibly the end of the dump:
 ///   request the dump again, on another socket, instead of waiting for its end.
@@ -212,8 +208,8 @@ pub extern "C" fn sockdiag_next_any_message(
 }
 
 /// Stores the error number at the start of the payload of an `NLMSG_ERROR` or `NLMSG_DONE`: 0 for
-/// success, else `-errno`. Returns 1; or 0 if the payload has fewer than four bytes, and then the
-/// number is unchanged.
+/// success, else `-errno`. If the payload has fewer than four bytes, the error is
+/// `SOCKDIAG_WRONG_LENGTH`.
 ///
 /// An `NLMSG_ERROR` with 0 is an acknowledgement. A dump that failed also ends with `NLMSG_DONE`,
 /// so look at the number there too. A kernel that lacks the protocol answers a request for it with
@@ -224,7 +220,12 @@ pub extern "C" fn sockdiag_get_error_number(payload: &[u8], number: &mut i32) ->
     ensures { IsGetterResult (leading_error_number payload.now)
         record { old = number.old; new = number.new; returned = result } }
 {
-    store(error_number(payload), number)
+    store(
+        error_number(payload),
+        payload.len(),
+        ERROR_NUMBER_LEN,
+        number,
+    )
 }
 
 /// Returns the bytes from this offset on, or no bytes if the offset is past the end.

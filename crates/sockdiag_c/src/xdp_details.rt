@@ -2,7 +2,7 @@
 
 ghost use Rattle.std.specs.Prelude.{◌≡◌, ◌≢◌};
 ghost use Rattle.sock_diag_extras.specs.AnyNla.{any_model};
-ghost use Rattle.sockdiag_c.specs.Family.{AreDetailsOf, IsCodeOf, IsFirstError};
+ghost use Rattle.sockdiag_c.specs.Family.{StoresDetails};
 ghost use Rattle.sockdiag_c.specs.XdpDetails.{xdp_family};
 
 use crate::details::{Number, ReplyDetails, store_details};
@@ -55,15 +55,20 @@ pub struct XdpDetails {
 
 const _: () = prove!(std::mem::size_of::<XdpDetails>() == 240);
 
-/// Parses a reply about an XDP socket. Returns 0, or the code of its first error; then the details
-/// are unchanged.
+/// Parses a reply about an XDP socket.
 #[unsafe(no_mangle)]
-pub extern "C" fn sockdiag_xdp_get_details(payload: &[u8], details: &mut XdpDetails) -> u32
-    ensures details { result ≡ 0 → AreDetailsOf xdp_family payload.now details.new }
-    ensures error { result ≢ 0 → IsCodeOf (IsFirstError xdp_family payload.now) result }
-    ensures unchanged { result ≢ 0 → details.new ≡ details.old }
+pub extern "C" fn sockdiag_xdp_fill_details(
+    payload: &[u8],
+    details: &mut XdpDetails,
+    later: &mut [u8],
+) -> u32
+    ensures { StoresDetails xdp_family payload.now record {
+      old = (details.old, later.old);
+      new = (details.new, later.new);
+      returned = result;
+    } }
 {
-    store_details(payload, details)
+    store_details(payload, details, later)
 }
 
 impl<'a> ReplyDetails<'a> for XdpDetails {

@@ -1,8 +1,11 @@
-use Rattle.sockdiag_c.specs.Family.{AreDetailsOf}
-use Rattle.sockdiag_c.proofs.Rows.{stored}
+use Rattle.sockdiag_c.specs.Family.{AreDetailsOf, IsFirstError}
+use Rattle.sockdiag_c.proofs.Rows.{filled}
 use Rattle.sockdiag_c.proofs.details.store_details.Goals as goal
 
-pub returns-clause-details : goal.returns-clause-details
-returns-clause-details g c =
-    stored (AreDetailsOf g.T.ReplyDetails.family c.args.payload.now) _ _ _ _ c.store_parsed.ensures
-    c.strict_details.ensures.details
+pub returns : goal.returns
+returns g c =
+    let family = g.T.ReplyDetails.family in
+    filled (AreDetailsOf family c.args.payload.now) (IsFirstError family c.args.payload.now)
+    c.strict_details.result _ _ _ _ _ _ c.store_parsed-code.ensures c.strict_details.ensures.details
+    c.strict_details.ensures.error c.clear_later.ensures.code c.clear_later.ensures.zeros
+    c.clear_later.ensures.unchanged

@@ -18,8 +18,7 @@ returns-then-family-ne-AF_INET6 c =
     inr (
       UnsupportedFamily c.args.request.now.family,
       inl (no_inet_family _ c.if-family-ne-AF_INET.true c.if-family-ne-AF_INET6.true, refl),
-      c.reject.ensures.outcome,
-      (c.reject.ensures.none, refl),
+      (c.reject.ensures.code, c.reject.ensures.none, refl),
     )
 
 pub returns-in-Ok : goal.returns-in-Ok

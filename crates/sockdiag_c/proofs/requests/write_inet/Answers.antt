@@ -12,7 +12,7 @@ write_message-requires-clause-small c =
 pub returns-then-request-lt256 : goal.returns-then-request-lt256
 returns-then-request-lt256 c = (
   λ family.
-      message_written _ c.args.request.now _ _ _ _ _ c.inet_record-record.ensures
+      message_written _ c.args.request.now _ _ _ _ _ _ c.inet_record-record.ensures
       (no_attribute _ c.if-request-lt256.true) c.write_message.ensures,
   search rules,
 )
@@ -28,7 +28,7 @@ returns c = (
   λ family.
       let word : c.write_u32.new.buf ++ [] ≡ little_bytes 4 c.args.request.now.protocol =
       append-nil c.write_u32.new.buf ∙ c.write_u32.ensures in
-      message_written _ c.args.request.now _ _ _ _ _ c.inet_record-record.ensures
+      message_written _ c.args.request.now _ _ _ _ _ _ c.inet_record-record.ensures
       (an_attribute _ _ c.if-request-lt256.false word) c.write_message-2.ensures,
   search rules,
 )

@@ -1,17 +1,16 @@
-use Rattle.std.proofs.Common.{◌∙◌, Bool, Result, Err, ap, sym}
+use Rattle.std.proofs.Common.{sym}
 use Rattle.netlink_core.specs.Walk.{buffered_attribute}
-use Rattle.netlink_core.specs.declared.error.DecodeError.{DecodeError}
 use Rattle.sock_diag_attributes.specs.InetAttributes.{inet_attribute_set}
-use Rattle.sock_diag_extras.specs.AnyAgreement.{has_kind}
-use Rattle.sock_diag_extras.specs.AnyNla.{AnyValue}
-use Rattle.sockdiag_c.specs.CheckedKinds.{rejected_if}
+use Rattle.sock_diag_extras.specs.declared.any.nla.InfoFormat.TheVariants.{Unknown}
+use Rattle.sock_diag_extras.specs.declared.any.nla.Sockets.TheVariants.{Inet}
+use Rattle.sock_diag_extras.proofs.AnyAgreement.{inet_errors}
+use Rattle.sockdiag_c.proofs.CheckedKinds.{valid}
 use Rattle.sockdiag_c.proofs.inet_details.InetDetailsReplyDetails.read.Goals as goal
 
+pub returns-in-Ok : goal.returns-in-Ok
+returns-in-Ok c =
+    valid inet_attribute_set (Inet Unknown) inet_errors (buffered_attribute c.args.nla.now) _
+    (sym c.in-Ok.ensures)
+
 pub returns-in-Err : goal.returns-in-Err
-returns-in-Err c =
-    let a = buffered_attribute c.args.nla.now in
-    c.reject.ensures
-    ∙ ap (λ (t : Bool). rejected_if t a (Err c.in-Err.error))
-    (c.is_checked.ensures a (sym c.kind.ensures))
-    ∙ ap (λ (read : Result AnyValue DecodeError).
-    rejected_if (has_kind inet_attribute_set a) a read) c.in-Err.ensures
+returns-in-Err c = c.reject_if_checked.ensures _ (sym c.in-Err.ensures)
