@@ -10,3 +10,6 @@ pub mod AnyReadBack
 pub mod Finding
 pub mod Verdicts
 mod Ending
+mod NewPrefix
+pub mod ReadingTexts
+pub mod ReadingSteps

@@ -12,5 +12,15 @@ pub mod ReadBack
 pub mod AnyReadBack
 pub mod Sockets
 pub mod ViewModels
+pub mod Rows
+pub mod States
+pub mod Keywords
+pub mod Numbers
+pub mod AddressText
+pub mod Values
+pub mod Postfix
+pub mod Grammar
+pub mod Reading
+pub mod Readers
 pub mod laws
 pub mod private

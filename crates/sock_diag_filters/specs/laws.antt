@@ -1,3 +1,4 @@
 -- Lemmas about the definitions.
 pub mod Constants
 pub mod EqualCondition
+pub mod AddressText

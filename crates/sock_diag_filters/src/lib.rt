@@ -10,6 +10,7 @@ mod equality;
 mod filter;
 pub mod laws;
 mod request;
+mod text;
 pub mod uses;
 mod view;
 
@@ -21,4 +22,5 @@ pub use crate::request::{
     INET_DIAG_REQ_BYTECODE, INET_DIAG_REQ_PROTOCOL, REQUEST_FRONT, RequestAttribute,
     RequestWithAttributes,
 };
+pub use crate::text::{FilterTextError, MAX_PARTS, ParsedFilter, Part};
 pub use crate::view::RequestView;

@@ -1,0 +1,11 @@
+//! Filters by text, in the words of ss(8).
+
+mod keywords;
+mod lookup;
+mod numbers;
+mod parsed;
+mod reader;
+mod states;
+mod values;
+
+pub use crate::text::parsed::{FilterTextError, MAX_PARTS, ParsedFilter, Part};
