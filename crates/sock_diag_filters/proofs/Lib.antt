@@ -13,3 +13,4 @@ mod Ending
 mod NewPrefix
 pub mod ReadingTexts
 pub mod ReadingSteps
+pub mod ReadTexts

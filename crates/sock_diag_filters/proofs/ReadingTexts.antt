@@ -164,7 +164,7 @@ done_at_base st p out base =
     (ap (λ (q : List Part). out ++ q) base.none ∙ append-nil out)
 
 -- The state after a condition.
-condition_done : (negated : Bool) (condition : Condition) (filter : Filter) (place : Place)
+pub condition_done : (negated : Bool) (condition : Condition) (filter : Filter) (place : Place)
     (st : Option ℕ) (p : List Pending) (out : List Part) → compared negated condition filter
     → with_condition negated condition (state place st p out) ≡ done st p (out ++ postfix filter)
 condition_done false condition filter place st p out h = rw h refl
