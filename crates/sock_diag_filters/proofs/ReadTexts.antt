@@ -2,6 +2,9 @@
 use Rattle.std.proofs.Common.{◌≡◌, ◌∙◌, ℕ, List, [], ◌∷◌, ◌++◌, Option, None, Some, Bool, true, false}
 use Rattle.std.proofs.Common.{refl, sym, ap, subst, append_assoc, append-nil, arith, IsTrue}
 use Rattle.std.specs.Prelude.{⊤, option_and_then, option_map, if◌then◌else◌, unwrap_or}
+use Rattle.std.specs.Prelude.{bit_and, bit_or, bit_xor}
+use Rattle.sock_diag_filters.specs.declared.text.states.TheConstants.{ALL}
+use Rattle.sock_diag_filters.specs.States.{states_named}
 use Rattle.std.specs.Borrow.{Bor}
 use Rattle.sock_diag_filters.specs.declared.condition.Condition.{Condition}
 use Rattle.sock_diag_filters.specs.declared.condition.Condition.TheVariants.{AutoBound}
@@ -22,12 +25,14 @@ use Rattle.sock_diag_filters.specs.Grammar.{AreStates, Form, Is, IsComparison, I
 use Rattle.sock_diag_filters.specs.Grammar.{automatic, both}
 use Rattle.sock_diag_filters.specs.Grammar.{chain, compared, comparison, either, equality, group}
 use Rattle.sock_diag_filters.specs.Grammar.{added, negation, only, operand, removed, unnamed}
+use Rattle.sock_diag_filters.specs.Grammar.{IsFilterText, with, without}
 use Rattle.sock_diag_filters.specs.Keywords.{comparison_of, is_negated, keyword_named, takes}
-use Rattle.sock_diag_filters.specs.Postfix.{postfix}
+use Rattle.sock_diag_filters.specs.Postfix.{optional_postfix, postfix}
 use Rattle.sock_diag_filters.specs.Reading.{State, after_field, after_operand, after_operator}
 use Rattle.sock_diag_filters.specs.Reading.{after_start, after_value, at, begun, closed, completed}
 use Rattle.sock_diag_filters.specs.Reading.{next, next_at, parts_after, pending_after, reading}
-use Rattle.sock_diag_filters.specs.Reading.{with_condition, with_pending}
+use Rattle.sock_diag_filters.specs.Reading.{initial, is_complete, with_condition, with_pending}
+use Rattle.sock_diag_filters.specs.Reading.{with_states}
 use Rattle.sock_diag_filters.specs.Values.{condition_in}
 use Rattle.sock_diag_filters.proofs.ReadingTexts.{IsBase, Words, base_after, condition_done, done}
 use Rattle.sock_diag_filters.proofs.ReadingTexts.{state}
@@ -389,3 +394,172 @@ comparison_reached field operator st p out words value t (Some condition) f none
     f.waits
     (comparison f.word f.sign value field operator condition (compared_filter (is_negated operator) condition) f.is f.is_sign
     (none, f.taken, is) (is_compared (is_negated operator) condition)))
+
+-- ---- any words
+
+-- The keyword of a word that can follow.
+record KeywordOf (f : Keyword → Option State) (word : List ℕ) (t : State) : Type 0 where
+  keyword : Keyword
+  is : Is keyword word
+  after : f keyword ≡ Some t
+
+keyword_of : (f : Keyword → Option State) (word : List ℕ) (t : State) (o : Option Keyword)
+    → keyword_named word ≡ o → option_and_then f o ≡ Some t → KeywordOf f word t
+keyword_of f word t None is h = absurd (cc)
+keyword_of f word t (Some k) is h = record { keyword = k; is = is; after = h }
+
+named_reached : (st : Option ℕ) (words : Words) (word : List ℕ) (t : State) (o : Option ℕ)
+    → IsNamed keywords.State st words → states_named word ≡ o
+    → option_map (λ n. with_states (bit_or (unwrap_or st 0) n) (state places.Added st [] [])) o ≡ Some t
+    → Reached (words ++ word ∷ []) t
+named_reached st words word t None f is h = absurd (cc)
+named_reached st words word t (Some n) f is h =
+    reached_known (words ++ word ∷ []) (state places.Start (Some (bit_or (unwrap_or st 0) n)) [] []) t h
+    (subst (λ (w : Words). AreStates w (Some (bit_or (unwrap_or st 0) n)))
+    (sym (ap (λ (w : Words). w ++ word ∷ []) f.same ∙ append_assoc f.before (f.word ∷ []) (word ∷ [])))
+    (added f.before st f.word word n f.states f.is is), refl, refl)
+
+excluded_reached : (st : Option ℕ) (words : Words) (word : List ℕ) (t : State) (o : Option ℕ)
+    → IsNamed keywords.Exclude st words → states_named word ≡ o
+    → option_map (λ n. with_states (bit_and (unwrap_or st ALL) (bit_xor n ALL)) (state places.Removed st [] [])) o
+    ≡ Some t
+    → Reached (words ++ word ∷ []) t
+excluded_reached st words word t None f is h = absurd (cc)
+excluded_reached st words word t (Some n) f is h =
+    reached_known (words ++ word ∷ []) (state places.Start (Some (bit_and (unwrap_or st ALL) (bit_xor n ALL))) [] []) t h
+    (subst (λ (w : Words). AreStates w (Some (bit_and (unwrap_or st ALL) (bit_xor n ALL))))
+    (sym (ap (λ (w : Words). w ++ word ∷ []) f.same ∙ append_assoc f.before (f.word ∷ []) (word ∷ [])))
+    (removed f.before st f.word word n f.states f.is is), refl, refl)
+
+sign_reached : (field : Field) (operator : Operator) (st : Option ℕ) (p : List Pending) (out : List Part)
+    (words : Words) (sign : List ℕ) (t : State) (b : Bool) → IsField field st words p out
+    → Is (keywords.Operator operator) sign → takes field operator ≡ b
+    → (if b then Some (state (places.Value field operator) st p out) else None) ≡ Some t
+    → Reached (words ++ sign ∷ []) t
+sign_reached field operator st p out words sign t false f is taken h = absurd (cc)
+sign_reached field operator st p out words sign t true f is taken h =
+    reached_known (words ++ sign ∷ []) (state (places.Value field operator) st p out) t h record {
+  before = f.before;
+  word = f.word;
+  sign = sign;
+  same = ap (λ (w : Words). w ++ sign ∷ []) f.same ∙ append_assoc f.before (f.word ∷ []) (sign ∷ []);
+  waits = f.waits;
+  is = f.is;
+  is_sign = is;
+  taken = taken;
+}
+
+field_reached : (field : Field) (st : Option ℕ) (p : List Pending) (out : List Part) (words : Words)
+    (word : List ℕ) (t : State) (o : Option Keyword) → IsField field st words p out
+    → keyword_named word ≡ o
+    → after_field field (state (places.Field field) st p out) word o ≡ Some t
+    → Reached (words ++ word ∷ []) t
+field_reached field st p out words word t None f is h =
+    equality_reached field st p out words word t (condition_in field (comparison_of Equal) word) f is refl h
+field_reached field st p out words word t (Some (keywords.Operator operator)) f is h =
+    sign_reached field operator st p out words word t (takes field operator) f is refl h
+field_reached field st p out words word t (Some k) f is h = absurd (cc)
+
+value_reached : (field : Field) (operator : Operator) (st : Option ℕ) (p : List Pending)
+    (out : List Part) (words : Words) (word : List ℕ) (t : State) (o : Option Keyword)
+    → IsValue field operator st words p out → keyword_named word ≡ o
+    → after_operator field operator (state (places.Value field operator) st p out) word o ≡ Some t
+    → Reached (words ++ word ∷ []) t
+value_reached field operator st p out words word t None f is h =
+    comparison_reached field operator st p out words word t
+    (condition_in field (comparison_of operator) word) f is refl h
+value_reached field operator st p out words word t (Some k) f is h = absurd (cc)
+
+-- States in which no operand has begun have no parts.
+at_start : (place : Place) (st : Option ℕ) (p : List Pending) (out : List Part) (word : List ℕ)
+    (t : State) → p ≡ [] → out ≡ [] → next_at place (state place st p out) word ≡ Some t
+    → next_at place (state place st [] []) word ≡ Some t
+at_start place st p out word t none empty h =
+    subst (λ (l : List Part). next_at place (state place st [] l) word ≡ Some t) empty
+    (subst (λ (q : List Pending). next_at place (state place st q out) word ≡ Some t) none h)
+
+next_reached : (place : Place) (st : Option ℕ) (p : List Pending) (out : List Part) (words : Words)
+    (word : List ℕ) (t : State) → ReachedAt place words (state place st p out)
+    → next_at place (state place st p out) word ≡ Some t → Reached (words ++ word ∷ []) t
+next_reached places.Start st p out words word t r h =
+    let k = keyword_of (after_start (state places.Start st [] [])) word t (keyword_named word) refl
+    (at_start places.Start st p out word t r.1 r.2 h) in
+    start_reached k.keyword st words word t k.is r.0 k.after
+next_reached places.Added st p out words word t r h =
+    named_reached st words word t (states_named word) r.0 refl (at_start places.Added st p out word t r.1 r.2 h)
+next_reached places.Removed st p out words word t r h =
+    excluded_reached st words word t (states_named word) r.0 refl (at_start places.Removed st p out word t r.1 r.2 h)
+next_reached places.Operand st p out words word t r h =
+    let k = keyword_of (begun (state places.Operand st p out)) word t (keyword_named word) refl h in
+    begun_reached k.keyword places.Operand st p out words word t k.is r k.after
+next_reached (places.Field field) st p out words word t r h =
+    field_reached field st p out words word t (keyword_named word) r refl h
+next_reached (places.Value field operator) st p out words word t r h =
+    value_reached field operator st p out words word t (keyword_named word) r refl h
+next_reached places.Operator st p out words word t r h =
+    let k = keyword_of (after_operand (state places.Operator st p out)) word t (keyword_named word) refl h in
+    operand_reached k.keyword st p out words word t k.is r k.after
+
+later_reached : (words before : Words) (word : List ℕ) (s t : State) (o : Option State)
+    → ((u : State) → Reached (before ++ word ∷ []) u → reading u words ≡ Some t
+    → Reached ((before ++ word ∷ []) ++ words) t)
+    → Reached before s → next s word ≡ o → option_and_then (λ u. reading u words) o ≡ Some t
+    → Reached (before ++ word ∷ words) t
+later_reached words before word s t None so r is h = absurd (cc)
+later_reached words before word s t (Some u) so r is h =
+    subst (λ (w : Words). Reached w t) (append_assoc before (word ∷ []) words)
+    (so u (next_reached s.place s.states s.pending s.parts before word u r is) h)
+
+-- Words that are read lead to the state.
+pub words_reached : (words before : Words) (s t : State) → Reached before s
+    → reading s words ≡ Some t → Reached (before ++ words) t
+words_reached [] before s t r h =
+    subst (λ (w : Words). Reached w t) (sym (append-nil before)) (reached_known before s t h r)
+words_reached (word ∷ words) before s t r h =
+    later_reached words before word s t (next s word) (λ u. words_reached words (before ++ word ∷ []) u t)
+    r refl h
+
+pub reached : (words : Words) (t : State) → reading initial words ≡ Some t → Reached words t
+reached words t h = words_reached words [] initial t (unnamed, refl, refl) h
+
+-- ---- complete texts
+
+-- A filter whose text the words are, and whose parts these are.
+pub record IsParsed (words : Words) (st : Option ℕ) (parts : List Part) : Type 0 where
+  pub filter : Option Filter
+  pub text : IsFilterText words st filter
+  pub complete : parts ≡ optional_postfix filter
+
+no_outer : (st : Option ℕ) (words : Words) (p : List Pending) (out : List Part) → Waits st words p out
+    → p ≡ [] → AreStates words st × (out ≡ [])
+no_outer st _ _ _ (at_first words h) same = (h, refl)
+no_outer st _ _ _ (in_group words word p out h is) same = absurd (cc)
+no_outer st _ _ _ (in_negation words word p out h is) same = absurd (cc)
+no_outer st _ _ _ (conjoined words before word p out f h base prior is) same = absurd (cc)
+no_outer st _ _ _ (joined words before p out f h base prior) same = absurd (cc)
+no_outer st _ _ _ (disjoined words before word p out f h base prior is) same = absurd (cc)
+
+complete_at : (place : Place) (st : Option ℕ) (p : List Pending) (out : List Part) (words : Words)
+    → ReachedAt place words (state place st p out) → is_complete (state place st p out) ≡ true
+    → IsParsed words st out
+complete_at places.Start st p out words r h =
+    record { filter = None; text = without words st r.0; complete = r.2 }
+complete_at places.Operator st [] out words r h =
+    let outer = no_outer st r.before [] r.parts r.waits refl in record {
+  filter = Some r.filter;
+  text = subst (λ (w : Words). IsFilterText w st (Some r.filter)) (sym r.same)
+      (with r.before r.more st r.filter outer.0 r.text);
+  complete = r.complete ∙ ap (λ (l : List Part). l ++ postfix r.filter) outer.1;
+}
+complete_at places.Operator st (x ∷ p) out words r h = absurd (cc)
+complete_at places.Added st p out words r h = absurd (cc)
+complete_at places.Removed st p out words r h = absurd (cc)
+complete_at places.Operand st p out words r h = absurd (cc)
+complete_at (places.Field field) st p out words r h = absurd (cc)
+complete_at (places.Value field operator) st p out words r h = absurd (cc)
+
+-- Words that are read to a complete state are a text of a filter.
+pub read_is_text : (words : Words) (t : State) → reading initial words ≡ Some t
+    → is_complete t ≡ true → IsParsed words t.states t.parts
+read_is_text words t h complete =
+    complete_at t.place t.states t.pending t.parts words (reached words t h) complete

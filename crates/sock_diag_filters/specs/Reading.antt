@@ -155,6 +155,12 @@ abbrev pub after_operator : Field → Operator → State → List ℕ → Option
 after_operator field operator s word None = after_value field operator s word
 after_operator field operator s word (Some keyword) = None
 
+-- The text may end at this place with this to wait for.
+abbrev pub is_complete_at : Place → List Pending → Bool
+is_complete_at places.Start waiting = true
+is_complete_at places.Operator [] = true
+is_complete_at place waiting = false
+
 -- `next_at place s word`: the state after the word at a place.
 abbrev pub next_at : Place → State → List ℕ → Option State
 next_at places.Start s word = option_and_then (after_start s) (keyword_named word)
@@ -177,3 +183,7 @@ next s word = next_at s.place s word
 abbrev pub reading : State → List (List ℕ) → Option State
 reading s [] = Some s
 reading s (word ∷ later) = option_and_then (λ t. reading t later) (next s word)
+
+-- The text may end in the state: no operand is expected, and no group is open.
+abbrev pub is_complete : State → Bool
+is_complete s = is_complete_at s.place s.pending
