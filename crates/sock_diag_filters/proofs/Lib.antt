@@ -14,3 +14,5 @@ mod NewPrefix
 pub mod ReadingTexts
 pub mod ReadingSteps
 pub mod ReadTexts
+pub mod Completing
+pub mod Parsing

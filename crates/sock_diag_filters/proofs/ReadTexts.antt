@@ -27,6 +27,7 @@ use Rattle.sock_diag_filters.specs.Grammar.{chain, compared, comparison, either,
 use Rattle.sock_diag_filters.specs.Grammar.{added, negation, only, operand, removed, unnamed}
 use Rattle.sock_diag_filters.specs.Grammar.{IsFilterText, with, without}
 use Rattle.sock_diag_filters.specs.Keywords.{comparison_of, is_negated, keyword_named, takes}
+use Rattle.sock_diag_filters.specs.Parsed.{IsParsed}
 use Rattle.sock_diag_filters.specs.Postfix.{optional_postfix, postfix}
 use Rattle.sock_diag_filters.specs.Reading.{State, after_field, after_operand, after_operator}
 use Rattle.sock_diag_filters.specs.Reading.{after_start, after_value, at, begun, closed, completed}
@@ -523,12 +524,6 @@ pub reached : (words : Words) (t : State) → reading initial words ≡ Some t �
 reached words t h = words_reached words [] initial t (unnamed, refl, refl) h
 
 -- ---- complete texts
-
--- A filter whose text the words are, and whose parts these are.
-pub record IsParsed (words : Words) (st : Option ℕ) (parts : List Part) : Type 0 where
-  pub filter : Option Filter
-  pub text : IsFilterText words st filter
-  pub complete : parts ≡ optional_postfix filter
 
 no_outer : (st : Option ℕ) (words : Words) (p : List Pending) (out : List Part) → Waits st words p out
     → p ≡ [] → AreStates words st × (out ≡ [])

@@ -22,5 +22,9 @@ pub mod Postfix
 pub mod Grammar
 pub mod Reading
 pub mod Readers
+pub mod Words
+pub mod Parsed
+pub mod SocketEnds
+pub mod SocketFacts
 pub mod laws
 pub mod private

@@ -1,6 +1,9 @@
 -- The state of a `Reader`, and what reading a word does to it.
-use Rattle.std.specs.Prelude.{◌≡◌, ◌<◌, ◌+◌, ◌≤◌, ⊤, length, reverse, Option, None, Some, Result, Ok, Err}
-use Rattle.sock_diag_filters.specs.Reading.{State, size}
+use Rattle.std.specs.Prelude.{ℕ, List, Bool, true, false, ◌≡◌, ◌<◌, ◌+◌, ◌≤◌, ⊤, length, reverse, Option, None, Some, Result, Ok, Err}
+use Rattle.sock_diag_filters.specs.Reading.{State, is_complete, size}
+use Rattle.sock_diag_filters.specs.declared.text.parsed.FilterTextError.{FilterTextError}
+use Rattle.sock_diag_filters.specs.declared.text.parsed.FilterTextError.TheVariants.{Incomplete}
+use Rattle.sock_diag_filters.specs.declared.text.parsed.ParsedFilter.{ParsedFilter}
 use Rattle.sock_diag_filters.specs.declared.text.parsed.TheConstants.{MAX_PARTS}
 use Rattle.sock_diag_filters.specs.declared.text.reader.Problem.{Problem}
 use Rattle.sock_diag_filters.specs.declared.text.reader.Problem.TheVariants.{TooLong, Unexpected}
@@ -24,3 +27,11 @@ Follows (Some state) (Err Unexpected) reader = ⊥
 Follows None (Ok done) reader = ⊥
 Follows None (Err TooLong) reader = ⊥
 Follows None (Err Unexpected) reader = ⊤
+
+-- `IsFinished state result`: the filter has the states and the parts of the state, if the text may
+-- end in it.
+abbrev pub IsFinished : State → Result ParsedFilter FilterTextError → Type 0
+IsFinished state (Ok parsed) =
+    (is_complete state ≡ true) × (parsed.states ≡ state.states)
+    × (parsed.parts.items ≡ state.parts)
+IsFinished state (Err e) = (is_complete state ≡ false) × (e ≡ Incomplete)

@@ -22,5 +22,5 @@ pub use crate::request::{
     INET_DIAG_REQ_BYTECODE, INET_DIAG_REQ_PROTOCOL, REQUEST_FRONT, RequestAttribute,
     RequestWithAttributes,
 };
-pub use crate::text::{FilterTextError, MAX_PARTS, ParsedFilter, Part};
+pub use crate::text::{FilterTextError, MAX_PARTS, ParsedFilter, Part, SocketFacts};
 pub use crate::view::RequestView;

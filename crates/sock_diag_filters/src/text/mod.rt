@@ -1,11 +1,14 @@
 //! Filters by text, in the words of ss(8).
 
+mod facts;
 mod keywords;
 mod lookup;
 mod numbers;
 mod parsed;
+mod postfix;
 mod reader;
 mod states;
 mod values;
 
+pub use crate::text::facts::SocketFacts;
 pub use crate::text::parsed::{FilterTextError, MAX_PARTS, ParsedFilter, Part};

@@ -1,6 +1,8 @@
 //! Filters that were parsed from a text.
 
 ghost use Rattle.std.specs.Prelude.{◌≡◌, ◌↔◌, IfOk, IfErr};
+ghost use Rattle.sock_diag_filters.specs.Parsed.{IsFilterTextError, IsParsed};
+ghost use Rattle.sock_diag_filters.specs.Words.{words_of};
 
 use crate::condition::Condition;
 use crate::text::reader::{Problem, Reader};
@@ -50,4 +52,24 @@ pub struct ParsedFilter {
     /// The filter in postfix order. Empty if the text has no conditions: then each socket is
     /// selected.
     pub parts: ArrayVec<Part, MAX_PARTS>,
+}
+
+impl ParsedFilter {
+    /// Parses a filter in the words of ss(8).
+    pub fn parse(text: &[u8]) -> Result<ParsedFilter, FilterTextError>
+        ensures parsed { IfOk result (λ parsed. IsParsed (words_of text.now) parsed.states
+            parsed.parts.items) }
+        ensures rejected { IfErr result (λ e. IsFilterTextError text.now e) }
+    {
+        let mut reader = Reader::new();
+        let mut start = 0;
+        for (index, byte) in text.iter().enumerate() {
+            if byte.is_ascii_whitespace() {
+                reader.read_at(start, &text[start..index])?;
+                start = index + 1;
+            }
+        }
+        reader.read_at(start, &text[start..])?;
+        reader.finish()
+    }
 }

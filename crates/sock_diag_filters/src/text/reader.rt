@@ -10,7 +10,7 @@ ghost use Rattle.sock_diag_filters.specs.declared.text.parsed.TheConstants.{MAX_
 
 use crate::condition::Condition;
 use crate::text::keywords::{Field, Keyword, Operator, keyword_named};
-use crate::text::parsed::{MAX_PARTS, Part};
+use crate::text::parsed::{FilterTextError, MAX_PARTS, ParsedFilter, Part};
 use crate::text::states::{ALL, states_named};
 use crate::text::values::condition_in;
 use arrayvec::ArrayVec;
@@ -74,7 +74,8 @@ pub(crate) struct Reader {
 }
 
 impl Reader {
-    ghost use Rattle.sock_diag_filters.specs.Readers.{Follows, state_of};
+    ghost use Rattle.sock_diag_filters.specs.Parsed.{ReadsAt};
+    ghost use Rattle.sock_diag_filters.specs.Readers.{Follows, IsFinished, state_of};
 
     /// Returns the state before the first word.
     pub(crate) fn new() -> Reader
@@ -86,6 +87,38 @@ impl Reader {
             pending: ArrayVec::new(),
             parts: ArrayVec::new(),
         }
+    }
+
+    /// Reads the word at this offset of the text, unless it is empty.
+    pub(crate) fn read_at(&mut self, start: usize, word: &[u8]) -> Result<(), FilterTextError>
+        ensures { ReadsAt (state_of self.old) start word.now result (state_of self.new) }
+    {
+        if word.is_empty() {
+            return Ok(());
+        }
+        match self.read(word) {
+            Ok(()) => Ok(()),
+            Err(Problem::Unexpected) => Err(FilterTextError::Unexpected(start)),
+            Err(Problem::TooLong) => Err(FilterTextError::TooLong(start)),
+        }
+    }
+
+    /// Returns the filter that was read, or `Incomplete` if the text may not end here.
+    pub(crate) fn finish(self) -> Result<ParsedFilter, FilterTextError>
+        ensures { IsFinished (state_of self) result }
+    {
+        let is_complete = match self.place {
+            Place::Start => true,
+            Place::Operator => self.pending.is_empty(),
+            _ => false,
+        };
+        if !is_complete {
+            return Err(FilterTextError::Incomplete);
+        }
+        Ok(ParsedFilter {
+            states: self.states,
+            parts: self.parts,
+        })
     }
 
     /// Reads the next word. Fails with `Unexpected` if it cannot follow the words so far, and with
