@@ -16,3 +16,4 @@ pub mod ReadingSteps
 pub mod ReadTexts
 pub mod Completing
 pub mod Parsing
+pub mod LastParts

@@ -3,7 +3,7 @@ use Rattle.std.proofs.Common.{◌≡◌, ◌∙◌, ℕ, ◌<◌, List, [], ◌�
 use Rattle.std.proofs.Common.{refl, sym, ap, subst, append_assoc, append-nil, arith, Result, Ok, Err, map, inl, inr, ◌⊎◌}
 use Rattle.std.specs.Result.{result_ok}
 use Rattle.std.specs.Prelude.{⊤, option_and_then, if◌then◌else◌, nat_lt}
-use Rattle.std.proofs.lemmas.Bool.Decides.{ltb_tells}
+use Rattle.std.proofs.lemmas.Bool.Decides.{nat_tests}
 use Rattle.sock_diag_filters.specs.declared.text.parsed.FilterTextError.{FilterTextError}
 use Rattle.sock_diag_filters.specs.declared.text.parsed.FilterTextError.TheVariants.{TooLong}
 use Rattle.sock_diag_filters.specs.declared.text.parsed.FilterTextError.TheVariants.{Unexpected}
@@ -88,7 +88,7 @@ fails_within true s u offset word later e so is more h = record {
   split = refl;
   before = s;
   is_read = refl;
-  reason = inr (grind arith, u, is, grind (arith, ltb_tells MAX_PARTS (size u)));
+  reason = inr (grind arith, u, is, grind (arith, nat_tests));
 }
 fails_within false s u offset word later e so is more h = fails_later s u offset word later e is (so u h)
 
@@ -158,8 +158,8 @@ error_is_first text e h =
 pub incomplete_is_error : (text : List ℕ) (t : State)
     → outcome initial (placed_words text) ≡ Ok t → is_complete t ≡ false
     → IsFilterTextError text Incomplete
-incomplete_is_error text t h no =
+incomplete_is_error text t h open_end =
     let is_read = outcome_is_read initial (placed_words text) t h in
     (state_can_continue (words_of text) t is_read, λ states filter is_text.
     let c = text_is_complete (words_of text) states filter is_text in
-    absurd (cc (c.is_read, c.complete, is_read, no)))
+    absurd (cc (c.is_read, c.complete, is_read, open_end)))

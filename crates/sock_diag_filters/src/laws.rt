@@ -239,7 +239,7 @@ pub fn filter_constants_have_their_values()
 
 /// States that the words of each text of a filter are read to their end, and that the parts that
 /// were read are those of the filter in postfix order.
-#[tactic(auto, using(crate::proofs::ReadingTexts::read_text, crate::proofs::Parsing::error_is_first))]
+#[tactic(auto, using(crate::proofs::ReadingTexts::read_text, crate::proofs::Parsing::error_is_first, crate::proofs::LastParts::or_written))]
 pub fn texts_are_read()
     ensures { (form : Form) (words : List (List ℕ)) (filter : Filter) → IsText form words filter → ⊤ }
 {}
