@@ -17,3 +17,4 @@ pub mod ReadTexts
 pub mod Completing
 pub mod Parsing
 pub mod LastParts
+pub mod ParsingText
