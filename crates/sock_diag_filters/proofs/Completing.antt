@@ -94,12 +94,12 @@ all_closed : (p : List Pending) (st : Option ℕ) (out : List Part) → Ending (
 all_closed [] st out = record { words = []; state = state places.Operator st [] out; is_read = refl; complete = refl }
 all_closed (pending.Group ∷ outer) st out =
     let later = all_closed outer st (out ++ parts_after outer) in record {
-  words = close_word ∷ later.words;
-  state = later.state;
-  is_read = read_word (state places.Operator st (pending.Group ∷ outer) out) (done st outer out) close_word
-      later.words (rw is_close refl) ∙ later.is_read;
-  complete = later.complete;
-}
+      words = close_word ∷ later.words;
+      state = later.state;
+      is_read = read_word (state places.Operator st (pending.Group ∷ outer) out) (done st outer out) close_word
+          later.words (rw is_close refl) ∙ later.is_read;
+      complete = later.complete;
+    }
 all_closed (pending.Not ∷ outer) st out = all_closed outer st out
 all_closed (pending.And ∷ outer) st out = all_closed outer st out
 all_closed (pending.Or ∷ outer) st out = all_closed outer st out
@@ -208,8 +208,8 @@ state_can_continue words t h =
     let ending = ending_at t.place t.states t.pending t.parts words (reached words t h) in
     let all = read_is_text (words ++ ending.words) ending.state
     (read_words initial t words ending.words h ∙ ending.is_read) ending.complete in record {
-  more = ending.words;
-  states = ending.state.states;
-  filter = all.filter;
-  text = all.text;
-}
+      more = ending.words;
+      states = ending.state.states;
+      filter = all.filter;
+      text = all.text;
+    }

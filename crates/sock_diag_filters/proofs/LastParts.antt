@@ -12,6 +12,8 @@ use Rattle.sock_diag_filters.specs.declared.text.parsed.Part.{Part}
 use Rattle.sock_diag_filters.specs.declared.text.parsed.Part.TheVariants as parts
 use Rattle.sock_diag_filters.specs.Conditions.{arguments, code_of}
 use Rattle.sock_diag_filters.specs.Filters.{meaning, program_size}
+use Rattle.std.proofs.Common.{IsTrue, Option, Some, None}
+use Rattle.sock_diag_filters.specs.Postfix.{optional_meaning, optional_postfix}
 use Rattle.sock_diag_filters.specs.Postfix.{IsLast, IsLastSelected, IsLastWritten, part_size, postfix}
 use Rattle.sock_diag_filters.specs.Sockets.{AreConditionsInRange, IsConditionInRange}
 use Rattle.sock_diag_filters.specs.private.Assembly.{EndsWith, jump, operation, program_of}
@@ -185,21 +187,33 @@ none_selected met all selected rest none before filter h =
 pub size_of_postfix : (filter : Filter) → sum_by part_size (postfix filter) ≡ program_size filter
 size_of_postfix (filters.Condition c) = omega arith
 size_of_postfix (filters.And' p a q b) =
-    omega (arith, size_of_postfix a, size_of_postfix b,
-    sum_by-append part_size (postfix a) (postfix b ++ parts.And ∷ []),
-    sum_by-append part_size (postfix b) (parts.And ∷ []))
+    omega (
+      arith,
+      size_of_postfix a,
+      size_of_postfix b,
+      sum_by-append part_size (postfix a) (postfix b ++ parts.And ∷ []),
+      sum_by-append part_size (postfix b) (parts.And ∷ []),
+    )
 size_of_postfix (filters.Or' p a q b) =
-    omega (arith, size_of_postfix a, size_of_postfix b,
-    sum_by-append part_size (postfix a) (postfix b ++ parts.Or ∷ []),
-    sum_by-append part_size (postfix b) (parts.Or ∷ []))
+    omega (
+      arith,
+      size_of_postfix a,
+      size_of_postfix b,
+      sum_by-append part_size (postfix a) (postfix b ++ parts.Or ∷ []),
+      sum_by-append part_size (postfix b) (parts.Or ∷ []),
+    )
 size_of_postfix (filters.Not' p a) =
     omega (arith, size_of_postfix a, sum_by-append part_size (postfix a) (parts.Not ∷ []))
 
 last_fits : (all before : List Part) (filter : Filter) (n : ℕ) → sum_by part_size all ≤ n
     → all ≡ before ++ postfix filter → program_size filter ≤ n
 last_fits all before filter n fits h =
-    omega (arith, size_of_postfix filter, sum_by-append part_size before (postfix filter),
-    ap (λ (l : List Part). sum_by part_size l) h)
+    omega (
+      arith,
+      size_of_postfix filter,
+      sum_by-append part_size before (postfix filter),
+      ap (λ (l : List Part). sum_by part_size l) h,
+    )
 
 -- What `IsLastWritten` says of one filter.
 abbrev Written : (far : ℕ) → (old new : List ℕ) → (len : ℕ) → List Part → List Part → Filter → Type 0
@@ -221,9 +235,12 @@ condition_same c d h = ap (λ (x : Part). condition_in_part x c) h
 length_after : (old written new : List ℕ) → length written ≤ length old → EndsWith old written new
     → length new ≡ length old
 length_after old written new fits ends =
-    omega (arith, ap (λ (l : List ℕ). length l) ends,
-    length-append (take (length old - length written) old) written,
-    length-take-le (length old - length written) old (omega arith))
+    omega (
+      arith,
+      ap (λ (l : List ℕ). length l) ends,
+      length-append (take (length old - length written) old) written,
+      length-take-le (length old - length written) old (omega arith),
+    )
 
 writes_condition : (rest : List Part) (c : Condition) (far : ℕ) (old new : List ℕ) (len : ℕ)
     → len ≡ OPERATION_HEADER_LEN + length (arguments c)
@@ -370,3 +387,11 @@ pub none_written : (all : List Part) (far : ℕ) (old new : List ℕ) (len : ℕ
     → length all ≡ 0 → IsLastWritten all far old new len rest
 none_written all far old new len rest none before filter h =
     absurd (no_parts all before filter none h)
+
+-- The parts of an optional filter.
+pub all_selected : (met : Condition → Bool) (parts : List Part) (selected : Bool) (rest : List Part)
+    → (length parts ≡ 0 → IsTrue selected) → IsLastSelected met parts selected rest
+    → (filter : Option Filter) → parts ≡ optional_postfix filter
+    → selected ≡ optional_meaning met filter
+all_selected met parts selected rest empty h None is = empty (ap (λ (l : List Part). length l) is)
+all_selected met parts selected rest empty h (Some filter) is = (h [] filter is).0

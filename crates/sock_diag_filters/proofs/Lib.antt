@@ -18,3 +18,4 @@ pub mod Completing
 pub mod Parsing
 pub mod LastParts
 pub mod ParsingText
+pub mod WrittenPrograms

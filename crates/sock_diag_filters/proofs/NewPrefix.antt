@@ -12,7 +12,7 @@ use Rattle.sock_diag_filters.specs.laws.EqualCondition.{prefix_path}
 some_prefix : (address : IpAddr) (bits : ℕ) (prefix : Prefix) → prefix.address ≡ address
     → prefix.bits ≡ bits → (d : (bits_of address < bits) ⊎ (bits ≤ bits_of address))
     → Some prefix ≡ (elim d as (λ _. Option Prefix) [
-      inl more ↦ None
+      | inl more ↦ None
       | inr within ↦ Some (record { address = address; bits = bits; in_range = within })
     ])
 some_prefix address bits prefix a b (inl more) =
@@ -23,7 +23,7 @@ some_prefix address bits prefix a b (inr within) = ap (λ p. Some p) (prefix_pat
 no_prefix : (address : IpAddr) (bits : ℕ) → (bits ≤ bits_of address → ⊥)
     → (d : (bits_of address < bits) ⊎ (bits ≤ bits_of address))
     → None ≡ (elim d as (λ _. Option Prefix) [
-      inl more ↦ None
+      | inl more ↦ None
       | inr within ↦ Some (record { address = address; bits = bits; in_range = within })
     ])
 no_prefix address bits h (inl more) = refl

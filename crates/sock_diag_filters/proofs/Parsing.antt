@@ -23,7 +23,7 @@ Placed = List (ℕ × List ℕ)
 -- The outcome of a word and others, by the state after it.
 abbrev outcome_after : Option State → ℕ → List (ℕ × List ℕ) → Result State FilterTextError
 outcome_after o offset later = elim o [
-  None ↦ Err (Unexpected offset)
+  | None ↦ Err (Unexpected offset)
   | Some t ↦ if nat_lt MAX_PARTS (size t) then Err (TooLong offset) else outcome t later
 ]
 
@@ -140,15 +140,23 @@ by_reason : (text : List ℕ) (e : FilterTextError) (f : FailsAt initial (placed
     ⊎ ((e ≡ TooLong f.offset) × (t : State) × (next f.before f.word ≡ Some t) × (MAX_PARTS < size t))
     → IsFilterTextError text e
 by_reason text e f (inl (is, none)) =
-    subst (IsFilterTextError text) (sym is)
-    (without_offsets f.earlier, f.word, word_at text e f,
-    state_can_continue (without_offsets f.earlier) f.before f.is_read,
-    cannot_continue (without_offsets f.earlier) f.word f.before f.is_read none)
+    subst (IsFilterTextError text) (sym is) (
+      without_offsets f.earlier,
+      f.word,
+      word_at text e f,
+      state_can_continue (without_offsets f.earlier) f.before f.is_read,
+      cannot_continue (without_offsets f.earlier) f.word f.before f.is_read none,
+    )
 by_reason text e f (inr (is, t, after, more)) =
-    subst (IsFilterTextError text) (sym is)
-    (without_offsets f.earlier, f.word, t, word_at text e f,
-    read_words initial f.before (without_offsets f.earlier) (f.word ∷ []) f.is_read
-    ∙ ap (λ o. option_and_then (λ u. reading u []) o) after, more)
+    subst (IsFilterTextError text) (sym is) (
+      without_offsets f.earlier,
+      f.word,
+      t,
+      word_at text e f,
+      read_words initial f.before (without_offsets f.earlier) (f.word ∷ []) f.is_read
+          ∙ ap (λ o. option_and_then (λ u. reading u []) o) after,
+      more,
+    )
 
 pub error_is_first : (text : List ℕ) (e : FilterTextError)
     → outcome initial (placed_words text) ≡ Err e → IsFilterTextError text e
@@ -159,7 +167,9 @@ pub incomplete_is_error : (text : List ℕ) (t : State)
     → outcome initial (placed_words text) ≡ Ok t → is_complete t ≡ false
     → IsFilterTextError text Incomplete
 incomplete_is_error text t h open_end =
-    let is_read = outcome_is_read initial (placed_words text) t h in
-    (state_can_continue (words_of text) t is_read, λ states filter is_text.
-    let c = text_is_complete (words_of text) states filter is_text in
-    absurd (cc (c.is_read, c.complete, is_read, open_end)))
+    let is_read = outcome_is_read initial (placed_words text) t h in (
+      state_can_continue (words_of text) t is_read,
+      λ states filter is_text.
+          let c = text_is_complete (words_of text) states filter is_text in
+          absurd (cc (c.is_read, c.complete, is_read, open_end)),
+    )

@@ -91,16 +91,16 @@ combined : (st : Option ℕ) (words : Words) (p : List Pending) (out : List Part
     → Follows st all (pending_after p) parts
 combined st words p out h base more filter text all same parts complete =
     subst (λ (q : List Pending). Follows st all q parts) (sym base.same) record {
-  before = words;
-  more = more;
-  parts = out;
-  filter = filter;
-  same = same;
-  waits = h;
-  base = base;
-  text = text;
-  complete = complete;
-}
+      before = words;
+      more = more;
+      parts = out;
+      filter = filter;
+      same = same;
+      waits = h;
+      base = base;
+      text = text;
+      complete = complete;
+    }
 
 -- After an operand, it completes what waits for it.
 pub completes : (st : Option ℕ) (words : Words) (p : List Pending) (out : List Part)
@@ -415,10 +415,13 @@ named_reached : (st : Option ℕ) (words : Words) (word : List ℕ) (t : State) 
     → Reached (words ++ word ∷ []) t
 named_reached st words word t None f is h = absurd (cc)
 named_reached st words word t (Some n) f is h =
-    reached_known (words ++ word ∷ []) (state places.Start (Some (bit_or (unwrap_or st 0) n)) [] []) t h
-    (subst (λ (w : Words). AreStates w (Some (bit_or (unwrap_or st 0) n)))
-    (sym (ap (λ (w : Words). w ++ word ∷ []) f.same ∙ append_assoc f.before (f.word ∷ []) (word ∷ [])))
-    (added f.before st f.word word n f.states f.is is), refl, refl)
+    reached_known (words ++ word ∷ []) (state places.Start (Some (bit_or (unwrap_or st 0) n)) [] []) t h (
+      subst (λ (w : Words). AreStates w (Some (bit_or (unwrap_or st 0) n)))
+          (sym (ap (λ (w : Words). w ++ word ∷ []) f.same ∙ append_assoc f.before (f.word ∷ []) (word ∷ [])))
+          (added f.before st f.word word n f.states f.is is),
+      refl,
+      refl,
+    )
 
 excluded_reached : (st : Option ℕ) (words : Words) (word : List ℕ) (t : State) (o : Option ℕ)
     → IsNamed keywords.Exclude st words → states_named word ≡ o
@@ -427,10 +430,13 @@ excluded_reached : (st : Option ℕ) (words : Words) (word : List ℕ) (t : Stat
     → Reached (words ++ word ∷ []) t
 excluded_reached st words word t None f is h = absurd (cc)
 excluded_reached st words word t (Some n) f is h =
-    reached_known (words ++ word ∷ []) (state places.Start (Some (bit_and (unwrap_or st ALL) (bit_xor n ALL))) [] []) t h
-    (subst (λ (w : Words). AreStates w (Some (bit_and (unwrap_or st ALL) (bit_xor n ALL))))
-    (sym (ap (λ (w : Words). w ++ word ∷ []) f.same ∙ append_assoc f.before (f.word ∷ []) (word ∷ [])))
-    (removed f.before st f.word word n f.states f.is is), refl, refl)
+    reached_known (words ++ word ∷ []) (state places.Start (Some (bit_and (unwrap_or st ALL) (bit_xor n ALL))) [] []) t h (
+      subst (λ (w : Words). AreStates w (Some (bit_and (unwrap_or st ALL) (bit_xor n ALL))))
+          (sym (ap (λ (w : Words). w ++ word ∷ []) f.same ∙ append_assoc f.before (f.word ∷ []) (word ∷ [])))
+          (removed f.before st f.word word n f.states f.is is),
+      refl,
+      refl,
+    )
 
 sign_reached : (field : Field) (operator : Operator) (st : Option ℕ) (p : List Pending) (out : List Part)
     (words : Words) (sign : List ℕ) (t : State) (b : Bool) → IsField field st words p out
@@ -440,15 +446,15 @@ sign_reached : (field : Field) (operator : Operator) (st : Option ℕ) (p : List
 sign_reached field operator st p out words sign t false f is taken h = absurd (cc)
 sign_reached field operator st p out words sign t true f is taken h =
     reached_known (words ++ sign ∷ []) (state (places.Value field operator) st p out) t h record {
-  before = f.before;
-  word = f.word;
-  sign = sign;
-  same = ap (λ (w : Words). w ++ sign ∷ []) f.same ∙ append_assoc f.before (f.word ∷ []) (sign ∷ []);
-  waits = f.waits;
-  is = f.is;
-  is_sign = is;
-  taken = taken;
-}
+      before = f.before;
+      word = f.word;
+      sign = sign;
+      same = ap (λ (w : Words). w ++ sign ∷ []) f.same ∙ append_assoc f.before (f.word ∷ []) (sign ∷ []);
+      waits = f.waits;
+      is = f.is;
+      is_sign = is;
+      taken = taken;
+    }
 
 field_reached : (field : Field) (st : Option ℕ) (p : List Pending) (out : List Part) (words : Words)
     (word : List ℕ) (t : State) (o : Option Keyword) → IsField field st words p out
@@ -541,11 +547,11 @@ complete_at places.Start st p out words r h =
     record { filter = None; text = without words st r.0; complete = r.2 }
 complete_at places.Operator st [] out words r h =
     let outer = no_outer st r.before [] r.parts r.waits refl in record {
-  filter = Some r.filter;
-  text = subst (λ (w : Words). IsFilterText w st (Some r.filter)) (sym r.same)
-      (with r.before r.more st r.filter outer.0 r.text);
-  complete = r.complete ∙ ap (λ (l : List Part). l ++ postfix r.filter) outer.1;
-}
+      filter = Some r.filter;
+      text = subst (λ (w : Words). IsFilterText w st (Some r.filter)) (sym r.same)
+          (with r.before r.more st r.filter outer.0 r.text);
+      complete = r.complete ∙ ap (λ (l : List Part). l ++ postfix r.filter) outer.1;
+    }
 complete_at places.Operator st (x ∷ p) out words r h = absurd (cc)
 complete_at places.Added st p out words r h = absurd (cc)
 complete_at places.Removed st p out words r h = absurd (cc)

@@ -24,6 +24,7 @@ pub mod Reading
 pub mod Readers
 pub mod Words
 pub mod Parsed
+pub mod Programs
 pub mod SocketEnds
 pub mod SocketFacts
 pub mod laws

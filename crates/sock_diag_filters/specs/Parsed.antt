@@ -56,7 +56,7 @@ IsFilterTextError text (TooLong offset) =
 abbrev pub outcome : State → List (ℕ × List ℕ) → Result State FilterTextError
 outcome s [] = Ok s
 outcome s (word ∷ later) = elim (next s word.1) [
-  None ↦ Err (Unexpected word.0)
+  | None ↦ Err (Unexpected word.0)
   | Some t ↦ if nat_lt MAX_PARTS (size t) then Err (TooLong word.0) else outcome t later
 ]
 

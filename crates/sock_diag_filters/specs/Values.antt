@@ -29,9 +29,9 @@ abbrev pub mark_in : List ℕ → Option Condition
 mark_in text =
     option_map_or
     (λ index. option_and_then
-        (λ mark. option_map (λ mask. conditions.Mark mark mask)
-            (number_in (2 ^ 32 - 1) (drop (index + 1) text)))
-        (number_in (2 ^ 32 - 1) (take index text)))
+    (λ mark. option_map (λ mask. conditions.Mark mark mask)
+    (number_in (2 ^ 32 - 1) (drop (index + 1) text)))
+    (number_in (2 ^ 32 - 1) (take index text)))
     (index_of 47 text)
     (option_map (λ mark. conditions.Mark mark 0xffffffff) (number_in (2 ^ 32 - 1) text))
 
@@ -48,7 +48,7 @@ optional_port_in text =
 -- `None` if it has fewer.
 abbrev pub prefix_of : IpAddr → ℕ → Option Prefix
 prefix_of address bits = elim (cases_lt (bits_of address) bits) [
-  inl more ↦ None
+  | inl more ↦ None
   | inr within ↦ Some (record { address = address; bits = bits; in_range = within })
 ]
 
@@ -58,8 +58,8 @@ abbrev pub prefix_in : List ℕ → Option Prefix
 prefix_in text =
     option_map_or
     (λ index. option_and_then
-        (λ address. option_and_then (prefix_of address) (number_in 255 (drop (index + 1) text)))
-        (ip_in (take index text)))
+    (λ address. option_and_then (prefix_of address) (number_in 255 (drop (index + 1) text)))
+    (ip_in (take index text)))
     (index_of 47 text)
     (option_and_then (λ address. prefix_of address (bits_of address)) (ip_in text))
 
@@ -100,8 +100,8 @@ abbrev pub host_in : List ℕ → Option Host
 host_in text =
     option_map_or
     (λ index. option_and_then
-        (λ prefix. option_map (host prefix) (optional_port_in (drop (index + 1) text)))
-        (address_in (take index text)))
+    (λ prefix. option_map (host prefix) (optional_port_in (drop (index + 1) text)))
+    (address_in (take index text)))
     (port_colon text) (option_map (λ prefix. host prefix None) (address_in text))
 
 -- `condition_in field comparison text`: the condition that the field compares in this way with the

@@ -2,3 +2,4 @@
 pub mod Constants
 pub mod EqualCondition
 pub mod AddressText
+pub mod EqualPart

@@ -1,14 +1,13 @@
 //! Properties of programs, of requests that are serialized and parsed, and of `==` and `clone`.
 //! Proof only: the contract of each function states the property.
 
-ghost use Rattle.std.specs.Prelude.{◌≡◌, ◌↔◌, ◌+◌, ◌^◌, ◌<◌, ◌≤◌, ℕ, Bool, List, [], ◌∷◌, ⊤};
+ghost use Rattle.std.specs.Prelude.{◌≡◌, ◌↔◌, ◌+◌, ◌^◌, ◌<◌, ◌≤◌, ℕ, Bool, List, [], ◌∷◌};
 ghost use Rattle.std.specs.Prelude.{IfOk, IsOk, IsTrue, None, length, replicate};
 ghost use Rattle.std.specs.Borrow.{Bor};
 ghost use Rattle.std.specs.declared.net.ip_addr.IpAddr.{IpAddr};
 ghost use Rattle.netlink_core.specs.declared.error.DecodeError.{DecodeError};
 ghost use Rattle.sock_diag_records.specs.Constants.{PairsAreEqual};
 ghost use Rattle.sock_diag_filters.specs.declared.filter.Filter.{Filter};
-ghost use Rattle.sock_diag_filters.specs.Grammar.{Form, IsText};
 ghost use Rattle.sock_diag_filters.specs.Conditions.{IsNewPrefix, arguments, code_of};
 ghost use Rattle.sock_diag_filters.specs.Filters.{meaning};
 ghost use Rattle.sock_diag_filters.specs.Run.{Runs};
@@ -235,11 +234,4 @@ pub fn equal_any_request_views(view: &AnyRequestView<'_>, other: &AnyRequestView
 pub fn filter_constants_have_their_values()
     ensures { PairsAreEqual ((MAX_PROGRAM, 65531) ∷ (INET_DIAG_REQ_BYTECODE, 1) ∷
         (INET_DIAG_REQ_PROTOCOL, 3) ∷ (REQUEST_FRONT, 72) ∷ []) }
-{}
-
-/// States that the words of each text of a filter are read to their end, and that the parts that
-/// were read are those of the filter in postfix order.
-#[tactic(auto, using(crate::proofs::ReadingTexts::read_text, crate::proofs::Parsing::error_is_first, crate::proofs::LastParts::or_written))]
-pub fn texts_are_read()
-    ensures { (form : Form) (words : List (List ℕ)) (filter : Filter) → IsText form words filter → ⊤ }
 {}

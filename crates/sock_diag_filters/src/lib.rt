@@ -22,5 +22,7 @@ pub use crate::request::{
     INET_DIAG_REQ_BYTECODE, INET_DIAG_REQ_PROTOCOL, REQUEST_FRONT, RequestAttribute,
     RequestWithAttributes,
 };
-pub use crate::text::{FilterTextError, MAX_PARTS, ParsedFilter, Part, SocketFacts};
+pub use crate::text::{
+    FilterTextError, MAX_PARSED_PROGRAM, MAX_PARTS, ParsedFilter, Part, SocketFacts, states_named,
+};
 pub use crate::view::RequestView;

@@ -11,8 +11,8 @@ use crate::condition::{Comparison, Condition, Host, Prefix, write_address};
 use byteorder::{BigEndian, ByteOrder};
 use std::net::{IpAddr, Ipv6Addr};
 
-/// What a filter compares of a socket. Both addresses are of the socket's family.
-#[derive(Clone, Copy, Debug, PartialEq, Eq)]
+/// What a filter compares of a socket.
+#[derive(Clone, Copy, Debug)]
 pub struct SocketFacts {
     /// The local address.
     pub source: IpAddr,
@@ -107,8 +107,7 @@ fn has_prefix(prefix: Prefix, address: IpAddr) -> bool
                 && have_equal_bits(prefix.bits, &octets[12..], &wanted.octets())
         }
         (IpAddr::V6(wanted), IpAddr::V6(ip)) => {
-            prefix.bits == 0
-                || have_equal_bits(prefix.bits, &ipv6_octets(ip), &ipv6_octets(wanted))
+            prefix.bits == 0 || have_equal_bits(prefix.bits, &ipv6_octets(ip), &ipv6_octets(wanted))
         }
         (IpAddr::V6(_), IpAddr::V4(_)) => false,
     }

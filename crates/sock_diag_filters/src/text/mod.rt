@@ -11,4 +11,5 @@ mod states;
 mod values;
 
 pub use crate::text::facts::SocketFacts;
-pub use crate::text::parsed::{FilterTextError, MAX_PARTS, ParsedFilter, Part};
+pub use crate::text::parsed::{FilterTextError, MAX_PARSED_PROGRAM, MAX_PARTS, ParsedFilter, Part};
+pub use crate::text::states::states_named;

@@ -2,7 +2,7 @@
 //! last filter of some parts, and returns the parts before it. It calls itself once for each part, of
 //! which there are at most `MAX_PARTS`.
 
-ghost use Rattle.std.specs.Prelude.{◌≡◌, ◌+◌, ◌-◌, ◌≤◌, length, sum_by};
+ghost use Rattle.std.specs.Prelude.{◌≡◌, ◌+◌, ◌-◌, ◌*◌, ◌≤◌, IsTrue, length, sum_by};
 ghost use Rattle.sock_diag_filters.specs.Postfix.{IsLastSelected, IsLastWritten};
 ghost use Rattle.sock_diag_filters.specs.Postfix.{part_size};
 ghost use Rattle.sock_diag_filters.specs.SocketFacts.{socket_of};
@@ -19,6 +19,8 @@ use crate::text::parsed::Part;
 pub(crate) fn last_selects<'a>(parts: &'a [Part], facts: &SocketFacts) -> (bool, &'a [Part])
     ensures selected { IsLastSelected (meets (socket_of facts.now)) parts.now result.0
         result.1.now }
+    // Without parts each socket is selected.
+    ensures empty { length parts.now ≡ 0 → IsTrue result.0 }
     ensures shorter { length result.1.now ≤ length parts.now - 1 }
 {
     let Some((last, before)) = parts.split_last() else {
@@ -46,7 +48,8 @@ pub(crate) fn last_selects<'a>(parts: &'a [Part], facts: &SocketFacts) -> (bool,
 /// Returns the length of the program of the filters in some parts, in bytes.
 pub(crate) fn program_len(parts: &[Part]) -> usize
     requires { length parts.now ≤ MAX_PARTS }
-    ensures { result ≡ sum_by part_size parts.now }
+    ensures value { result ≡ sum_by part_size parts.now }
+    ensures bound { result ≤ MAX_PARTS * 28 }
 {
     let mut len = 0;
     for part in parts {
@@ -104,8 +107,7 @@ pub(crate) fn write_last<'a>(
             let end = buffer.len() - second_len;
             write_jump(second_len, &mut buffer[..end]);
             let start = end - OPERATION_HEADER_LEN;
-            let (first_len, rest) =
-                write_last(middle, OPERATION_HEADER_LEN, &mut buffer[..start]);
+            let (first_len, rest) = write_last(middle, OPERATION_HEADER_LEN, &mut buffer[..start]);
             (first_len + OPERATION_HEADER_LEN + second_len, rest)
         }
     }

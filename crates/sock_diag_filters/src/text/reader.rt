@@ -7,6 +7,7 @@ ghost use Rattle.sock_diag_filters.specs.Reading.{after_start, after_value, begu
 ghost use Rattle.sock_diag_filters.specs.Reading.{completed, initial, next, with_condition};
 ghost use Rattle.sock_diag_filters.specs.Reading.{with_pending};
 ghost use Rattle.sock_diag_filters.specs.declared.text.parsed.TheConstants.{MAX_PARTS};
+ghost use Rattle.sock_diag_filters.specs.declared.text.reader.Pending.TheVariants.{Group};
 
 use crate::condition::Condition;
 use crate::text::keywords::{Field, Keyword, Operator, keyword_named};
@@ -35,10 +36,9 @@ pub(crate) enum Place {
 }
 
 /// An operator or a group whose operand is not complete.
-#[derive(Clone, Copy, Default)]
+#[derive(Clone, Copy)]
 pub(crate) enum Pending {
     /// A group.
-    #[default]
     Group,
     /// `not`.
     Not,
@@ -46,6 +46,15 @@ pub(crate) enum Pending {
     And,
     /// `or`, with its first operand.
     Or,
+}
+
+// What fills the unused slots of a list.
+impl Default for Pending {
+    ghost is_default = { λ pending. pending ≡ Group };
+
+    fn default() -> Pending {
+        Pending::Group
+    }
 }
 
 /// The reason why a word is rejected.
@@ -247,12 +256,7 @@ impl Reader {
     }
 
     // Reads the value of a condition on the field after its operator.
-    fn read_value(
-        &mut self,
-        field: Field,
-        operator: Operator,
-        word: &[u8],
-    ) -> Result<(), Problem>
+    fn read_value(&mut self, field: Field, operator: Operator, word: &[u8]) -> Result<(), Problem>
         ensures { Follows (after_operator field operator (state_of self.old) word.now
             (keyword_named word.now)) result self.new }
     {
@@ -263,12 +267,7 @@ impl Reader {
     }
 
     // Adds the condition on the field with this operator and value.
-    fn add_value(
-        &mut self,
-        field: Field,
-        operator: Operator,
-        value: &[u8],
-    ) -> Result<(), Problem>
+    fn add_value(&mut self, field: Field, operator: Operator, value: &[u8]) -> Result<(), Problem>
         ensures { Follows (after_value field operator (state_of self.old) value.now) result
             self.new }
     {

@@ -15,11 +15,7 @@ use std::net::IpAddr;
 
 /// Parses the value of a condition on a field, which is compared in this way. Returns `None` if the
 /// text is not such a value.
-pub(crate) fn condition_in(
-    field: Field,
-    comparison: Comparison,
-    text: &[u8],
-) -> Option<Condition>
+pub(crate) fn condition_in(field: Field, comparison: Comparison, text: &[u8]) -> Option<Condition>
     ensures { result ≡ condition_in field comparison text.now }
 {
     match field {
@@ -71,7 +67,10 @@ fn mark_in(text: &[u8]) -> Option<Condition>
         }
         None => {
             let mark = u32_in(text)?;
-            Some(Condition::Mark { mark, mask: u32::MAX })
+            Some(Condition::Mark {
+                mark,
+                mask: u32::MAX,
+            })
         }
     }
 }

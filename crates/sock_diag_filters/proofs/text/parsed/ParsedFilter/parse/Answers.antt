@@ -32,26 +32,26 @@ returns-in_err-read_at-clause-rejected c =
 pub loop-index-preserved : goal.loop-index-preserved
 loop-index-preserved c =
     elim c.if-is_ascii_whitespace.branch [
-      then-is_ascii_whitespace+in_ok-read_at w ↦
+      | then-is_ascii_whitespace+in_ok-read_at w ↦
           let space : is_ascii_whitespace (get_or c.args.text.now c.loop-index.index 0) ≡ true =
           grind (arith, common_steps) in record {
-      same = space_step (state_of c.loop-index.reader) (state_of w.read_at.new.self)
-          (state_of c.if-is_ascii_whitespace.reader) c.loop-index.start c.loop-index.index
-          c.if-is_ascii_whitespace.start c.args.text.now tt c.loop-index.invariant.bound
-          (omega arith) space w.in_ok-read_at.ensures c.loop-index.invariant.same
-          (grind (arith, common_steps)) (grind (arith, common_steps));
-      bound = omega arith;
-    }
+            same = space_step (state_of c.loop-index.reader) (state_of w.read_at.new.self)
+                (state_of c.if-is_ascii_whitespace.reader) c.loop-index.start c.loop-index.index
+                c.if-is_ascii_whitespace.start c.args.text.now tt c.loop-index.invariant.bound
+                (omega arith) space w.in_ok-read_at.ensures c.loop-index.invariant.same
+                (grind (arith, common_steps)) (grind (arith, common_steps));
+            bound = omega arith;
+          }
       | else-is_ascii_whitespace w ↦
           let other : is_ascii_whitespace (get_or c.args.text.now c.loop-index.index 0) ≡ false =
           grind (arith, common_steps) in record {
-      same = byte_step (state_of c.loop-index.reader) (state_of c.if-is_ascii_whitespace.reader)
-          c.loop-index.start c.loop-index.index
-          c.if-is_ascii_whitespace.start c.args.text.now c.loop-index.invariant.bound
-          (omega arith) other c.loop-index.invariant.same
-          (grind (arith, common_steps)) (grind (arith, common_steps));
-      bound = omega arith;
-    }
+            same = byte_step (state_of c.loop-index.reader) (state_of c.if-is_ascii_whitespace.reader)
+                c.loop-index.start c.loop-index.index
+                c.if-is_ascii_whitespace.start c.args.text.now c.loop-index.invariant.bound
+                (omega arith) other c.loop-index.invariant.same
+                (grind (arith, common_steps)) (grind (arith, common_steps));
+            bound = omega arith;
+          }
     ]
 
 pub returns-in_err-read_at-2-clause-rejected : goal.returns-in_err-read_at-2-clause-rejected

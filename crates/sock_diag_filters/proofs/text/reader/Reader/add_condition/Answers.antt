@@ -26,7 +26,7 @@ returns-in_err-push c =
 pub returns-then-is_full : goal.returns-then-is_full
 returns-then-is_full c =
     elim c.if-negated.branch [
-      then-negated+in_ok-push w ↦ grind (
+      | then-negated+in_ok-push w ↦ grind (
         arith,
         size_with_negated_condition c.args.condition (state_of c.args.self.now),
       )
