@@ -1,8 +1,8 @@
 -- The text of a filter is read to a complete state, and from each state that is reached a text can be
 -- completed.
 use Rattle.std.proofs.Common.{◌≡◌, ◌∙◌, ℕ, List, [], ◌∷◌, ◌++◌, Option, None, Some, Bool, true, false}
-use Rattle.std.proofs.Common.{refl, sym, ap, subst, append_assoc, append-nil, arith, IsTrue}
-use Rattle.std.specs.Prelude.{option_and_then, option_map, if◌then◌else◌, unwrap_or, bit_and, bit_or}
+use Rattle.std.proofs.Common.{refl, sym, ap, subst, append-nil}
+use Rattle.std.specs.Prelude.{option_map, unwrap_or, bit_and, bit_or}
 use Rattle.std.specs.Prelude.{bit_xor}
 use Rattle.sock_diag_filters.specs.declared.condition.Condition.{Condition}
 use Rattle.sock_diag_filters.specs.declared.condition.Condition.TheVariants.{AutoBound}
@@ -18,12 +18,12 @@ use Rattle.sock_diag_filters.specs.declared.text.reader.Pending.TheVariants as p
 use Rattle.sock_diag_filters.specs.declared.text.reader.Place.{Place}
 use Rattle.sock_diag_filters.specs.declared.text.reader.Place.TheVariants as places
 use Rattle.sock_diag_filters.specs.declared.text.states.TheConstants.{ALL}
-use Rattle.sock_diag_filters.specs.Grammar.{AreStates, Is, IsFilterText, IsText, added, chain, removed}
+use Rattle.sock_diag_filters.specs.Grammar.{AreStates, Is, IsFilterText, added, chain, removed}
 use Rattle.sock_diag_filters.specs.Grammar.{unnamed, with, without}
-use Rattle.sock_diag_filters.specs.Keywords.{comparison_of, is_negated, keyword_named, takes}
+use Rattle.sock_diag_filters.specs.Keywords.{comparison_of, is_negated, keyword_named}
 use Rattle.sock_diag_filters.specs.Parsed.{CanContinue}
 use Rattle.sock_diag_filters.specs.Postfix.{postfix}
-use Rattle.sock_diag_filters.specs.Reading.{State, after_value, initial, is_complete, next, next_at}
+use Rattle.sock_diag_filters.specs.Reading.{State, after_value, initial, is_complete, next}
 use Rattle.sock_diag_filters.specs.Reading.{parts_after, pending_after, reading, with_condition}
 use Rattle.sock_diag_filters.specs.States.{group_named, state_named, states_named}
 use Rattle.sock_diag_filters.specs.Values.{condition_in}

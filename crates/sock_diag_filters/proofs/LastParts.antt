@@ -1,6 +1,6 @@
 -- The last filter of some parts: which sockets it selects, and its program.
-use Rattle.std.proofs.Common.{◌≡◌, ◌∙◌, ℕ, ◌+◌, ◌-◌, ◌≤◌, List, [], ◌∷◌, ◌++◌, Bool, true, false}
-use Rattle.std.proofs.Common.{refl, sym, ap, subst, append_assoc, append-nil, arith, drop, length, take}
+use Rattle.std.proofs.Common.{◌≡◌, ◌∙◌, ℕ, ◌+◌, ◌-◌, ◌≤◌, List, [], ◌∷◌, ◌++◌, Bool}
+use Rattle.std.proofs.Common.{refl, sym, ap, subst, append_assoc, arith, drop, length, take}
 use Rattle.std.proofs.lemmas.List.{length-append, length-take-le}
 use Rattle.std.proofs.lemmas.List.Sums.{sum_by-append}
 use Rattle.std.specs.Prelude.{not, ◌&&◌, ◌||◌, sum_by}
@@ -14,11 +14,11 @@ use Rattle.sock_diag_filters.specs.Conditions.{arguments, code_of}
 use Rattle.sock_diag_filters.specs.Filters.{meaning, program_size}
 use Rattle.std.proofs.Common.{IsTrue, Option, Some, None}
 use Rattle.sock_diag_filters.specs.Postfix.{optional_meaning, optional_postfix}
-use Rattle.sock_diag_filters.specs.Postfix.{IsLast, IsLastSelected, IsLastWritten, part_size, postfix}
+use Rattle.sock_diag_filters.specs.Postfix.{IsLastSelected, IsLastWritten, part_size, postfix}
 use Rattle.sock_diag_filters.specs.Sockets.{AreConditionsInRange, IsConditionInRange}
 use Rattle.sock_diag_filters.specs.private.Assembly.{EndsWith, jump, operation, program_of}
 use Rattle.sock_diag_filters.proofs.Ending.{ends_with_both}
-use Rattle.sock_diag_filters.proofs.Operations.{operation_length, program_length}
+use Rattle.sock_diag_filters.proofs.Operations.{program_length}
 
 -- ---- the last part
 

@@ -1,17 +1,15 @@
 -- What reading the words of a text leads to is a filter with this text, or the first error.
 use Rattle.std.proofs.Common.{◌≡◌, ◌∙◌, ℕ, ◌<◌, List, [], ◌∷◌, ◌++◌, Option, None, Some, Bool, true, false}
-use Rattle.std.proofs.Common.{refl, sym, ap, subst, append_assoc, append-nil, arith, Result, Ok, Err, map, inl, inr, ◌⊎◌}
+use Rattle.std.proofs.Common.{refl, sym, ap, subst, append_assoc, arith, Result, Ok, Err, inl, inr, ◌⊎◌}
 use Rattle.std.specs.Result.{result_ok}
-use Rattle.std.specs.Prelude.{⊤, option_and_then, if◌then◌else◌, nat_lt}
+use Rattle.std.specs.Prelude.{option_and_then, if◌then◌else◌, nat_lt}
 use Rattle.std.proofs.lemmas.Bool.Decides.{nat_tests}
 use Rattle.sock_diag_filters.specs.declared.text.parsed.FilterTextError.{FilterTextError}
 use Rattle.sock_diag_filters.specs.declared.text.parsed.FilterTextError.TheVariants.{TooLong}
 use Rattle.sock_diag_filters.specs.declared.text.parsed.FilterTextError.TheVariants.{Unexpected}
 use Rattle.sock_diag_filters.specs.declared.text.parsed.FilterTextError.TheVariants.{Incomplete}
 use Rattle.sock_diag_filters.specs.declared.text.parsed.TheConstants.{MAX_PARTS}
-use Rattle.sock_diag_filters.specs.declared.filter.Filter.{Filter}
-use Rattle.sock_diag_filters.specs.Grammar.{IsFilterText}
-use Rattle.sock_diag_filters.specs.Parsed.{CanContinue, IsFilterTextError, IsParsed, IsWordAt, outcome}
+use Rattle.sock_diag_filters.specs.Parsed.{CanContinue, IsFilterTextError, IsWordAt, outcome}
 use Rattle.sock_diag_filters.specs.Reading.{State, initial, is_complete, next, reading, size}
 use Rattle.sock_diag_filters.specs.Words.{placed_words, without_offsets, words_of}
 use Rattle.sock_diag_filters.proofs.Completing.{state_can_continue, text_is_complete}

@@ -1,19 +1,18 @@
 -- Reading the words of a text byte by byte.
-use Rattle.std.proofs.Common.{◌≡◌, ◌∙◌, ℕ, ◌+◌, ◌-◌, ◌<◌, ◌≤◌, List, [], ◌∷◌, ◌++◌, Bool, true, false}
-use Rattle.std.proofs.Common.{refl, sym, ap, subst, append_assoc, append-nil, arith, Result, Ok, Err}
+use Rattle.std.proofs.Common.{◌≡◌, ◌∙◌, ℕ, ◌+◌, ◌-◌, ◌<◌, ◌≤◌, List, [], ◌∷◌, ◌++◌, true, false}
+use Rattle.std.proofs.Common.{refl, sym, ap, subst, append-nil, arith, Result, Ok, Err}
 use Rattle.std.proofs.Common.{length, take, drop, Option, get_or, add-one}
 use Rattle.std.proofs.Math.Seq.{drop-cons}
 use Rattle.std.proofs.lemmas.List.{drop_all, get_or-drop, length-drop, length-take-le}
 use Rattle.std.proofs.lemmas.List.{take_more}
-use Rattle.std.specs.Prelude.{⊤, if◌then◌else◌, IfOk, IfErr}
+use Rattle.std.specs.Prelude.{⊤, IfOk, IfErr}
 use Rattle.sock_diag_filters.specs.Readers.{IsFinished}
 use Rattle.sock_diag_filters.specs.declared.text.parsed.ParsedFilter.{ParsedFilter}
 use Rattle.std.specs.Char.{is_ascii_whitespace}
 use Rattle.sock_diag_filters.specs.declared.text.parsed.FilterTextError.{FilterTextError}
-use Rattle.sock_diag_filters.specs.declared.text.parsed.FilterTextError.TheVariants.{Incomplete}
 use Rattle.sock_diag_filters.specs.declared.text.parsed.Part.{Part}
 use Rattle.sock_diag_filters.specs.Parsed.{IsFilterTextError, IsParsed, ReadsAt, outcome}
-use Rattle.sock_diag_filters.specs.Reading.{State, initial, is_complete, reading}
+use Rattle.sock_diag_filters.specs.Reading.{State, initial, is_complete}
 use Rattle.sock_diag_filters.specs.Words.{placed, placed_words, words_from, words_of}
 use Rattle.sock_diag_filters.proofs.Parsing.{error_is_first, incomplete_is_error, outcome_is_read}
 use Rattle.sock_diag_filters.proofs.ReadTexts.{read_is_text}

@@ -21,21 +21,21 @@ use Rattle.sock_diag_filters.specs.declared.text.reader.Pending.{Pending}
 use Rattle.sock_diag_filters.specs.declared.text.reader.Pending.TheVariants as pending
 use Rattle.sock_diag_filters.specs.declared.text.reader.Place.{Place}
 use Rattle.sock_diag_filters.specs.declared.text.reader.Place.TheVariants as places
-use Rattle.sock_diag_filters.specs.Grammar.{AreStates, Form, Is, IsComparison, IsText, adjacent}
+use Rattle.sock_diag_filters.specs.Grammar.{AreStates, Is, IsText, adjacent}
 use Rattle.sock_diag_filters.specs.Grammar.{automatic, both}
 use Rattle.sock_diag_filters.specs.Grammar.{chain, compared, comparison, either, equality, group}
 use Rattle.sock_diag_filters.specs.Grammar.{added, negation, only, operand, removed, unnamed}
 use Rattle.sock_diag_filters.specs.Grammar.{IsFilterText, with, without}
 use Rattle.sock_diag_filters.specs.Keywords.{comparison_of, is_negated, keyword_named, takes}
 use Rattle.sock_diag_filters.specs.Parsed.{IsParsed}
-use Rattle.sock_diag_filters.specs.Postfix.{optional_postfix, postfix}
+use Rattle.sock_diag_filters.specs.Postfix.{postfix}
 use Rattle.sock_diag_filters.specs.Reading.{State, after_field, after_operand, after_operator}
-use Rattle.sock_diag_filters.specs.Reading.{after_start, after_value, at, begun, closed, completed}
+use Rattle.sock_diag_filters.specs.Reading.{after_start, begun, closed}
 use Rattle.sock_diag_filters.specs.Reading.{next, next_at, parts_after, pending_after, reading}
-use Rattle.sock_diag_filters.specs.Reading.{initial, is_complete, with_condition, with_pending}
+use Rattle.sock_diag_filters.specs.Reading.{initial, is_complete, with_condition}
 use Rattle.sock_diag_filters.specs.Reading.{with_states}
 use Rattle.sock_diag_filters.specs.Values.{condition_in}
-use Rattle.sock_diag_filters.proofs.ReadingTexts.{IsBase, Words, base_after, condition_done, done}
+use Rattle.sock_diag_filters.proofs.ReadingTexts.{IsBase, Words, condition_done}
 use Rattle.sock_diag_filters.proofs.ReadingTexts.{state}
 
 -- The argument that belongs to a reference of a filter.

@@ -1,11 +1,10 @@
 -- A text of a filter is read to its end, and leaves the parts of the filter in postfix order.
 use Rattle.std.proofs.Common.{◌≡◌, ◌∙◌, ℕ, List, [], ◌∷◌, ◌++◌, Option, None, Some, Bool, true, false}
-use Rattle.std.proofs.Common.{refl, sym, ap, subst, append_assoc, append-nil, arith, IsTrue}
-use Rattle.std.specs.Prelude.{option_and_then, option_map, if◌then◌else◌}
+use Rattle.std.proofs.Common.{refl, sym, ap, append_assoc, append-nil}
+use Rattle.std.specs.Prelude.{option_and_then, option_map}
 use Rattle.sock_diag_filters.specs.declared.condition.Condition.{Condition}
 use Rattle.sock_diag_filters.specs.declared.condition.Condition.TheVariants.{AutoBound}
 use Rattle.sock_diag_filters.specs.declared.filter.Filter.{Filter}
-use Rattle.sock_diag_filters.specs.declared.filter.Filter.TheVariants as filters
 use Rattle.sock_diag_filters.specs.declared.text.keywords.Field.{Field}
 use Rattle.sock_diag_filters.specs.declared.text.keywords.Keyword.{Keyword}
 use Rattle.sock_diag_filters.specs.declared.text.keywords.Keyword.TheVariants as keywords
@@ -20,11 +19,11 @@ use Rattle.sock_diag_filters.specs.declared.text.reader.Place.TheVariants as pla
 use Rattle.sock_diag_filters.specs.Grammar.{Form, Is, IsComparison, IsText, adjacent, automatic, both}
 use Rattle.sock_diag_filters.specs.Grammar.{chain, compared, comparison, either, equality, group}
 use Rattle.sock_diag_filters.specs.Grammar.{negation, only, operand}
-use Rattle.sock_diag_filters.specs.Keywords.{comparison_of, is_negated, keyword_named, takes}
+use Rattle.sock_diag_filters.specs.Keywords.{is_negated}
 use Rattle.sock_diag_filters.specs.Postfix.{postfix}
-use Rattle.sock_diag_filters.specs.Reading.{State, after_field, after_operand, after_operator}
-use Rattle.sock_diag_filters.specs.Reading.{after_start, after_value, at, begun, closed, completed}
-use Rattle.sock_diag_filters.specs.Reading.{next, next_at, parts_after, pending_after, reading}
+use Rattle.sock_diag_filters.specs.Reading.{State, after_operand}
+use Rattle.sock_diag_filters.specs.Reading.{after_start, after_value, begun}
+use Rattle.sock_diag_filters.specs.Reading.{next, parts_after, pending_after, reading}
 use Rattle.sock_diag_filters.specs.Reading.{with_condition, with_pending}
 
 abbrev pub Words : Type 0

@@ -1,7 +1,6 @@
 -- The program of a filter in postfix order.
 use Rattle.std.proofs.Common.{◌≡◌, ◌∙◌, ℕ, ◌≤◌, List, [], ◌++◌, length, take, drop, sym, subst, ap, arith}
-use Rattle.std.proofs.Common.{Option, Some, refl}
-use Rattle.std.specs.Prelude.{IfSome, sum_by}
+use Rattle.std.specs.Prelude.{sum_by}
 use Rattle.std.proofs.Math.Seq.{take-append_seam}
 use Rattle.std.proofs.lemmas.List.{length-take-le}
 use Rattle.sock_diag_filters.specs.declared.filter.Filter.{Filter}

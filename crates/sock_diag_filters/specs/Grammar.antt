@@ -1,7 +1,7 @@
 -- The grammar of a filter's text, which is that of ss(8) (`ssfilter.y` of iproute2), without the
 -- names of hosts, services, interfaces and control groups. A word is a list of bytes.
 use Rattle.std.specs.Prelude.{◌≡◌, ℕ, ⊤, List, [], ◌∷◌, ◌++◌, Option, None, Some, bit_or, bit_and}
-use Rattle.std.specs.Prelude.{Bool, true, false, unwrap_or, if◌then◌else◌, bit_xor, IsTrue}
+use Rattle.std.specs.Prelude.{Bool, true, false, unwrap_or, bit_xor, IsTrue}
 use Rattle.std.specs.Borrow.{Bor}
 use Rattle.sock_diag_filters.specs.declared.condition.Condition.{Condition}
 use Rattle.sock_diag_filters.specs.declared.condition.Condition.TheVariants.{AutoBound}

@@ -1,8 +1,7 @@
-use Rattle.std.proofs.Common.{◌≡◌, ◌++◌, [], ◌∷◌, arith, rules, refl}
+use Rattle.std.proofs.Common.{arith}
 use Rattle.std.proofs.lemmas.Grind.{common_steps}
 use Rattle.sock_diag_filters.specs.SocketFacts.{socket_of}
 use Rattle.sock_diag_filters.specs.Sockets.{meets}
-use Rattle.sock_diag_filters.specs.declared.text.parsed.Part.TheVariants as parts
 use Rattle.sock_diag_filters.proofs.LastParts.{and_selected, condition_selected, none_selected}
 use Rattle.sock_diag_filters.proofs.LastParts.{not_selected, or_selected}
 use Rattle.sock_diag_filters.proofs.text.postfix.+last_selects.Goals as goal

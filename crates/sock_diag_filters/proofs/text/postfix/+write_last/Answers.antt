@@ -1,6 +1,5 @@
-use Rattle.std.proofs.Common.{◌≡◌, ◌++◌, ◌-◌, [], ◌∷◌, arith, rules, refl, length, drop}
+use Rattle.std.proofs.Common.{◌-◌, arith, refl, length}
 use Rattle.std.proofs.lemmas.Grind.{common_steps}
-use Rattle.sock_diag_filters.specs.declared.text.parsed.Part.TheVariants as parts
 use Rattle.sock_diag_filters.proofs.LastParts.{and_written, condition_written, none_written}
 use Rattle.sock_diag_filters.proofs.LastParts.{not_written, or_written}
 use Rattle.sock_diag_filters.proofs.text.postfix.+write_last.Goals as goal

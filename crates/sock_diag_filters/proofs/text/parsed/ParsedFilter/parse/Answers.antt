@@ -1,5 +1,5 @@
-use Rattle.std.proofs.Common.{◌≡◌, ◌<◌, ◌≤◌, arith, rules, sym, Err, Ok, subst, true, false, length}
-use Rattle.std.proofs.Common.{get_or, Result, Option}
+use Rattle.std.proofs.Common.{◌≡◌, arith, sym, Err, subst, true, false}
+use Rattle.std.proofs.Common.{get_or, Result}
 use Rattle.std.specs.Prelude.{IfErr}
 use Rattle.std.specs.Char.{is_ascii_whitespace}
 use Rattle.std.proofs.lemmas.Grind.{common_steps}

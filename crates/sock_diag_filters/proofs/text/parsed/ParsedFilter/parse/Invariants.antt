@@ -1,4 +1,4 @@
-use Rattle.std.proofs.Common.{◌≡◌, ◌≤◌, ◌-◌, [], drop, take}
+use Rattle.std.proofs.Common.{◌≡◌, ◌≤◌, ◌-◌, drop, take}
 use Rattle.sock_diag_filters.specs.Parsed.{outcome}
 use Rattle.sock_diag_filters.specs.Readers.{state_of}
 use Rattle.sock_diag_filters.specs.Reading.{initial}

@@ -1,4 +1,4 @@
-use Rattle.std.proofs.Common.{◌≡◌, ◌∙◌}
+use Rattle.std.proofs.Common.{◌∙◌}
 use Rattle.sock_diag_filters.specs.SocketFacts.{socket_of}
 use Rattle.sock_diag_filters.specs.Sockets.{meets}
 use Rattle.sock_diag_filters.proofs.LastParts.{all_selected}

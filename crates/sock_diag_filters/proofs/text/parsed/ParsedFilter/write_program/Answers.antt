@@ -1,7 +1,5 @@
-use Rattle.std.proofs.Common.{◌≡◌, ◌≤◌, arith, rules, length}
-use Rattle.std.specs.Prelude.{sum_by}
+use Rattle.std.proofs.Common.{arith}
 use Rattle.std.proofs.lemmas.Grind.{common_steps}
-use Rattle.sock_diag_filters.specs.Postfix.{part_size}
 use Rattle.sock_diag_filters.proofs.WrittenPrograms.{written_is_program}
 use Rattle.sock_diag_filters.proofs.text.parsed.ParsedFilter.write_program.Goals as goal
 

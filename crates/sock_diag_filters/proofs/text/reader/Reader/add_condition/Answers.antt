@@ -1,8 +1,7 @@
-use Rattle.std.proofs.Common.{arith, rules, sym, ◌≡◌, Err, subst, Some}
-use Rattle.std.proofs.lemmas.Grind.{common_steps}
+use Rattle.std.proofs.Common.{arith}
 use Rattle.std.proofs.lemmas.Result.{err_from_is_err_and}
-use Rattle.sock_diag_filters.specs.Readers.{Follows, state_of}
-use Rattle.sock_diag_filters.specs.Reading.{size, with_condition, with_pending}
+use Rattle.sock_diag_filters.specs.Readers.{state_of}
+use Rattle.sock_diag_filters.specs.Reading.{with_condition, with_pending}
 use Rattle.sock_diag_filters.specs.declared.text.reader.Pending.TheVariants.{Not}
 use Rattle.sock_diag_filters.proofs.ReadingSteps.{pending_is_shorter, too_long_follows}
 use Rattle.sock_diag_filters.proofs.ReadingSteps.{size_with_negated_condition}
