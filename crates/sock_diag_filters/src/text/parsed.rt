@@ -52,17 +52,22 @@ impl Default for Part {
 /// The reason why a text is not a filter.
 #[derive(Clone, Copy, Debug, Drop, PartialEq, Eq, Error)]
 pub enum FilterTextError {
-    /// No filter begins with the text up to and including the word at this offset, in bytes. One
-    /// begins with the words before it.
-    #[error("unexpected word at byte {0}")]
-    Unexpected(usize),
+    /// No filter begins with the text up to and including this word. One begins with the words
+    /// before it.
+    #[error("unexpected word at byte {offset}")]
+    Unexpected {
+        /// The offset of the word in bytes.
+        offset: usize,
+    },
     /// The text ends before the end of the filter.
     #[error("the filter is not complete")]
     Incomplete,
-    /// With the word at this offset, in bytes, the filter has more than [`MAX_PARTS`] conditions,
-    /// operators and open groups.
-    #[error("more than {MAX_PARTS} conditions and operators at byte {0}")]
-    TooLong(usize),
+    /// With this word the filter has more than [`MAX_PARTS`] conditions, operators and open groups.
+    #[error("more than {MAX_PARTS} conditions and operators at byte {offset}")]
+    TooLong {
+        /// The offset of the word in bytes.
+        offset: usize,
+    },
 }
 
 /// A filter that was parsed from a text, in the words of ss(8).

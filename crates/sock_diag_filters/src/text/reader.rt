@@ -107,8 +107,8 @@ impl Reader {
         }
         match self.read(word) {
             Ok(()) => Ok(()),
-            Err(Problem::Unexpected) => Err(FilterTextError::Unexpected(start)),
-            Err(Problem::TooLong) => Err(FilterTextError::TooLong(start)),
+            Err(Problem::Unexpected) => Err(FilterTextError::Unexpected { offset: start }),
+            Err(Problem::TooLong) => Err(FilterTextError::TooLong { offset: start }),
         }
     }
 
