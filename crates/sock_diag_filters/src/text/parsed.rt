@@ -50,7 +50,7 @@ impl Default for Part {
 }
 
 /// The reason why a text is not a filter.
-#[derive(Clone, Copy, Debug, Drop, PartialEq, Eq, Error)]
+#[derive(Clone, Copy, Debug, PartialEq, Eq, Error)]
 pub enum FilterTextError {
     /// No filter begins with the text up to and including this word. One begins with the words
     /// before it.
