@@ -1,6 +1,8 @@
--- The text of a filter is read to a complete state, and from each state that is reached a text can be
+-- The text of a filter is read to a complete state, and from each state that is reached a text can
+-- be
 -- completed.
-use Rattle.std.proofs.Common.{◌≡◌, ◌∙◌, ℕ, List, [], ◌∷◌, ◌++◌, Option, None, Some, Bool, true, false}
+use Rattle.std.proofs.Common.{◌≡◌, ◌∙◌, ℕ, List, [], ◌∷◌, ◌++◌, Option, None, Some, Bool, true}
+use Rattle.std.proofs.Common.{false}
 use Rattle.std.proofs.Common.{refl, sym, ap, subst, append-nil}
 use Rattle.std.specs.Prelude.{option_map, unwrap_or, bit_and, bit_or}
 use Rattle.std.specs.Prelude.{bit_xor}
@@ -28,7 +30,8 @@ use Rattle.sock_diag_filters.specs.Reading.{parts_after, pending_after, reading,
 use Rattle.sock_diag_filters.specs.States.{group_named, state_named, states_named}
 use Rattle.sock_diag_filters.specs.Values.{condition_in}
 use Rattle.sock_diag_filters.proofs.ReadTexts.{ReachedAt, reached, read_is_text}
-use Rattle.sock_diag_filters.proofs.ReadingTexts.{Words, done, first_word, read_from_start, read_text}
+use Rattle.sock_diag_filters.proofs.ReadingTexts.{Words, done, first_word, read_from_start}
+use Rattle.sock_diag_filters.proofs.ReadingTexts.{read_text}
 use Rattle.sock_diag_filters.proofs.ReadingTexts.{read_word, read_words, state}
 
 -- ---- texts are complete
@@ -37,14 +40,20 @@ states_read : (words : Words) (st : Option ℕ) → AreStates words st
     → reading initial words ≡ Some (state places.Start st [] [])
 states_read _ _ unnamed = refl
 states_read _ _ (added words st word name n a is named) =
-    read_words initial (state places.Start st [] []) words (word ∷ name ∷ []) (states_read words st a)
-    ∙ (read_word (state places.Start st [] []) (state places.Added st [] []) word (name ∷ []) (rw is refl)
-    ∙ read_word (state places.Added st [] []) (state places.Start (Some (bit_or (unwrap_or st 0) n)) [] []) name []
+    read_words initial (state places.Start st [] []) words (word ∷ name ∷ []) (states_read words st
+    a)
+    ∙ (read_word (state places.Start st [] []) (state places.Added st [] []) word (name ∷ []) (rw is
+    refl)
+    ∙ read_word (state places.Added st [] []) (state places.Start (Some (bit_or (unwrap_or st 0) n))
+    [] []) name []
     (rw named refl))
 states_read _ _ (removed words st word name n a is named) =
-    read_words initial (state places.Start st [] []) words (word ∷ name ∷ []) (states_read words st a)
-    ∙ (read_word (state places.Start st [] []) (state places.Removed st [] []) word (name ∷ []) (rw is refl)
-    ∙ read_word (state places.Removed st [] []) (state places.Start (Some (bit_and (unwrap_or st ALL) (bit_xor n ALL))) [] []) name []
+    read_words initial (state places.Start st [] []) words (word ∷ name ∷ []) (states_read words st
+    a)
+    ∙ (read_word (state places.Start st [] []) (state places.Removed st [] []) word (name ∷ []) (rw
+    is refl)
+    ∙ read_word (state places.Removed st [] []) (state places.Start (Some (bit_and (unwrap_or st
+    ALL) (bit_xor n ALL))) [] []) name []
     (rw named refl))
 
 -- The state after a text.
@@ -56,7 +65,11 @@ pub record Completes (words : Words) : Type 0 where
 pub text_is_complete : (words : Words) (st : Option ℕ) (filter : Option Filter)
     → IsFilterText words st filter → Completes words
 text_is_complete _ _ _ (without words st a) =
-    record { state = state places.Start st [] []; is_read = states_read words st a; complete = refl }
+    record {
+      state = state places.Start st [] [];
+      is_read = states_read words st a;
+      complete = refl;
+    }
 text_is_complete _ _ _ (with named words st filter a text) = record {
   state = state places.Operator st [] (postfix filter);
   is_read = read_words initial (state places.Start st [] []) named words (states_read named st a)
@@ -90,13 +103,20 @@ record Ending (s : State) : Type 0 where
   is_read : reading s words ≡ Some state
   complete : is_complete state ≡ true
 
-all_closed : (p : List Pending) (st : Option ℕ) (out : List Part) → Ending (state places.Operator st (pending_after p) out)
-all_closed [] st out = record { words = []; state = state places.Operator st [] out; is_read = refl; complete = refl }
+all_closed : (p : List Pending) (st : Option ℕ) (out : List Part) → Ending (state places.Operator st
+    (pending_after p) out)
+all_closed [] st out = record {
+  words = [];
+  state = state places.Operator st [] out;
+  is_read = refl;
+  complete = refl;
+}
 all_closed (pending.Group ∷ outer) st out =
     let later = all_closed outer st (out ++ parts_after outer) in record {
       words = close_word ∷ later.words;
       state = later.state;
-      is_read = read_word (state places.Operator st (pending.Group ∷ outer) out) (done st outer out) close_word
+      is_read = read_word (state places.Operator st (pending.Group ∷ outer) out) (done st outer out)
+          close_word
           later.words (rw is_close refl) ∙ later.is_read;
       complete = later.complete;
     }
@@ -171,36 +191,49 @@ value_ending : (field : Field) (operator : Operator) (st : Option ℕ) (p : List
     → Ending (state place st p out)
 value_ending field operator st p out place is =
     let v = value_is_value field operator in
-    one_more (state place st p out) (with_condition (is_negated operator) v.condition (state place st p out))
+    one_more (state place st p out) (with_condition (is_negated operator) v.condition (state place
+    st p out))
     (value_of_field field)
-    (is ∙ ap (λ o. option_map (λ c. with_condition (is_negated operator) c (state place st p out)) o) v.is)
+    (is ∙ ap (λ o. option_map (λ c. with_condition (is_negated operator) c (state place st p out))
+    o) v.is)
     (operator_after_condition (is_negated operator) v.condition st place p out)
 
 start_ending : (st : Option ℕ) → Ending (state places.Start st [] [])
-start_ending st = record { words = []; state = state places.Start st [] []; is_read = refl; complete = refl }
+start_ending st = record {
+  words = [];
+  state = state places.Start st [] [];
+  is_read = refl;
+  complete
+      = refl;
+}
 
 ending_at : (place : Place) (st : Option ℕ) (p : List Pending) (out : List Part) (words : Words)
     → ReachedAt place words (state place st p out) → Ending (state place st p out)
 ending_at places.Start st p out words r =
     record { words = []; state = state places.Start st p out; is_read = refl; complete = refl }
 ending_at places.Added st p out words r =
-    one_more (state places.Added st p out) (state places.Start (Some (bit_or (unwrap_or st 0) ALL)) p out) all_word
+    one_more (state places.Added st p out) (state places.Start (Some (bit_or (unwrap_or st 0) ALL))
+    p out) all_word
     (rw is_all_word refl)
     record { words = []; state = _; is_read = refl; complete = refl }
 ending_at places.Removed st p out words r =
-    one_more (state places.Removed st p out) (state places.Start (Some (bit_and (unwrap_or st ALL) (bit_xor ALL ALL))) p out) all_word
+    one_more (state places.Removed st p out) (state places.Start (Some (bit_and (unwrap_or st ALL)
+    (bit_xor ALL ALL))) p out) all_word
     (rw is_all_word refl)
     record { words = []; state = _; is_read = refl; complete = refl }
 ending_at places.Operand st p out words r =
-    one_more (state places.Operand st p out) (with_condition false AutoBound (state places.Operand st p out)) automatic_word
+    one_more (state places.Operand st p out) (with_condition false AutoBound (state places.Operand
+    st p out)) automatic_word
     (rw is_automatic_word refl)
     (operator_after_condition false AutoBound st places.Operand p out)
 ending_at (places.Field field) st p out words r =
     value_ending field Equal st p out (places.Field field) (rw (value_is_no_keyword field) refl)
 ending_at (places.Value field operator) st p out words r =
-    value_ending field operator st p out (places.Value field operator) (rw (value_is_no_keyword field) refl)
+    value_ending field operator st p out (places.Value field operator) (rw (value_is_no_keyword
+    field) refl)
 ending_at places.Operator st p out words r =
-    subst (λ (q : List Pending). Ending (state places.Operator st q out)) r.base.same (all_closed p st out)
+    subst (λ (q : List Pending). Ending (state places.Operator st q out)) r.base.same (all_closed p
+    st out)
 
 pub state_can_continue : (words : Words) (t : State) → reading initial words ≡ Some t
     → CanContinue words

@@ -52,7 +52,8 @@ same_last xs ys x y h = (
   sym (front_of_snoc xs x) ∙ (ap front_of h ∙ front_of_snoc ys y),
 )
 
--- `IsTop last rest before filter`: the parts `rest` and the part `last` are `before` and the parts of
+-- `IsTop last rest before filter`: the parts `rest` and the part `last` are `before` and the parts
+-- of
 -- the filter.
 abbrev pub IsTop : Part → List Part → List Part → Filter → Type 0
 IsTop last rest before (filters.Condition c) = (last ≡ parts.Condition c) × (rest ≡ before)
@@ -78,7 +79,8 @@ top_of rest last before (filters.And' p a q b) h =
 top_of rest last before (filters.Or' p a q b) h =
     binary_top rest before (postfix a) (postfix b) last parts.Or h
 top_of rest last before (filters.Not' p a) h =
-    same_last rest (before ++ postfix a) last parts.Not (h ∙ sym (append_assoc before (postfix a) (parts.Not ∷ [])))
+    same_last rest (before ++ postfix a) last parts.Not (h ∙ sym (append_assoc before (postfix a)
+    (parts.Not ∷ [])))
 
 -- ---- selection
 
@@ -136,14 +138,16 @@ pub condition_selected : (met : Condition → Bool) (all rest : List Part) (c : 
     (selected : Bool) → all ≡ rest ++ parts.Condition c ∷ [] → selected ≡ met c
     → IsLastSelected met all selected rest
 condition_selected met all rest c selected is same before filter h =
-    let s = selects_condition met rest c before filter (top_of rest (parts.Condition c) before filter (sym is ∙ h)) in
+    let s = selects_condition met rest c before filter (top_of rest (parts.Condition c) before
+    filter (sym is ∙ h)) in
     (same ∙ s.0, s.1)
 
 pub not_selected : (met : Condition → Bool) (all rest : List Part) (operand : Bool)
     (outer : List Part) → all ≡ rest ++ parts.Not ∷ [] → IsLastSelected met rest operand outer
     → IsLastSelected met all (not operand) outer
 not_selected met all rest operand outer is h before filter k =
-    selects_not met rest operand outer h before filter (top_of rest parts.Not before filter (sym is ∙ k))
+    selects_not met rest operand outer h before filter (top_of rest parts.Not before filter (sym is
+    ∙ k))
 
 pub and_selected : (met : Condition → Bool) (all rest middle : List Part) (second first : Bool)
     (outer : List Part) (selected : Bool) → all ≡ rest ++ parts.And ∷ []
@@ -173,7 +177,13 @@ some_parts (filters.Not' p a) =
 pub no_parts : (all before : List Part) (filter : Filter) → length all ≡ 0
     → all ≡ before ++ postfix filter → ⊥
 no_parts all before filter none h =
-    omega (arith, some_parts filter, ap (λ (l : List Part). length l) h, length-append before (postfix filter))
+    omega (
+      arith,
+      some_parts filter,
+      ap (λ (l : List Part). length l) h,
+      length-append before
+          (postfix filter),
+    )
 
 -- No filter has no parts.
 pub none_selected : (met : Condition → Bool) (all : List Part) (selected : Bool) (rest : List Part)
@@ -216,7 +226,8 @@ last_fits all before filter n fits h =
     )
 
 -- What `IsLastWritten` says of one filter.
-abbrev Written : (far : ℕ) → (old new : List ℕ) → (len : ℕ) → List Part → List Part → Filter → Type 0
+abbrev Written : (far : ℕ) → (old new : List ℕ) → (len : ℕ) → List Part → List Part → Filter → Type
+    0
 Written far old new len rest before filter =
     (len ≡ program_size filter) × (rest ≡ before) × EndsWith old (program_of filter far) new
     × AreConditionsInRange filter
@@ -275,21 +286,32 @@ writes_not rest far old middle new n len outer after is h before (filters.Not' p
           (omega (arith, program_length a 4)) after is s.2,
       s.3,
     )
-writes_not rest far old middle new n len outer after is h before (filters.Condition d) fits (e, same) =
+writes_not rest far old middle new n len outer after is h before (filters.Condition d) fits (
+  e,
+  same,
+) =
     absurd (cc)
-writes_not rest far old middle new n len outer after is h before (filters.And' p a q b) fits (e, same) =
+writes_not rest far old middle new n len outer after is h before (filters.And' p a q b) fits (
+  e,
+  same,
+) =
     absurd (cc)
-writes_not rest far old middle new n len outer after is h before (filters.Or' p a q b) fits (e, same) =
+writes_not rest far old middle new n len outer after is h before (filters.Or' p a q b) fits (
+  e,
+  same,
+) =
     absurd (cc)
 
-writes_and : (rest middle_parts : List Part) (far : ℕ) (old middle new : List ℕ) (n second first : ℕ)
+writes_and : (rest middle_parts : List Part) (far : ℕ) (old middle new : List ℕ) (n second first :
+    ℕ)
     (outer : List Part) → IsLastWritten rest far old middle second middle_parts
     → n ≡ length middle - second
     → IsLastWritten middle_parts (second + far) (take n middle) new first outer
     → (before : List Part) (filter : Filter) → program_size filter ≤ length old
     → IsTop parts.And rest before filter
     → Written far old (new ++ drop n middle) (first + second) outer before filter
-writes_and rest middle_parts far old middle new n second first outer h is k before (filters.And' p a q b) fits (e, same) =
+writes_and rest middle_parts far old middle new n second first outer h is k before (filters.And' p a
+    q b) fits (e, same) =
     let s = h (before ++ postfix a) b same in
     let t = k before a s.1 in (
       omega (arith, s.0, t.0),
@@ -300,11 +322,14 @@ writes_and rest middle_parts far old middle new n second first outer h is k befo
           (subst (λ (x : ℕ). EndsWith (take n middle) (program_of a (x + far)) new) s.0 t.2),
       (t.3, s.3),
     )
-writes_and rest middle_parts far old middle new n second first outer h is k before (filters.Condition d) fits (e, same) =
+writes_and rest middle_parts far old middle new n second first outer h is k before
+    (filters.Condition d) fits (e, same) =
     absurd (cc)
-writes_and rest middle_parts far old middle new n second first outer h is k before (filters.Not' p a) fits (e, same) =
+writes_and rest middle_parts far old middle new n second first outer h is k before (filters.Not' p
+    a) fits (e, same) =
     absurd (cc)
-writes_and rest middle_parts far old middle new n second first outer h is k before (filters.Or' p a q b) fits (e, same) =
+writes_and rest middle_parts far old middle new n second first outer h is k before (filters.Or' p a
+    q b) fits (e, same) =
     absurd (cc)
 
 writes_or : (rest middle_parts : List Part) (far : ℕ) (old middle jumped new : List ℕ)
@@ -316,35 +341,65 @@ writes_or : (rest middle_parts : List Part) (far : ℕ) (old middle jumped new :
     → IsTop parts.Or rest before filter
     → Written far old (new ++ drop n (jumped ++ drop end middle)) (first + 4 + second) outer before
     filter
-writes_or rest middle_parts far old middle jumped new end n second first outer h is j m k before (filters.Or' p a q b) fits (e, same) =
+writes_or rest middle_parts far old middle jumped new end n second first outer h is j m k before
+    (filters.Or' p a q b) fits (e, same) =
     let s = h (before ++ postfix a) b same in
     let t = k before a s.1 in
-    let at : end ≡ length middle - length (program_of b far) = omega (arith, is, s.0, program_length b far) in
-    let both : EndsWith old (jump (program_size b) ++ program_of b far) (jumped ++ drop end middle) =
+    let at : end ≡ length middle - length (program_of b far) = omega (
+      arith,
+      is,
+      s.0,
+      program_length
+          b far,
+    ) in
+    let both : EndsWith old (jump (program_size b) ++ program_of b far) (jumped ++ drop end middle)
+    =
     ends_with_both old middle jumped (jump (program_size b)) (program_of b far) end
     (omega (arith, program_length b far)) s.2 at
     (subst (λ (x : ℕ). EndsWith (take end middle) (jump x) jumped) s.0 j) in
-    let all = length_after old (jump (program_size b) ++ program_of b far) (jumped ++ drop end middle)
-    (omega (arith, program_length b far, length-append (jump (program_size b)) (program_of b far))) both in
-    let long = length_after old (program_of b far) middle (omega (arith, program_length b far)) s.2 in (
+    let all = length_after old (jump (program_size b) ++ program_of b far) (jumped ++ drop end
+    middle)
+    (omega (arith, program_length b far, length-append (jump (program_size b)) (program_of b far)))
+    both in
+    let long = length_after old (program_of b far) middle (omega (arith, program_length b far)) s.2
+    in (
       omega (arith, s.0, t.0),
       t.1,
       ends_with_both old (jumped ++ drop end middle) new (program_of a 4)
           (jump (program_size b) ++ program_of b far) n
-          (omega (arith, program_length a 4, program_length b far, length-append (jump (program_size b)) (program_of b far)))
+          (omega (
+            arith,
+            program_length a 4,
+            program_length b far,
+            length-append (jump (program_size
+                b)) (program_of b far),
+          ))
           both
-          (omega (arith, all, long, m, at, program_length b far, length-append (jump (program_size b)) (program_of b far)))
+          (omega (
+            arith,
+            all,
+            long,
+            m,
+            at,
+            program_length b far,
+            length-append (jump (program_size
+                b)) (program_of b far),
+          ))
           t.2,
       (t.3, s.3),
     )
-writes_or rest middle_parts far old middle jumped new end n second first outer h is j m k before (filters.Condition d) fits (e, same) =
+writes_or rest middle_parts far old middle jumped new end n second first outer h is j m k before
+    (filters.Condition d) fits (e, same) =
     absurd (cc)
-writes_or rest middle_parts far old middle jumped new end n second first outer h is j m k before (filters.Not' p a) fits (e, same) =
+writes_or rest middle_parts far old middle jumped new end n second first outer h is j m k before
+    (filters.Not' p a) fits (e, same) =
     absurd (cc)
-writes_or rest middle_parts far old middle jumped new end n second first outer h is j m k before (filters.And' p a q b) fits (e, same) =
+writes_or rest middle_parts far old middle jumped new end n second first outer h is j m k before
+    (filters.And' p a q b) fits (e, same) =
     absurd (cc)
 
-pub condition_written : (all rest : List Part) (c : Condition) (far : ℕ) (old new : List ℕ) (len : ℕ)
+pub condition_written : (all rest : List Part) (c : Condition) (far : ℕ) (old new : List ℕ) (len :
+    ℕ)
     → all ≡ rest ++ parts.Condition c ∷ [] → len ≡ OPERATION_HEADER_LEN + length (arguments c)
     → EndsWith old (operation (code_of c) (arguments c) far) new → IsConditionInRange c
     → IsLastWritten all far old new len rest
@@ -359,7 +414,8 @@ pub not_written : (all rest : List Part) (far : ℕ) (old middle new : List ℕ)
     → IsLastWritten all far old (new ++ drop n middle) (len + 4) outer
 not_written all rest far old middle new n len outer is whole after at h before filter k =
     writes_not rest far old middle new n len outer after at h before filter
-    (last_fits all before filter (length old) whole k) (top_of rest parts.Not before filter (sym is ∙ k))
+    (last_fits all before filter (length old) whole k) (top_of rest parts.Not before filter (sym is
+    ∙ k))
 
 pub and_written : (all rest middle_parts : List Part) (far : ℕ) (old middle new : List ℕ)
     (n second first : ℕ) (outer : List Part) → all ≡ rest ++ parts.And ∷ []
@@ -367,9 +423,11 @@ pub and_written : (all rest middle_parts : List Part) (far : ℕ) (old middle ne
     → IsLastWritten rest far old middle second middle_parts → n ≡ length middle - second
     → IsLastWritten middle_parts (second + far) (take n middle) new first outer
     → IsLastWritten all far old (new ++ drop n middle) (first + second) outer
-and_written all rest middle_parts far old middle new n second first outer is whole h at k before filter l =
+and_written all rest middle_parts far old middle new n second first outer is whole h at k before
+    filter l =
     writes_and rest middle_parts far old middle new n second first outer h at k before filter
-    (last_fits all before filter (length old) whole l) (top_of rest parts.And before filter (sym is ∙ l))
+    (last_fits all before filter (length old) whole l) (top_of rest parts.And before filter (sym is
+    ∙ l))
 
 pub or_written : (all rest middle_parts : List Part) (far : ℕ) (old middle jumped new : List ℕ)
     (end n second first : ℕ) (outer : List Part) → all ≡ rest ++ parts.Or ∷ []
@@ -377,10 +435,14 @@ pub or_written : (all rest middle_parts : List Part) (far : ℕ) (old middle jum
     → IsLastWritten rest far old middle second middle_parts → end ≡ length middle - second
     → EndsWith (take end middle) (jump second) jumped → n ≡ end - 4
     → IsLastWritten middle_parts 4 (take n (jumped ++ drop end middle)) new first outer
-    → IsLastWritten all far old (new ++ drop n (jumped ++ drop end middle)) (first + 4 + second) outer
-or_written all rest middle_parts far old middle jumped new end n second first outer is whole h at j m k before filter l =
-    writes_or rest middle_parts far old middle jumped new end n second first outer h at j m k before filter
-    (last_fits all before filter (length old) whole l) (top_of rest parts.Or before filter (sym is ∙ l))
+    → IsLastWritten all far old (new ++ drop n (jumped ++ drop end middle)) (first + 4 + second)
+    outer
+or_written all rest middle_parts far old middle jumped new end n second first outer is whole h at j
+    m k before filter l =
+    writes_or rest middle_parts far old middle jumped new end n second first outer h at j m k before
+    filter
+    (last_fits all before filter (length old) whole l) (top_of rest parts.Or before filter (sym is ∙
+    l))
 
 -- No filter has no parts.
 pub none_written : (all : List Part) (far : ℕ) (old new : List ℕ) (len : ℕ) (rest : List Part)

@@ -17,7 +17,8 @@ some_prefix : (address : IpAddr) (bits : ℕ) (prefix : Prefix) → prefix.addre
     ])
 some_prefix address bits prefix a b (inl more) =
     let within : prefix.bits ≤ bits_of prefix.address = prefix.in_range in
-    absurd (let h : bits ≤ bits_of address = subst (λ n. n ≤ bits_of address) b (subst (λ x. prefix.bits ≤ bits_of x) a within) in omega arith)
+    absurd (let h : bits ≤ bits_of address = subst (λ n. n ≤ bits_of address) b (subst (λ x.
+    prefix.bits ≤ bits_of x) a within) in omega arith)
 some_prefix address bits prefix a b (inr within) = ap (λ p. Some p) (prefix_path prefix _ a b)
 
 no_prefix : (address : IpAddr) (bits : ℕ) → (bits ≤ bits_of address → ⊥)
@@ -33,4 +34,5 @@ pub new_prefix_is_prefix_of : (result : Option Prefix) (address : IpAddr) (bits 
     → IsNewPrefix result address bits → result ≡ prefix_of address bits
 new_prefix_is_prefix_of (Some prefix) address bits (a, b) =
     some_prefix address bits prefix a b (cases_lt (bits_of address) bits)
-new_prefix_is_prefix_of None address bits h = no_prefix address bits h (cases_lt (bits_of address) bits)
+new_prefix_is_prefix_of None address bits h = no_prefix address bits h (cases_lt (bits_of address)
+    bits)

@@ -1,6 +1,8 @@
 -- What reading the words of a text leads to is a filter with this text, or the first error.
-use Rattle.std.proofs.Common.{◌≡◌, ◌∙◌, ℕ, ◌<◌, List, [], ◌∷◌, ◌++◌, Option, None, Some, Bool, true, false}
-use Rattle.std.proofs.Common.{refl, sym, ap, subst, append_assoc, arith, Result, Ok, Err, inl, inr, ◌⊎◌}
+use Rattle.std.proofs.Common.{◌≡◌, ◌∙◌, ℕ, ◌<◌, List, [], ◌∷◌, ◌++◌, Option, None, Some, Bool}
+use Rattle.std.proofs.Common.{true, false}
+use Rattle.std.proofs.Common.{refl, sym, ap, subst, append_assoc, arith, Result, Ok, Err, inl}
+use Rattle.std.proofs.Common.{inr, ◌⊎◌}
 use Rattle.std.specs.Result.{result_ok}
 use Rattle.std.specs.Prelude.{option_and_then, if◌then◌else◌, nat_lt}
 use Rattle.std.proofs.lemmas.Bool.Decides.{nat_tests}
@@ -38,7 +40,8 @@ read_step : (o : Option State) (offset : ℕ) (later : List (ℕ × List ℕ)) (
     → outcome_after o offset later ≡ Ok t
     → option_and_then (λ u. reading u (without_offsets later)) o ≡ Some t
 read_step None offset later t so h = absurd (cc)
-read_step (Some u) offset later t so h = read_within (nat_lt MAX_PARTS (size u)) u offset later t so h
+read_step (Some u) offset later t so h = read_within (nat_lt MAX_PARTS (size u)) u offset later t so
+    h
 
 pub outcome_is_read : (s : State) (words : List (ℕ × List ℕ)) (t : State) → outcome s words ≡ Ok t
     → reading s (without_offsets words) ≡ Some t
@@ -88,7 +91,8 @@ fails_within true s u offset word later e so is more h = record {
   is_read = refl;
   reason = inr (grind arith, u, is, grind (arith, nat_tests));
 }
-fails_within false s u offset word later e so is more h = fails_later s u offset word later e is (so u h)
+fails_within false s u offset word later e so is more h = fails_later s u offset word later e is (so
+    u h)
 
 fails_step : (o : Option State) (s : State) (offset : ℕ) (word : List ℕ) (later : List (ℕ × List ℕ))
     (e : FilterTextError)
@@ -135,7 +139,8 @@ word_at text e f = record { earlier = f.earlier; later = f.later; split = f.spli
 
 by_reason : (text : List ℕ) (e : FilterTextError) (f : FailsAt initial (placed_words text) e)
     → ((e ≡ Unexpected f.offset) × (next f.before f.word ≡ None))
-    ⊎ ((e ≡ TooLong f.offset) × (t : State) × (next f.before f.word ≡ Some t) × (MAX_PARTS < size t))
+    ⊎ ((e ≡ TooLong f.offset) × (t : State) × (next f.before f.word ≡ Some t) × (MAX_PARTS < size
+    t))
     → IsFilterTextError text e
 by_reason text e f (inl (is, none)) =
     subst (IsFilterTextError text) (sym is) (

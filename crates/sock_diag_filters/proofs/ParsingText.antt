@@ -17,13 +17,16 @@ use Rattle.sock_diag_filters.specs.Words.{placed, placed_words, words_from, word
 use Rattle.sock_diag_filters.proofs.Parsing.{error_is_first, incomplete_is_error, outcome_is_read}
 use Rattle.sock_diag_filters.proofs.ReadTexts.{read_is_text}
 
--- `Leads s start word later text`: the words of the text lead to the same as, from the state `s`, the
+-- `Leads s start word later text`: the words of the text lead to the same as, from the state `s`,
+-- the
 -- words that begin with `word` at `start`, which `later` follows.
 abbrev pub Leads : State → ℕ → List ℕ → List ℕ → List ℕ → Type 0
-Leads s start word later text = outcome s (words_from start word later) ≡ outcome initial (placed_words text)
+Leads s start word later text = outcome s (words_from start word later) ≡ outcome initial
+    (placed_words text)
 
 -- The words at a byte that ends a word.
-space_ends : (start : ℕ) (word : List ℕ) (byte : ℕ) (later : List ℕ) → is_ascii_whitespace byte ≡ true
+space_ends : (start : ℕ) (word : List ℕ) (byte : ℕ) (later : List ℕ) → is_ascii_whitespace byte ≡
+    true
     → words_from start word (byte ∷ later)
     ≡ placed start word ++ words_from (start + length word + 1) [] later
 space_ends start word byte later space = rw space refl
@@ -79,7 +82,8 @@ finished_is_parsed text t states parts h complete a b =
 
 -- ---- by the index of a byte
 
--- `LeadsAt s start index text`: the words of the text lead to the same as, from the state `s`, those
+-- `LeadsAt s start index text`: the words of the text lead to the same as, from the state `s`,
+-- those
 -- of the text from `start` on, of which the bytes before `index` are the beginning of a word.
 abbrev pub LeadsAt : State → ℕ → ℕ → List ℕ → Type 0
 LeadsAt s start index text =
@@ -92,7 +96,8 @@ drop_at_byte index text within = rw add-one (drop-cons text index 0 within)
 
 leads_at_byte : (s : State) (start index : ℕ) (text : List ℕ) → index < length text
     → LeadsAt s start index text
-    → Leads s start (take (index - start) (drop start text)) (get_or text index 0 ∷ drop (index + 1) text) text
+    → Leads s start (take (index - start) (drop start text)) (get_or text index 0 ∷ drop (index + 1)
+    text) text
 leads_at_byte s start index text within leads =
     ap (λ (l : List ℕ). outcome s (words_from start (take (index - start) (drop start text)) l))
     (sym (drop_at_byte index text within)) ∙ leads
@@ -119,8 +124,10 @@ space_step s t u start index next_start text done bound within space reads leads
     let ends : start + length (take (index - start) (drop start text)) + 1 ≡ next_start =
     omega (arith, long, at, bound) in
     let none : index + 1 - next_start ≡ 0 = omega (arith, at) in
-    rw same (ap (λ (n : ℕ). outcome t (words_from next_start (take n (drop next_start text)) (drop (index + 1) text))) none
-    ∙ subst (λ (n : ℕ). outcome t (words_from n [] (drop (index + 1) text)) ≡ outcome initial (placed_words text)) ends after)
+    rw same (ap (λ (n : ℕ). outcome t (words_from next_start (take n (drop next_start text)) (drop
+    (index + 1) text))) none
+    ∙ subst (λ (n : ℕ). outcome t (words_from n [] (drop (index + 1) text)) ≡ outcome initial
+    (placed_words text)) ends after)
 
 pub byte_step : (s u : State) (start index next_start : ℕ) (text : List ℕ)
     → start ≤ index → index < length text → is_ascii_whitespace (get_or text index 0) ≡ false
@@ -130,7 +137,12 @@ byte_step s u start index next_start text bound within other leads same at =
     let after = leads_after_byte s start (take (index - start) (drop start text))
     (get_or text index 0) (drop (index + 1) text) text other
     (leads_at_byte s start index text within leads) in
-    let short : index - start < length (drop start text) = omega (arith, length-drop start text, bound, within) in
+    let short : index - start < length (drop start text) = omega (
+      arith,
+      length-drop start text,
+      bound,
+      within,
+    ) in
     let item : get_or (drop start text) (index - start) 0 ≡ get_or text index 0 =
     get_or-drop start text (index - start) 0
     ∙ ap (λ (n : ℕ). get_or text n 0) (omega (arith, bound)) in
@@ -139,7 +151,8 @@ byte_step s u start index next_start text bound within other leads same at =
     ap (λ (n : ℕ). take n (drop start text)) (omega (arith, bound))
     ∙ (take_more (drop start text) (index - start) 0 short
     ∙ ap (λ (b : ℕ). take (index - start) (drop start text) ++ b ∷ []) item) in
-    rw (same, at) (ap (λ (l : List ℕ). outcome s (words_from start l (drop (index + 1) text))) longer ∙ after)
+    rw (same, at) (ap (λ (l : List ℕ). outcome s (words_from start l (drop (index + 1) text)))
+    longer ∙ after)
 
 -- The text from `start` on.
 abbrev pub rest_of : ℕ → List ℕ → List ℕ
@@ -150,20 +163,23 @@ leads_at_end : (s : State) (start index : ℕ) (text : List ℕ) → index ≡ l
 leads_at_end s start index text all leads =
     let none : drop index text ≡ [] = drop_all index text (omega (arith, all)) in
     ap (λ (l : List ℕ). outcome s (words_from start (rest_of start text) l)) (sym none)
-    ∙ (ap (λ (n : ℕ). outcome s (words_from start (take (n - start) (drop start text)) (drop index text)))
+    ∙ (ap (λ (n : ℕ). outcome s (words_from start (take (n - start) (drop start text)) (drop index
+    text)))
     (sym all) ∙ leads)
 
 pub rejected_at_end : (s t : State) (start index : ℕ) (text : List ℕ) (e : FilterTextError)
     → index ≡ length text → ReadsAt s start (rest_of start text) (Err e) t
     → LeadsAt s start index text → IsFilterTextError text e
 rejected_at_end s t start index text e all reads leads =
-    rejected_last_word s t start (rest_of start text) text e reads (leads_at_end s start index text all leads)
+    rejected_last_word s t start (rest_of start text) text e reads (leads_at_end s start index text
+    all leads)
 
 pub read_at_end : (s t : State) (start index : ℕ) (text : List ℕ) (done : ⊤)
     → index ≡ length text → ReadsAt s start (rest_of start text) (Ok done) t
     → LeadsAt s start index text → outcome initial (placed_words text) ≡ Ok t
 read_at_end s t start index text done all reads leads =
-    last_word s t start (rest_of start text) text done reads (leads_at_end s start index text all leads)
+    last_word s t start (rest_of start text) text done reads (leads_at_end s start index text all
+    leads)
 
 pub finish_parsed : (text : List ℕ) (t : State) (r : Result ParsedFilter FilterTextError)
     → IsFinished t r → outcome initial (placed_words text) ≡ Ok t

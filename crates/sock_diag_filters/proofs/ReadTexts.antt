@@ -1,5 +1,6 @@
 -- Words that are read are a text of a filter, or the beginning of one.
-use Rattle.std.proofs.Common.{◌≡◌, ◌∙◌, ℕ, List, [], ◌∷◌, ◌++◌, Option, None, Some, Bool, true, false}
+use Rattle.std.proofs.Common.{◌≡◌, ◌∙◌, ℕ, List, [], ◌∷◌, ◌++◌, Option, None, Some, Bool, true}
+use Rattle.std.proofs.Common.{false}
 use Rattle.std.proofs.Common.{refl, sym, ap, subst, append_assoc, append-nil, arith, IsTrue}
 use Rattle.std.specs.Prelude.{⊤, option_and_then, option_map, if◌then◌else◌, unwrap_or}
 use Rattle.std.specs.Prelude.{bit_and, bit_or, bit_xor}
@@ -65,7 +66,8 @@ pub data Waits (st : Option ℕ) : Words → List Pending → List Part → Type
       → Waits st (words ++ (more ++ word ∷ [])) (pending.Or ∷ p) (out ++ postfix filter)
 
 -- Words after which an operand is complete.
-pub record Follows (st : Option ℕ) (words : Words) (p : List Pending) (out : List Part) : Type 0 where
+pub record Follows (st : Option ℕ) (words : Words) (p : List Pending)
+    (out : List Part) : Type 0 where
   pub before : Words
   pub more : Words
   pub parts : List Part
@@ -85,7 +87,8 @@ moved out first second part p base =
     ∙ append_assoc out first (second ++ part ∷ []))
 
 -- A chain that its last operand has completed.
-combined : (st : Option ℕ) (words : Words) (p : List Pending) (out : List Part) → Waits st words p out
+combined : (st : Option ℕ) (words : Words) (p : List Pending) (out : List Part) → Waits st words p
+    out
     → IsBase p → (more : Words) (filter : Filter) → IsText chain more filter → (all : Words)
     → all ≡ words ++ more → (parts : List Part) → parts ≡ out ++ postfix filter
     → Follows st all (pending_after p) parts
@@ -131,16 +134,19 @@ completes st _ _ _ (in_group words word p out h is) more filter text = record {
 completes st _ _ _ (in_negation words word p out h is) more filter text =
     let inner = completes st words p out h (word ∷ more) (filters.Not' unused filter)
     (negation unused word more filter is text) in
-    subst (λ (w : Words). Follows st w (pending_after p) ((out ++ postfix filter) ++ parts.Not ∷ parts_after p))
+    subst (λ (w : Words). Follows st w (pending_after p) ((out ++ postfix filter) ++ parts.Not ∷
+    parts_after p))
     (sym (append_assoc words (word ∷ []) more))
     (subst (λ (l : List Part). Follows st (words ++ word ∷ more) (pending_after p) l)
-    (ap (λ (l : List Part). l ++ parts_after p) (sym (append_assoc out (postfix filter) (parts.Not ∷ [])))
+    (ap (λ (l : List Part). l ++ parts_after p) (sym (append_assoc out (postfix filter) (parts.Not ∷
+    [])))
     ∙ append_assoc (out ++ postfix filter) (parts.Not ∷ []) (parts_after p)) inner)
 completes st _ _ _ (conjoined words before word p out f h base prior is) more filter text =
     combined st words p out h base (before ++ word ∷ more) (filters.And' unused f unused filter)
     (both unused unused before more word f filter prior is text)
     ((words ++ (before ++ word ∷ [])) ++ more)
-    (append_assoc words (before ++ word ∷ []) more ∙ ap (λ (w : Words). words ++ w) (append_assoc before (word ∷ []) more))
+    (append_assoc words (before ++ word ∷ []) more ∙ ap (λ (w : Words). words ++ w) (append_assoc
+    before (word ∷ []) more))
     (((out ++ postfix f) ++ postfix filter) ++ parts.And ∷ parts_after p)
     (moved out (postfix f) (postfix filter) parts.And p base)
 completes st _ _ _ (joined words before p out f h base prior) more filter text =
@@ -154,7 +160,8 @@ completes st _ _ _ (disjoined words before word p out f h base prior is) more fi
     combined st words p out h base (before ++ word ∷ more) (filters.Or' unused f unused filter)
     (either unused unused before more word f filter prior is text)
     ((words ++ (before ++ word ∷ [])) ++ more)
-    (append_assoc words (before ++ word ∷ []) more ∙ ap (λ (w : Words). words ++ w) (append_assoc before (word ∷ []) more))
+    (append_assoc words (before ++ word ∷ []) more ∙ ap (λ (w : Words). words ++ w) (append_assoc
+    before (word ∷ []) more))
     (((out ++ postfix f) ++ postfix filter) ++ parts.Or ∷ parts_after p)
     (moved out (postfix f) (postfix filter) parts.Or p base)
 
@@ -273,12 +280,13 @@ joins st words p out f =
     (joined f.before f.more p f.parts f.filter f.waits f.base f.text))
 
 -- The words before a group, and its first word.
-record GroupBefore (st : Option ℕ) (words : Words) (outer : List Pending) (out : List Part) : Type 0 where
-  before : Words
-  word : List ℕ
-  same : words ≡ before ++ word ∷ []
-  waits : Waits st before outer out
-  is : Is keywords.Open word
+record GroupBefore (st : Option ℕ) (words : Words) (outer : List Pending) (out : List Part) : Type 0
+  where
+    before : Words
+    word : List ℕ
+    same : words ≡ before ++ word ∷ []
+    waits : Waits st before outer out
+    is : Is keywords.Open word
 
 tail_of : List Pending → List Pending
 tail_of [] = []
@@ -313,10 +321,12 @@ closes st words outer out word f is =
     ∙ append_assoc g.before (g.word ∷ []) f.more))
     ∙ append_assoc g.before (g.word ∷ f.more) (word ∷ []) in
     subst (λ (w : Words). Follows st w (pending_after outer) (out ++ parts_after outer)) (sym same)
-    (subst (λ (l : List Part). Follows st (g.before ++ g.word ∷ (f.more ++ word ∷ [])) (pending_after outer) (l ++ parts_after outer))
+    (subst (λ (l : List Part). Follows st (g.before ++ g.word ∷ (f.more ++ word ∷ []))
+    (pending_after outer) (l ++ parts_after outer))
     (sym f.complete) all)
 
-closed_reached : (st : Option ℕ) (words : Words) (p : List Pending) (out : List Part) (word : List ℕ)
+closed_reached : (st : Option ℕ) (words : Words) (p : List Pending) (out : List Part) (word : List
+    ℕ)
     (t : State) → Is keywords.Close word → Follows st words p out
     → closed (state places.Operator st p out) p ≡ Some t → Reached (words ++ word ∷ []) t
 closed_reached st words [] out word t is f h = absurd (cc)
@@ -338,7 +348,8 @@ operand_reached keywords.Or st p out words word t is f h =
 operand_reached keywords.Close st p out words word t is f h =
     closed_reached st words p out word t is f h
 operand_reached k st p out words word t is f h =
-    begun_reached k places.Operand st (pending.And ∷ p) out words word t is (joins st words p out f) h
+    begun_reached k places.Operand st (pending.And ∷ p) out words word t is (joins st words p out f)
+    h
 
 -- After the value of a condition.
 compared_filter : Bool → Condition → Filter
@@ -357,14 +368,17 @@ condition_reached : (negated : Bool) (condition : Condition) (place : Place) (st
     → Reached words (with_condition negated condition (state place st p out))
 condition_reached negated condition place st p out before more words same w text =
     subst (Reached words)
-    (sym (condition_done negated condition (compared_filter negated condition) place st p out (is_compared negated condition)))
-    (subst (λ (x : Words). Follows st x (pending_after p) ((out ++ postfix (compared_filter negated condition)) ++ parts_after p))
+    (sym (condition_done negated condition (compared_filter negated condition) place st p out
+    (is_compared negated condition)))
+    (subst (λ (x : Words). Follows st x (pending_after p) ((out ++ postfix (compared_filter negated
+    condition)) ++ parts_after p))
     (sym same) (completes st before p out w more (compared_filter negated condition) text))
 
 takes_equal : (field : Field) → IsTrue (takes field Equal)
 takes_equal field = grind arith
 
-equality_reached : (field : Field) (st : Option ℕ) (p : List Pending) (out : List Part) (words : Words)
+equality_reached : (field : Field) (st : Option ℕ) (p : List Pending) (out : List Part) (words :
+    Words)
     (value : List ℕ) (t : State) (o : Option Condition) → IsField field st words p out
     → keyword_named value ≡ None → condition_in field (comparison_of Equal) value ≡ o
     → option_map (λ c. with_condition (is_negated Equal) c (state (places.Field field) st p out)) o
@@ -383,17 +397,20 @@ comparison_reached : (field : Field) (operator : Operator) (st : Option ℕ) (p 
     (out : List Part) (words : Words) (value : List ℕ) (t : State) (o : Option Condition)
     → IsValue field operator st words p out
     → keyword_named value ≡ None → condition_in field (comparison_of operator) value ≡ o
-    → option_map (λ c. with_condition (is_negated operator) c (state (places.Value field operator) st p out)) o
+    → option_map (λ c. with_condition (is_negated operator) c (state (places.Value field operator)
+    st p out)) o
     ≡ Some t → Reached (words ++ value ∷ []) t
 comparison_reached field operator st p out words value t None f none is h = absurd (cc)
 comparison_reached field operator st p out words value t (Some condition) f none is h =
     reached_known (words ++ value ∷ []) _ t h
-    (condition_reached (is_negated operator) condition (places.Value field operator) st p out f.before
+    (condition_reached (is_negated operator) condition (places.Value field operator) st p out
+    f.before
     (f.word ∷ f.sign ∷ value ∷ []) (words ++ value ∷ [])
     (ap (λ (w : Words). w ++ value ∷ []) f.same
     ∙ append_assoc f.before (f.word ∷ f.sign ∷ []) (value ∷ []))
     f.waits
-    (comparison f.word f.sign value field operator condition (compared_filter (is_negated operator) condition) f.is f.is_sign
+    (comparison f.word f.sign value field operator condition (compared_filter (is_negated operator)
+    condition) f.is f.is_sign
     (none, f.taken, is) (is_compared (is_negated operator) condition)))
 
 -- ---- any words
@@ -411,13 +428,16 @@ keyword_of f word t (Some k) is h = record { keyword = k; is = is; after = h }
 
 named_reached : (st : Option ℕ) (words : Words) (word : List ℕ) (t : State) (o : Option ℕ)
     → IsNamed keywords.State st words → states_named word ≡ o
-    → option_map (λ n. with_states (bit_or (unwrap_or st 0) n) (state places.Added st [] [])) o ≡ Some t
+    → option_map (λ n. with_states (bit_or (unwrap_or st 0) n) (state places.Added st [] [])) o ≡
+    Some t
     → Reached (words ++ word ∷ []) t
 named_reached st words word t None f is h = absurd (cc)
 named_reached st words word t (Some n) f is h =
-    reached_known (words ++ word ∷ []) (state places.Start (Some (bit_or (unwrap_or st 0) n)) [] []) t h (
+    reached_known (words ++ word ∷ []) (state places.Start (Some (bit_or (unwrap_or st 0) n)) [] [])
+    t h (
       subst (λ (w : Words). AreStates w (Some (bit_or (unwrap_or st 0) n)))
-          (sym (ap (λ (w : Words). w ++ word ∷ []) f.same ∙ append_assoc f.before (f.word ∷ []) (word ∷ [])))
+          (sym (ap (λ (w : Words). w ++ word ∷ []) f.same ∙ append_assoc f.before (f.word ∷ [])
+          (word ∷ [])))
           (added f.before st f.word word n f.states f.is is),
       refl,
       refl,
@@ -425,20 +445,24 @@ named_reached st words word t (Some n) f is h =
 
 excluded_reached : (st : Option ℕ) (words : Words) (word : List ℕ) (t : State) (o : Option ℕ)
     → IsNamed keywords.Exclude st words → states_named word ≡ o
-    → option_map (λ n. with_states (bit_and (unwrap_or st ALL) (bit_xor n ALL)) (state places.Removed st [] [])) o
+    → option_map (λ n. with_states (bit_and (unwrap_or st ALL) (bit_xor n ALL)) (state
+    places.Removed st [] [])) o
     ≡ Some t
     → Reached (words ++ word ∷ []) t
 excluded_reached st words word t None f is h = absurd (cc)
 excluded_reached st words word t (Some n) f is h =
-    reached_known (words ++ word ∷ []) (state places.Start (Some (bit_and (unwrap_or st ALL) (bit_xor n ALL))) [] []) t h (
+    reached_known (words ++ word ∷ []) (state places.Start (Some (bit_and (unwrap_or st ALL)
+    (bit_xor n ALL))) [] []) t h (
       subst (λ (w : Words). AreStates w (Some (bit_and (unwrap_or st ALL) (bit_xor n ALL))))
-          (sym (ap (λ (w : Words). w ++ word ∷ []) f.same ∙ append_assoc f.before (f.word ∷ []) (word ∷ [])))
+          (sym (ap (λ (w : Words). w ++ word ∷ []) f.same ∙ append_assoc f.before (f.word ∷ [])
+          (word ∷ [])))
           (removed f.before st f.word word n f.states f.is is),
       refl,
       refl,
     )
 
-sign_reached : (field : Field) (operator : Operator) (st : Option ℕ) (p : List Pending) (out : List Part)
+sign_reached : (field : Field) (operator : Operator) (st : Option ℕ) (p : List Pending) (out : List
+    Part)
     (words : Words) (sign : List ℕ) (t : State) (b : Bool) → IsField field st words p out
     → Is (keywords.Operator operator) sign → takes field operator ≡ b
     → (if b then Some (state (places.Value field operator) st p out) else None) ≡ Some t
@@ -449,7 +473,8 @@ sign_reached field operator st p out words sign t true f is taken h =
       before = f.before;
       word = f.word;
       sign = sign;
-      same = ap (λ (w : Words). w ++ sign ∷ []) f.same ∙ append_assoc f.before (f.word ∷ []) (sign ∷ []);
+      same = ap (λ (w : Words). w ++ sign ∷ []) f.same ∙ append_assoc f.before (f.word ∷ []) (sign ∷
+          []);
       waits = f.waits;
       is = f.is;
       is_sign = is;
@@ -462,7 +487,8 @@ field_reached : (field : Field) (st : Option ℕ) (p : List Pending) (out : List
     → after_field field (state (places.Field field) st p out) word o ≡ Some t
     → Reached (words ++ word ∷ []) t
 field_reached field st p out words word t None f is h =
-    equality_reached field st p out words word t (condition_in field (comparison_of Equal) word) f is refl h
+    equality_reached field st p out words word t (condition_in field (comparison_of Equal) word) f
+    is refl h
 field_reached field st p out words word t (Some (keywords.Operator operator)) f is h =
     sign_reached field operator st p out words word t (takes field operator) f is refl h
 field_reached field st p out words word t (Some k) f is h = absurd (cc)
@@ -493,9 +519,11 @@ next_reached places.Start st p out words word t r h =
     (at_start places.Start st p out word t r.1 r.2 h) in
     start_reached k.keyword st words word t k.is r.0 k.after
 next_reached places.Added st p out words word t r h =
-    named_reached st words word t (states_named word) r.0 refl (at_start places.Added st p out word t r.1 r.2 h)
+    named_reached st words word t (states_named word) r.0 refl (at_start places.Added st p out word
+    t r.1 r.2 h)
 next_reached places.Removed st p out words word t r h =
-    excluded_reached st words word t (states_named word) r.0 refl (at_start places.Removed st p out word t r.1 r.2 h)
+    excluded_reached st words word t (states_named word) r.0 refl (at_start places.Removed st p out
+    word t r.1 r.2 h)
 next_reached places.Operand st p out words word t r h =
     let k = keyword_of (begun (state places.Operand st p out)) word t (keyword_named word) refl h in
     begun_reached k.keyword places.Operand st p out words word t k.is r k.after
@@ -504,7 +532,8 @@ next_reached (places.Field field) st p out words word t r h =
 next_reached (places.Value field operator) st p out words word t r h =
     value_reached field operator st p out words word t (keyword_named word) r refl h
 next_reached places.Operator st p out words word t r h =
-    let k = keyword_of (after_operand (state places.Operator st p out)) word t (keyword_named word) refl h in
+    let k = keyword_of (after_operand (state places.Operator st p out)) word t (keyword_named word)
+    refl h in
     operand_reached k.keyword st p out words word t k.is r k.after
 
 later_reached : (words before : Words) (word : List ℕ) (s t : State) (o : Option State)
@@ -523,7 +552,8 @@ pub words_reached : (words before : Words) (s t : State) → Reached before s
 words_reached [] before s t r h =
     subst (λ (w : Words). Reached w t) (sym (append-nil before)) (reached_known before s t h r)
 words_reached (word ∷ words) before s t r h =
-    later_reached words before word s t (next s word) (λ u. words_reached words (before ++ word ∷ []) u t)
+    later_reached words before word s t (next s word) (λ u. words_reached words (before ++ word ∷
+    []) u t)
     r refl h
 
 pub reached : (words : Words) (t : State) → reading initial words ≡ Some t → Reached words t
@@ -531,7 +561,8 @@ reached words t h = words_reached words [] initial t (unnamed, refl, refl) h
 
 -- ---- complete texts
 
-no_outer : (st : Option ℕ) (words : Words) (p : List Pending) (out : List Part) → Waits st words p out
+no_outer : (st : Option ℕ) (words : Words) (p : List Pending) (out : List Part) → Waits st words p
+    out
     → p ≡ [] → AreStates words st × (out ≡ [])
 no_outer st _ _ _ (at_first words h) same = (h, refl)
 no_outer st _ _ _ (in_group words word p out h is) same = absurd (cc)

@@ -1,5 +1,6 @@
 -- States of a reader: when nothing is left to complete, and how many parts they have.
-use Rattle.std.proofs.Common.{◌≡◌, ◌∙◌, ◌+◌, ◌<◌, ◌≤◌, List, [], ◌∷◌, ◌++◌, None, Some, Bool, true, false}
+use Rattle.std.proofs.Common.{◌≡◌, ◌∙◌, ◌+◌, ◌<◌, ◌≤◌, List, [], ◌∷◌, ◌++◌, None, Some, Bool}
+use Rattle.std.proofs.Common.{true, false}
 use Rattle.std.proofs.Common.{refl, sym, ap, subst, append-nil, arith, length}
 use Rattle.std.proofs.lemmas.List.{length-append}
 use Rattle.std.specs.Prelude.{⊤, Result, Err}
@@ -39,21 +40,46 @@ size_of_completed s =
 pub size_with_condition : (negated : Bool) (condition : Condition) (s : State)
     → size s + 1 ≤ size (with_condition negated condition s)
 size_with_condition false condition s =
-    omega (arith, size_after s.pending, length-append (s.parts ++ parts.Condition condition ∷ []) (parts_after s.pending), length-append s.parts (parts.Condition condition ∷ []))
+    omega (
+      arith,
+      size_after s.pending,
+      length-append (s.parts ++ parts.Condition condition ∷ [])
+          (parts_after s.pending),
+      length-append s.parts (parts.Condition condition ∷ []),
+    )
 size_with_condition true condition s =
-    omega (arith, size_after s.pending, length-append (s.parts ++ parts.Condition condition ∷ []) (parts.Not ∷ parts_after s.pending), length-append s.parts (parts.Condition condition ∷ []))
+    omega (
+      arith,
+      size_after s.pending,
+      length-append (s.parts ++ parts.Condition condition ∷ [])
+          (parts.Not ∷ parts_after s.pending),
+      length-append s.parts (parts.Condition condition ∷ []),
+    )
 
 pub size_with_negated_condition : (condition : Condition) (s : State)
     → size (with_condition true condition s) ≡ size s + 2
 size_with_negated_condition condition s =
-    omega (arith, size_after s.pending, length-append (s.parts ++ parts.Condition condition ∷ []) (parts.Not ∷ parts_after s.pending), length-append s.parts (parts.Condition condition ∷ []))
+    omega (
+      arith,
+      size_after s.pending,
+      length-append (s.parts ++ parts.Condition condition ∷ [])
+          (parts.Not ∷ parts_after s.pending),
+      length-append s.parts (parts.Condition condition ∷ []),
+    )
 
 pub size_with_plain_condition : (condition : Condition) (s : State)
     → size (with_condition false condition s) ≡ size s + 1
 size_with_plain_condition condition s =
-    omega (arith, size_after s.pending, length-append (s.parts ++ parts.Condition condition ∷ []) (parts_after s.pending), length-append s.parts (parts.Condition condition ∷ []))
+    omega (
+      arith,
+      size_after s.pending,
+      length-append (s.parts ++ parts.Condition condition ∷ [])
+          (parts_after s.pending),
+      length-append s.parts (parts.Condition condition ∷ []),
+    )
 
-none_after : (p : List Pending) → operator_of p ≡ None → (p ≡ pending_after p) × ([] ≡ parts_after p)
+none_after : (p : List Pending) → operator_of p ≡ None → (p ≡ pending_after p) × ([] ≡ parts_after
+    p)
 none_after [] h = (refl, refl)
 none_after (pending.Group ∷ outer) h = (refl, refl)
 none_after (pending.Not ∷ outer) h = absurd (cc)
@@ -79,7 +105,8 @@ completed_if_none s place none =
 pub too_long_follows : (s t : State) (e : Problem) (r q : Reader) (result : Result ⊤ Problem)
     → Follows (Some s) (Err e) r → size s ≤ size t → result ≡ Err e → Follows (Some t) result q
 too_long_follows s t TooLong r q result h more is =
-    subst (λ (o : Result ⊤ Problem). Follows (Some t) o q) (sym is) (let k : MAX_PARTS < size s = h in omega arith)
+    subst (λ (o : Result ⊤ Problem). Follows (Some t) o q) (sym is) (let k : MAX_PARTS < size s = h
+    in omega arith)
 too_long_follows s t Unexpected r q result h more is = absurd h
 
 -- If a state has too many parts, it has after the first keyword of an operand.

@@ -1,5 +1,6 @@
 -- A text of a filter is read to its end, and leaves the parts of the filter in postfix order.
-use Rattle.std.proofs.Common.{◌≡◌, ◌∙◌, ℕ, List, [], ◌∷◌, ◌++◌, Option, None, Some, Bool, true, false}
+use Rattle.std.proofs.Common.{◌≡◌, ◌∙◌, ℕ, List, [], ◌∷◌, ◌++◌, Option, None, Some, Bool, true}
+use Rattle.std.proofs.Common.{false}
 use Rattle.std.proofs.Common.{refl, sym, ap, append_assoc, append-nil}
 use Rattle.std.specs.Prelude.{option_and_then, option_map}
 use Rattle.sock_diag_filters.specs.declared.condition.Condition.{Condition}
@@ -16,7 +17,8 @@ use Rattle.sock_diag_filters.specs.declared.text.reader.Pending.{Pending}
 use Rattle.sock_diag_filters.specs.declared.text.reader.Pending.TheVariants as pending
 use Rattle.sock_diag_filters.specs.declared.text.reader.Place.{Place}
 use Rattle.sock_diag_filters.specs.declared.text.reader.Place.TheVariants as places
-use Rattle.sock_diag_filters.specs.Grammar.{Form, Is, IsComparison, IsText, adjacent, automatic, both}
+use Rattle.sock_diag_filters.specs.Grammar.{Form, Is, IsComparison, IsText, adjacent, automatic}
+use Rattle.sock_diag_filters.specs.Grammar.{both}
 use Rattle.sock_diag_filters.specs.Grammar.{chain, compared, comparison, either, equality, group}
 use Rattle.sock_diag_filters.specs.Grammar.{negation, only, operand}
 use Rattle.sock_diag_filters.specs.Keywords.{is_negated}
@@ -98,15 +100,54 @@ first_word_before words more f = record {
 pub first_word : (form : Form) (words : Words) (filter : Filter) → IsText form words filter
     → FirstWord words
 first_word _ _ _ (comparison word sign value field operator condition filter is is_sign h c) =
-    record { word = word; later = sign ∷ value ∷ []; keyword = keywords.Field field; same = refl; is = is; begins = compares field }
+    record {
+      word = word;
+      later = sign ∷ value ∷ [];
+      keyword = keywords.Field field;
+      same = refl;
+      is
+          = is;
+      begins = compares field;
+    }
 first_word _ _ _ (equality word value field condition is h) =
-    record { word = word; later = value ∷ []; keyword = keywords.Field field; same = refl; is = is; begins = compares field }
+    record {
+      word = word;
+      later = value ∷ [];
+      keyword = keywords.Field field;
+      same = refl;
+      is = is;
+      begins = compares field;
+    }
 first_word _ _ _ (automatic word is) =
-    record { word = word; later = []; keyword = keywords.AutoBound; same = refl; is = is; begins = is_automatic }
+    record {
+      word = word;
+      later = [];
+      keyword = keywords.AutoBound;
+      same = refl;
+      is = is;
+      begins =
+          is_automatic;
+    }
 first_word _ _ _ (negation p word words filter is h) =
-    record { word = word; later = words; keyword = keywords.Not; same = refl; is = is; begins = negates }
+    record {
+      word = word;
+      later = words;
+      keyword = keywords.Not;
+      same = refl;
+      is = is;
+      begins =
+          negates;
+    }
 first_word _ _ _ (group first last words filter is h is_close) =
-    record { word = first; later = words ++ last ∷ []; keyword = keywords.Open; same = refl; is = is; begins = opens }
+    record {
+      word = first;
+      later = words ++ last ∷ [];
+      keyword = keywords.Open;
+      same = refl;
+      is =
+          is;
+      begins = opens;
+    }
 first_word _ _ _ (only words filter h) = first_word _ words filter h
 first_word _ _ _ (both p q first second word f g h is k) =
     first_word_before first (word ∷ second) (first_word _ first f h)
@@ -115,7 +156,8 @@ first_word _ _ _ (adjacent p q first second f g h k) =
 first_word _ _ _ (either p q first second word f g h is k) =
     first_word_before first (word ∷ second) (first_word _ first f h)
 
-begun_anywhere : (k : Keyword) → Begins k → (place : Place) (st : Option ℕ) (p : List Pending) (out : List Part)
+begun_anywhere : (k : Keyword) → Begins k → (place : Place) (st : Option ℕ) (p : List Pending) (out
+    : List Part)
     → begun (state place st p out) k ≡ begun (state places.Operand st p out) k
 begun_anywhere _ opens place st p out = refl
 begun_anywhere _ negates place st p out = refl
@@ -123,14 +165,17 @@ begun_anywhere _ (compares field) place st p out = refl
 begun_anywhere _ is_automatic place st p out = refl
 
 -- Where an operand may begin, a text is read as where one is expected.
-pub read_from_start : (words : Words) (st : Option ℕ) (p : List Pending) (out : List Part) → FirstWord words
+pub read_from_start : (words : Words) (st : Option ℕ) (p : List Pending) (out : List Part) →
+    FirstWord words
     → reading (state places.Start st p out) words ≡ reading (state places.Operand st p out) words
 read_from_start words st p out f =
     rw f.same (ap (λ o. option_and_then (λ u. reading u f.later) o)
-    (rw f.is (begins_after_start f.keyword f.begins (state places.Start st p out) ∙ begun_anywhere f.keyword f.begins places.Start st p out)))
+    (rw f.is (begins_after_start f.keyword f.begins (state places.Start st p out) ∙ begun_anywhere
+    f.keyword f.begins places.Start st p out)))
 
 -- After an operand, a text is read as after `and`.
-pub read_adjacent : (words : Words) (st : Option ℕ) (p : List Pending) (out : List Part) → FirstWord words
+pub read_adjacent : (words : Words) (st : Option ℕ) (p : List Pending) (out : List Part) → FirstWord
+    words
     → reading (state places.Operator st p out) words
     ≡ reading (state places.Operand st (pending.And ∷ p) out) words
 read_adjacent words st p out f =
@@ -187,7 +232,8 @@ operator_done : (st : Option ℕ) (p : List Pending) (out first second : List Pa
     (((out ++ first) ++ second) ++ part ∷ parts_after p)
     ≡ state places.Operator st p (out ++ (first ++ (second ++ part ∷ [])))
 operator_done st p out first second part base =
-    ap (λ (q : List Pending). state places.Operator st q (((out ++ first) ++ second) ++ part ∷ parts_after p)) base.same
+    ap (λ (q : List Pending). state places.Operator st q (((out ++ first) ++ second) ++ part ∷
+    parts_after p)) base.same
     ∙ ap (λ (l : List Part). state places.Operator st p l)
     (ap (λ (l : List Part). ((out ++ first) ++ second) ++ part ∷ l) base.none
     ∙ (append_assoc (out ++ first) second (part ∷ [])
@@ -212,50 +258,76 @@ ReadsAs chain st p out words later filter = IsBase p
 pub read_text : (form : Form) (words : Words) (filter : Filter) → IsText form words filter
     → (st : Option ℕ) (p : List Pending) (out : List Part) (later : Words)
     → ReadsAs form st p out words later filter
-read_text _ _ _ (comparison word sign value field operator condition filter is is_sign h c) st p out later =
-    read_word (state places.Operand st p out) (state (places.Field field) st p out) word (sign ∷ value ∷ later) (rw is refl)
-    ∙ (read_word (state (places.Field field) st p out) (state (places.Value field operator) st p out) sign (value ∷ later)
+read_text _ _ _ (comparison word sign value field operator condition filter is is_sign h c) st p out
+    later =
+    read_word (state places.Operand st p out) (state (places.Field field) st p out) word (sign ∷
+    value ∷ later) (rw is refl)
+    ∙ (read_word (state (places.Field field) st p out) (state (places.Value field operator) st p
+    out) sign (value ∷ later)
     (rw (is_sign, h.1) refl)
-    ∙ read_word (state (places.Value field operator) st p out) (done st p (out ++ postfix filter)) value later
-    (rw h.0 (value_read field operator value condition (state (places.Value field operator) st p out) h
-    ∙ ap (λ s. Some s) (condition_done (is_negated operator) condition filter (places.Value field operator) st p out c))))
+    ∙ read_word (state (places.Value field operator) st p out) (done st p (out ++ postfix filter))
+    value later
+    (rw h.0 (value_read field operator value condition (state (places.Value field operator) st p
+    out) h
+    ∙ ap (λ s. Some s) (condition_done (is_negated operator) condition filter (places.Value field
+    operator) st p out c))))
 read_text _ _ _ (equality word value field condition is h) st p out later =
-    read_word (state places.Operand st p out) (state (places.Field field) st p out) word (value ∷ later) (rw is refl)
-    ∙ read_word (state (places.Field field) st p out) (done st p (out ++ parts.Condition condition ∷ [])) value later
+    read_word (state places.Operand st p out) (state (places.Field field) st p out) word (value ∷
+    later) (rw is refl)
+    ∙ read_word (state (places.Field field) st p out) (done st p (out ++ parts.Condition condition ∷
+    [])) value later
     (rw h.0 (value_read field Equal value condition (state (places.Field field) st p out) h))
 read_text _ _ _ (automatic word is) st p out later =
-    read_word (state places.Operand st p out) (done st p (out ++ parts.Condition AutoBound ∷ [])) word later (rw is refl)
+    read_word (state places.Operand st p out) (done st p (out ++ parts.Condition AutoBound ∷ []))
+    word later (rw is refl)
 read_text _ _ _ (negation q word words filter is h) st p out later =
-    read_word (state places.Operand st p out) (state places.Operand st (pending.Not ∷ p) out) word (words ++ later) (rw is refl)
+    read_word (state places.Operand st p out) (state places.Operand st (pending.Not ∷ p) out) word
+    (words ++ later) (rw is refl)
     ∙ (read_text operand words filter h st (pending.Not ∷ p) out later
     ∙ ap (λ (l : List Part). reading (state places.Operator st (pending_after p) l) later)
     (append_assoc out (postfix filter) (parts.Not ∷ parts_after p)
-    ∙ (ap (λ (l : List Part). out ++ l) (sym (append_assoc (postfix filter) (parts.Not ∷ []) (parts_after p)))
+    ∙ (ap (λ (l : List Part). out ++ l) (sym (append_assoc (postfix filter) (parts.Not ∷ [])
+    (parts_after p)))
     ∙ sym (append_assoc out (postfix filter ++ parts.Not ∷ []) (parts_after p)))))
 read_text _ _ _ (group first last words filter is h is_close) st p out later =
-    read_word (state places.Operand st p out) (state places.Operand st (pending.Group ∷ p) out) first ((words ++ last ∷ []) ++ later) (rw is refl)
-    ∙ (ap (λ (w : Words). reading (state places.Operand st (pending.Group ∷ p) out) w) (append_assoc words (last ∷ []) later)
-    ∙ (read_text chain words filter h st (pending.Group ∷ p) out (last ∷ later) record { same = refl; none = refl }
-    ∙ read_word (state places.Operator st (pending.Group ∷ p) (out ++ postfix filter)) (done st p (out ++ postfix filter)) last later
+    read_word (state places.Operand st p out) (state places.Operand st (pending.Group ∷ p) out)
+    first ((words ++ last ∷ []) ++ later) (rw is refl)
+    ∙ (ap (λ (w : Words). reading (state places.Operand st (pending.Group ∷ p) out) w) (append_assoc
+    words (last ∷ []) later)
+    ∙ (read_text chain words filter h st (pending.Group ∷ p) out (last ∷ later) record {
+      same =
+          refl;
+      none = refl;
+    }
+    ∙ read_word (state places.Operator st (pending.Group ∷ p) (out ++ postfix filter)) (done st p
+    (out ++ postfix filter)) last later
     (after_close st p (out ++ postfix filter) last is_close)))
 read_text _ _ _ (only words filter h) st p out later = λ base.
     read_text operand words filter h st p out later
     ∙ ap (λ (s : State). reading s later) (done_at_base st p (out ++ postfix filter) base)
 read_text _ _ _ (both q r first second word f g h is k) st p out later = λ base.
-    ap (λ (w : Words). reading (state places.Operand st p out) w) (append_assoc first (word ∷ second) later)
+    ap (λ (w : Words). reading (state places.Operand st p out) w) (append_assoc first (word ∷
+    second) later)
     ∙ (read_text chain first f h st p out (word ∷ (second ++ later)) base
-    ∙ (read_word (state places.Operator st p (out ++ postfix f)) (state places.Operand st (pending.And ∷ p) (out ++ postfix f)) word (second ++ later) (rw is refl)
+    ∙ (read_word (state places.Operator st p (out ++ postfix f)) (state places.Operand st
+    (pending.And ∷ p) (out ++ postfix f)) word (second ++ later) (rw is refl)
     ∙ (read_text operand second g k st (pending.And ∷ p) (out ++ postfix f) later
-    ∙ ap (λ (s : State). reading s later) (operator_done st p out (postfix f) (postfix g) parts.And base))))
+    ∙ ap (λ (s : State). reading s later) (operator_done st p out (postfix f) (postfix g) parts.And
+    base))))
 read_text _ _ _ (adjacent q r first second f g h k) st p out later = λ base.
     ap (λ (w : Words). reading (state places.Operand st p out) w) (append_assoc first second later)
     ∙ (read_text chain first f h st p out (second ++ later) base
-    ∙ (read_adjacent (second ++ later) st p (out ++ postfix f) (first_word_before second later (first_word operand second g k))
+    ∙ (read_adjacent (second ++ later) st p (out ++ postfix f) (first_word_before second later
+    (first_word operand second g k))
     ∙ (read_text operand second g k st (pending.And ∷ p) (out ++ postfix f) later
-    ∙ ap (λ (s : State). reading s later) (operator_done st p out (postfix f) (postfix g) parts.And base))))
+    ∙ ap (λ (s : State). reading s later) (operator_done st p out (postfix f) (postfix g) parts.And
+    base))))
 read_text _ _ _ (either q r first second word f g h is k) st p out later = λ base.
-    ap (λ (w : Words). reading (state places.Operand st p out) w) (append_assoc first (word ∷ second) later)
+    ap (λ (w : Words). reading (state places.Operand st p out) w) (append_assoc first (word ∷
+    second) later)
     ∙ (read_text chain first f h st p out (word ∷ (second ++ later)) base
-    ∙ (read_word (state places.Operator st p (out ++ postfix f)) (state places.Operand st (pending.Or ∷ p) (out ++ postfix f)) word (second ++ later) (rw is refl)
+    ∙ (read_word (state places.Operator st p (out ++ postfix f)) (state places.Operand st
+    (pending.Or ∷ p) (out ++ postfix f)) word (second ++ later) (rw is refl)
     ∙ (read_text operand second g k st (pending.Or ∷ p) (out ++ postfix f) later
-    ∙ ap (λ (s : State). reading s later) (operator_done st p out (postfix f) (postfix g) parts.Or base))))
+    ∙ ap (λ (s : State). reading s later) (operator_done st p out (postfix f) (postfix g) parts.Or
+    base))))

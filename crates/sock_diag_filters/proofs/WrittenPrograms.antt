@@ -1,5 +1,6 @@
 -- The program of a filter in postfix order.
-use Rattle.std.proofs.Common.{◌≡◌, ◌∙◌, ℕ, ◌≤◌, List, [], ◌++◌, length, take, drop, sym, subst, ap, arith}
+use Rattle.std.proofs.Common.{◌≡◌, ◌∙◌, ℕ, ◌≤◌, List, [], ◌++◌, length, take, drop, sym, subst}
+use Rattle.std.proofs.Common.{ap, arith}
 use Rattle.std.specs.Prelude.{sum_by}
 use Rattle.std.proofs.Math.Seq.{take-append_seam}
 use Rattle.std.proofs.lemmas.List.{length-take-le}
@@ -43,7 +44,9 @@ written_is_program parts filter old new len n rest is size short fits h =
     let whole : new ≡ program_of filter 4 =
     ends_at_start (take len old) (program_of filter 4) new
     (omega (arith, long, length-take-le len old fits, program_length filter 4)) s.2 in
-    let all : length new ≡ len = ap (λ (l : List ℕ). length l) whole ∙ (program_length filter 4 ∙ sym long) in
+    let all : length new ≡ len = ap (λ (l : List ℕ). length l) whole ∙ (program_length filter 4 ∙
+    sym long) in
     let first : take len (new ++ drop len old) ≡ new =
     ap (λ (k : ℕ). take k (new ++ drop len old)) (sym all) ∙ take-append_seam new (drop len old) in
-    is_program filter (take len (new ++ drop len old)) (first ∙ whole) (omega (arith, long, short)) s.3
+    is_program filter (take len (new ++ drop len old)) (first ∙ whole) (omega (arith, long, short))
+    s.3

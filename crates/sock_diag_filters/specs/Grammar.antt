@@ -29,7 +29,8 @@ IsComparison field operator value condition =
     × (IsTrue (takes field operator))
     × (condition_in field (comparison_of operator) value ≡ Some condition)
 
--- `compared operator condition filter`: the filter is the condition, or its opposite if the operator
+-- `compared operator condition filter`: the filter is the condition, or its opposite if the
+-- operator
 -- is negated.
 abbrev pub compared : Bool → Condition → Filter → Type 0
 compared false condition filter = filter ≡ filters.Condition condition

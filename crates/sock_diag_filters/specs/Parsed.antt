@@ -27,7 +27,8 @@ pub record CanContinue (words : List (List ℕ)) : Type 0 where
   pub filter : Option Filter
   pub text : IsFilterText (words ++ more) states filter
 
--- `IsWordAt text offset before word`: `word` is at this offset of the text, after the words `before`.
+-- `IsWordAt text offset before word`: `word` is at this offset of the text, after the words
+-- `before`.
 pub record IsWordAt (text : List ℕ) (offset : ℕ) (before : List (List ℕ))
     (word : List ℕ) : Type 0 where
   pub earlier : List (ℕ × List ℕ)
@@ -36,7 +37,8 @@ pub record IsWordAt (text : List ℕ) (offset : ℕ) (before : List (List ℕ))
   pub same : before ≡ without_offsets earlier
 
 -- `IsFilterTextError text error`: the text is rejected with this error.
--- - `Unexpected offset`: a text of a filter begins with the words before the one at this offset, and
+-- - `Unexpected offset`: a text of a filter begins with the words before the one at this offset,
+-- and
 --   none begins with these and this word.
 -- - `Incomplete`: a text of a filter begins with the words of the text, and they are none.
 -- - `TooLong offset`: with the word at this offset the filter has more than MAX_PARTS parts.
@@ -46,12 +48,14 @@ IsFilterTextError text (Unexpected offset) =
     × CanContinue before × (CanContinue (before ++ word ∷ []) → ⊥)
 IsFilterTextError text Incomplete =
     CanContinue (words_of text)
-    × ((states : Option ℕ) (filter : Option Filter) → IsFilterText (words_of text) states filter → ⊥)
+    × ((states : Option ℕ) (filter : Option Filter) → IsFilterText (words_of text) states filter →
+    ⊥)
 IsFilterTextError text (TooLong offset) =
     (before : List (List ℕ)) × (word : List ℕ) × (state : State) × IsWordAt text offset before word
     × (reading initial (before ++ word ∷ []) ≡ Some state) × (MAX_PARTS < size state)
 
--- `outcome s words`: what reading these words in the state `s` leads to: a state, or the error at the
+-- `outcome s words`: what reading these words in the state `s` leads to: a state, or the error at
+-- the
 -- first word that cannot follow or has too many parts.
 abbrev pub outcome : State → List (ℕ × List ℕ) → Result State FilterTextError
 outcome s [] = Ok s

@@ -1,5 +1,6 @@
 -- Filters in postfix order.
-use Rattle.std.specs.Prelude.{◌≡◌, ℕ, ◌+◌, length, List, [], ◌∷◌, ◌++◌, Option, None, Some, Bool, true}
+use Rattle.std.specs.Prelude.{◌≡◌, ℕ, ◌+◌, length, List, [], ◌∷◌, ◌++◌, Option, None, Some, Bool}
+use Rattle.std.specs.Prelude.{true}
 use Rattle.sock_diag_filters.specs.declared.condition.Condition.{Condition}
 use Rattle.sock_diag_filters.specs.declared.filter.Filter.{Filter}
 use Rattle.sock_diag_filters.specs.declared.filter.Filter.TheVariants as filters
@@ -23,7 +24,8 @@ abbrev pub optional_postfix : Option Filter → List Part
 optional_postfix None = []
 optional_postfix (Some filter) = postfix filter
 
--- `optional_meaning met filter`: whether the filter selects a socket, if `met` says which conditions
+-- `optional_meaning met filter`: whether the filter selects a socket, if `met` says which
+-- conditions
 -- the socket meets. Without a filter each socket is selected.
 abbrev pub optional_meaning : (Condition → Bool) → Option Filter → Bool
 optional_meaning met None = true
@@ -49,9 +51,11 @@ part_size parts.And = 0
 part_size parts.Or = OPERATION_HEADER_LEN
 part_size parts.Not = OPERATION_HEADER_LEN
 
--- `IsLastWritten parts far old new len rest`: the program of the last filter of the parts, `len` bytes,
+-- `IsLastWritten parts far old new len rest`: the program of the last filter of the parts, `len`
+-- bytes,
 -- was written to the end of a buffer, and `rest` are the parts before the filter.
-abbrev pub IsLastWritten : List Part → (far : ℕ) → (old new : List ℕ) → (len : ℕ) → List Part → Type 0
+abbrev pub IsLastWritten : List Part → (far : ℕ) → (old new : List ℕ) → (len : ℕ) → List Part → Type
+    0
 IsLastWritten parts far old new len rest =
     (before : List Part) (filter : Filter) → IsLast parts before filter
     → (len ≡ program_size filter) × (rest ≡ before) × EndsWith old (program_of filter far) new

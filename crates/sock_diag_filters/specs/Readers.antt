@@ -1,5 +1,6 @@
 -- The state of a `Reader`, and what reading a word does to it.
-use Rattle.std.specs.Prelude.{true, false, ◌≡◌, ◌<◌, ⊤, reverse, Option, None, Some, Result, Ok, Err}
+use Rattle.std.specs.Prelude.{true, false, ◌≡◌, ◌<◌, ⊤, reverse, Option, None, Some, Result, Ok}
+use Rattle.std.specs.Prelude.{Err}
 use Rattle.sock_diag_filters.specs.Reading.{State, is_complete, size}
 use Rattle.sock_diag_filters.specs.declared.text.parsed.FilterTextError.{FilterTextError}
 use Rattle.sock_diag_filters.specs.declared.text.parsed.FilterTextError.TheVariants.{Incomplete}

@@ -7,7 +7,8 @@ abbrev pub placed : (start : ℕ) → List ℕ → List (ℕ × List ℕ)
 placed start [] = []
 placed start (byte ∷ later) = (start, byte ∷ later) ∷ []
 
--- `words_from start word bytes`: the words of a text with their offsets. The first of them begins at
+-- `words_from start word bytes`: the words of a text with their offsets. The first of them begins
+-- at
 -- `start` with `word`, which `bytes` follow.
 abbrev pub words_from : (start : ℕ) → List ℕ → List ℕ → List (ℕ × List ℕ)
 words_from start word [] = placed start word

@@ -91,8 +91,8 @@ fn has_optional_prefix(prefix: Option<Prefix>, address: IpAddr) -> bool
     }
 }
 
-// Returns whether an address has a prefix. An IPv4-mapped IPv6 address has a prefix of an IPv4 address
-// if its last four octets have.
+// Returns whether an address has a prefix. An IPv4-mapped IPv6 address has a prefix of an IPv4
+// address if its last four octets have.
 fn has_prefix(prefix: Prefix, address: IpAddr) -> bool
     ensures { (port : ℕ) → result
         ≡ address_has_prefix prefix.address prefix.bits (end_of address port) }

@@ -87,23 +87,23 @@ impl ParsedFilter {
     /// - `state STATE` and `exclude STATE`, any number of them, and then an expression or nothing;
     /// - conditions: `sport` and `dport` with a port, as `:443` or `443`; `src` and `dst` with an
     ///   address, which a slash and a number of bits, and a colon and a port may follow, as
-    ///   `10.0.0.0/8:53`, `[::1]:53` or `*:53`; `dev` with the index of an interface; `fwmark` with a
-    ///   mark, as `1` or `0x1/0x3`; `cgroup` with an id; and `autobound`;
+    ///   `10.0.0.0/8:53`, `[::1]:53` or `*:53`; `dev` with the index of an interface; `fwmark` with
+    ///   a mark, as `1` or `0x1/0x3`; `cgroup` with an id; and `autobound`;
     /// - the operators of ports `=`, `!=`, `<`, `>`, `<=` and `>=`, also as words such as `eq` or
-    ///   `geq`; of `dev`, `fwmark` and `cgroup` only `=` and `!=`, of addresses only `=`. Without an
-    ///   operator `=` is meant;
-    /// - `not` and `!`, `and`, `&` and `&&`, `or`, `|` and `||`, and parentheses. `not` applies to the
-    ///   operand that follows it. `and` and `or` group from the left with the same precedence, as
-    ///   ss(8) parses them, though its manual page says otherwise. Two operands without an operator
-    ///   are combined by `and`.
+    ///   `geq`; of `dev`, `fwmark` and `cgroup` only `=` and `!=`, of addresses only `=`. Without
+    ///   an operator `=` is meant;
+    /// - `not` and `!`, `and`, `&` and `&&`, `or`, `|` and `||`, and parentheses. `not` applies to
+    ///   the operand that follows it. `and` and `or` group from the left with the same precedence,
+    ///   as ss(8) parses them, though its manual page says otherwise. Two operands without an
+    ///   operator are combined by `and`.
     ///
     /// An IPv6 address without a number of bits is in brackets. Numbers are in decimal, or in
     /// hexadecimal after `0x`. Names of hosts, services, interfaces and paths are not known.
     ///
     /// Fails with the first error, see [`FilterTextError`].
     pub fn parse(text: &[u8]) -> Result<ParsedFilter, FilterTextError>
-        // `words_of text`: the words of the text. `IsParsed words states parts`: the words are a text
-        // of these states and of the filter whose parts in postfix order are these.
+        // `words_of text`: the words of the text. `IsParsed words states parts`: the words are a
+        // text of these states and of the filter whose parts in postfix order are these.
         ensures parsed { IfOk result (λ parsed. IsParsed (words_of text.now) parsed.states
             parsed.parts.items) }
         ensures rejected { IfErr result (λ e. IsFilterTextError text.now e) }
@@ -142,8 +142,8 @@ impl ParsedFilter {
 
     /// Writes the program of the filter, the value of an attribute `INET_DIAG_REQ_BYTECODE`, to the
     /// start of a buffer, and returns its length. Returns `None` if the buffer is shorter than
-    /// [`program_len`](Self::program_len), and then writes nothing. Without conditions the program is
-    /// empty, and a request has no such attribute.
+    /// [`program_len`](Self::program_len), and then writes nothing. Without conditions the program
+    /// is empty, and a request has no such attribute.
     ///
     /// The program is that of [`assemble`](crate::assemble): it passes the kernel's audit, and
     /// selects the sockets that meet the filter.

@@ -1,6 +1,6 @@
 //! Filters in postfix order: which sockets they select, and their programs. Each function takes the
-//! last filter of some parts, and returns the parts before it. It calls itself once for each part, of
-//! which there are at most `MAX_PARTS`.
+//! last filter of some parts, and returns the parts before it. It calls itself once for each part,
+//! of which there are at most `MAX_PARTS`.
 
 ghost use Rattle.std.specs.Prelude.{◌≡◌, ◌+◌, ◌-◌, ◌*◌, ◌≤◌, IsTrue, length, sum_by};
 ghost use Rattle.sock_diag_filters.specs.Postfix.{IsLastSelected, IsLastWritten};

@@ -77,8 +77,8 @@ pub(crate) struct Reader {
     pub(crate) pending: ArrayVec<Pending, MAX_PARTS>,
     /// The parts of the filter that are complete, in postfix order.
     pub(crate) parts: ArrayVec<Part, MAX_PARTS>,
-    // An operator that becomes complete is moved from `pending` to `parts`, so that there is a place
-    // for it.
+    // An operator that becomes complete is moved from `pending` to `parts`, so that there is a
+    // place for it.
     ghost within: { length pending.items + length parts.items ≤ MAX_PARTS },
 }
 
@@ -131,8 +131,8 @@ impl Reader {
     }
 
     /// Reads the next word. Fails with `Unexpected` if it cannot follow the words so far, and with
-    /// `TooLong` if the filter would have more than [`MAX_PARTS`] parts. After an error the state is
-    /// not specified.
+    /// `TooLong` if the filter would have more than [`MAX_PARTS`] parts. After an error the state
+    /// is not specified.
     pub(crate) fn read(&mut self, word: &[u8]) -> Result<(), Problem>
         ensures { Follows (next (state_of self.old) word.now) result self.new }
     {
@@ -162,7 +162,8 @@ impl Reader {
     ghost use Rattle.sock_diag_filters.specs.Keywords.{keyword_named};
     ghost use Rattle.sock_diag_filters.specs.Reading.{next_at, operator_of, size};
     ghost use Rattle.sock_diag_filters.specs.Readers.{Follows, state_of};
-    ghost use Rattle.sock_diag_filters.specs.declared.text.reader.Place.TheVariants.{Added, Removed};
+    ghost use Rattle.sock_diag_filters.specs.declared.text.reader.Place.TheVariants.{Added};
+    ghost use Rattle.sock_diag_filters.specs.declared.text.reader.Place.TheVariants.{Removed};
     ghost use Rattle.sock_diag_filters.specs.declared.text.reader.Pending.TheVariants.{And};
 
     // Reads the name of states that are added.

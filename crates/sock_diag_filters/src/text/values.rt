@@ -4,7 +4,8 @@ ghost use Rattle.std.specs.Prelude.{◌≡◌, ◌<◌, ◌↔◌, ◌-◌, ◌^
 ghost use Rattle.std.specs.Net.Grammar.{IsIpText};
 ghost use Rattle.sock_diag_filters.specs.AddressText.{ip_in};
 ghost use Rattle.sock_diag_filters.specs.Numbers.{number_in};
-ghost use Rattle.sock_diag_filters.specs.Values.{address_in, condition_in, host_in, is_any, mark_in};
+ghost use Rattle.sock_diag_filters.specs.Values.{address_in, condition_in, host_in, is_any};
+ghost use Rattle.sock_diag_filters.specs.Values.{mark_in};
 ghost use Rattle.sock_diag_filters.specs.Values.{optional_port_in, port_colon, port_in, prefix_in};
 ghost use Rattle.sock_diag_filters.specs.Values.{prefix_of, without_brackets};
 

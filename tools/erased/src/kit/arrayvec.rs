@@ -39,7 +39,7 @@ impl<T: Copy + Default, const N: usize> ArrayVec<T, N> {
         ArrayVec { slots: [T::default(); N], len: 0 }
     }
 
-    pub fn push(&mut self, value: T) {
+    pub fn try_push(&mut self, value: T) {
         self.slots[self.len] = value;
         self.len += 1;
     }

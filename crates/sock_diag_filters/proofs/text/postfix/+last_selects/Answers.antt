@@ -8,7 +8,10 @@ use Rattle.sock_diag_filters.proofs.text.postfix.+last_selects.Goals as goal
 
 pub returns-in_default-clause-selected : goal.returns-in_default-clause-selected
 returns-in_default-clause-selected t c =
-    none_selected (meets (socket_of c.args.facts.now)) c.args.parts.now _ _ (grind (arith, common_steps))
+    none_selected (meets (socket_of c.args.facts.now)) c.args.parts.now _ _ (grind (
+      arith,
+      common_steps,
+    ))
 
 pub returns-in-Condition-clause-selected : goal.returns-in-Condition-clause-selected
 returns-in-Condition-clause-selected t c =

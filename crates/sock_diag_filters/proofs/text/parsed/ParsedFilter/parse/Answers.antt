@@ -8,7 +8,8 @@ use Rattle.sock_diag_filters.specs.Parsed.{IsFilterTextError}
 use Rattle.sock_diag_filters.specs.Readers.{state_of}
 use Rattle.sock_diag_filters.specs.declared.text.parsed.FilterTextError.{FilterTextError}
 use Rattle.sock_diag_filters.specs.declared.text.parsed.ParsedFilter.{ParsedFilter}
-use Rattle.sock_diag_filters.proofs.ParsingText.{byte_step, finish_parsed, finish_rejected, read_at_end}
+use Rattle.sock_diag_filters.proofs.ParsingText.{byte_step, finish_parsed, finish_rejected}
+use Rattle.sock_diag_filters.proofs.ParsingText.{read_at_end}
 use Rattle.sock_diag_filters.proofs.ParsingText.{rejected_at, rejected_at_end, space_step}
 use Rattle.sock_diag_filters.proofs.text.parsed.ParsedFilter.parse.Goals as goal
 use Rattle.sock_diag_filters.proofs.text.parsed.ParsedFilter.parse.Goals.{else-is_ascii_whitespace}
@@ -23,7 +24,8 @@ returns-in_err-read_at-clause-rejected c =
     grind (arith, p.1, p.2) in
     let space : is_ascii_whitespace (get_or c.args.text.now c.loop-index.index 0) ≡ true =
     grind (arith, common_steps) in
-    subst (λ (r : Result ParsedFilter FilterTextError). IfErr r (λ e. IsFilterTextError c.args.text.now e))
+    subst (λ (r : Result ParsedFilter FilterTextError). IfErr r (λ e. IsFilterTextError
+    c.args.text.now e))
     (sym same)
     (rejected_at (state_of c.loop-index.reader) (state_of c.read_at.new.self) c.loop-index.start
     c.loop-index.index c.args.text.now c.in_err-read_at.field-0.0 (omega arith) space
@@ -45,7 +47,8 @@ loop-index-preserved c =
       | else-is_ascii_whitespace w ↦
           let other : is_ascii_whitespace (get_or c.args.text.now c.loop-index.index 0) ≡ false =
           grind (arith, common_steps) in record {
-            same = byte_step (state_of c.loop-index.reader) (state_of c.if-is_ascii_whitespace.reader)
+            same = byte_step (state_of c.loop-index.reader) (state_of
+                c.if-is_ascii_whitespace.reader)
                 c.loop-index.start c.loop-index.index
                 c.if-is_ascii_whitespace.start c.args.text.now c.loop-index.invariant.bound
                 (omega arith) other c.loop-index.invariant.same
@@ -60,7 +63,8 @@ returns-in_err-read_at-2-clause-rejected c =
     c.from_residual-in_err-read_at-2.ensures.1 in
     let same : c.from_residual-in_err-read_at-2.result ≡ Err c.in_err-read_at-2.field-0.0 =
     grind (arith, p.1, p.2) in
-    subst (λ (r : Result ParsedFilter FilterTextError). IfErr r (λ e. IsFilterTextError c.args.text.now e))
+    subst (λ (r : Result ParsedFilter FilterTextError). IfErr r (λ e. IsFilterTextError
+    c.args.text.now e))
     (sym same)
     (rejected_at_end (state_of c.loop-index.reader) (state_of c.read_at-2.new.self)
     c.loop-index.start c.loop-index.index c.args.text.now c.in_err-read_at-2.field-0.0
