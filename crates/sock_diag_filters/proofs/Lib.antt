@@ -10,3 +10,12 @@ pub mod AnyReadBack
 pub mod Finding
 pub mod Verdicts
 mod Ending
+mod NewPrefix
+pub mod ReadingTexts
+pub mod ReadingSteps
+pub mod ReadTexts
+pub mod Completing
+pub mod Parsing
+pub mod LastParts
+pub mod ParsingText
+pub mod WrittenPrograms

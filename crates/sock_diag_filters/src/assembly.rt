@@ -120,7 +120,7 @@ fn write_program(filter: &Filter, far: usize, buffer: &mut [u8]) -> usize
 
 // Writes a jump of `far` bytes to the end of a buffer: an operation whose condition is never met.
 // The distance from its start to the target of the jump has to fit 16 bits.
-fn write_jump(far: usize, buffer: &mut [u8])
+pub(crate) fn write_jump(far: usize, buffer: &mut [u8])
     requires whole { OPERATION_HEADER_LEN ≤ length buffer.old }
     requires near { OPERATION_HEADER_LEN + far ≤ MAX_DISTANCE }
     ensures { EndsWith buffer.old (jump far) buffer.new }
@@ -132,7 +132,7 @@ fn write_jump(far: usize, buffer: &mut [u8])
 // Writes the operation of a condition to the end of a buffer, and returns its length. If the
 // condition is not met, it jumps to `far` bytes after its end. The distance from its start to there
 // has to fit 16 bits.
-fn write_condition(condition: Condition, far: usize, buffer: &mut [u8]) -> usize
+pub(crate) fn write_condition(condition: Condition, far: usize, buffer: &mut [u8]) -> usize
     requires whole { OPERATION_HEADER_LEN + length (arguments condition) ≤ length buffer.old }
     requires near { OPERATION_HEADER_LEN + length (arguments condition) + far ≤ MAX_DISTANCE }
     ensures len { result ≡ OPERATION_HEADER_LEN + length (arguments condition) }

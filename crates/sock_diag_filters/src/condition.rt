@@ -230,7 +230,7 @@ fn family(address: IpAddr) -> u8
 }
 
 // Writes the octets of an address (`octets_of`) to a buffer of their length.
-fn write_address(address: IpAddr, buffer: &mut [u8])
+pub(crate) fn write_address(address: IpAddr, buffer: &mut [u8])
     requires { 8 * length buffer.old ≡ bits_of address }
     ensures { buffer.new ≡ octets_of address }
 {

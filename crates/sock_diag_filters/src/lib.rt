@@ -10,6 +10,7 @@ mod equality;
 mod filter;
 pub mod laws;
 mod request;
+mod text;
 pub mod uses;
 mod view;
 
@@ -20,5 +21,8 @@ pub use crate::filter::Filter;
 pub use crate::request::{
     INET_DIAG_REQ_BYTECODE, INET_DIAG_REQ_PROTOCOL, REQUEST_FRONT, RequestAttribute,
     RequestWithAttributes,
+};
+pub use crate::text::{
+    FilterTextError, MAX_PARSED_PROGRAM, MAX_PARTS, ParsedFilter, Part, SocketFacts, states_named,
 };
 pub use crate::view::RequestView;

@@ -17,7 +17,7 @@ use Rattle.sock_diag_filters.specs.contracts.condition.PrefixPartialEq.TheImpl.{
 pub address_equal : (a b : IpAddr) → IsTrue (addresses.eq a b) ↔ (a ≡ b)
 address_equal a b = (λ h. search rules, λ e. search rules)
 
-prefix_path : (v w : Prefix) → v.address ≡ w.address → v.bits ≡ w.bits → v ≡ w
+pub prefix_path : (v w : Prefix) → v.address ≡ w.address → v.bits ≡ w.bits → v ≡ w
 prefix_path v w same fewer = λ i. record {
   address = same i;
   bits = fewer i;

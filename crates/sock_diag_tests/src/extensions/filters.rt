@@ -4,8 +4,8 @@ use super::{assert_debug, assert_text};
 use netlink_core::Emitable;
 use sock_diag_filters::uses::listening_on;
 use sock_diag_filters::{
-    AnyRequestView, AssembleError, Comparison, Condition, Filter, Host, Prefix, RequestAttribute,
-    RequestView, RequestWithAttributes, assemble,
+    AnyRequestView, AssembleError, Comparison, Condition, Filter, Host, ParsedFilter, Prefix,
+    RequestAttribute, RequestView, RequestWithAttributes, assemble,
 };
 use std::alloc::Global;
 use std::net::{IpAddr, Ipv4Addr, Ipv6Addr};
@@ -289,4 +289,34 @@ fn programs_of_each_size(rt: HostRuntime) {
     assert_programs_fit(&rt, rt.alloc(), &one);
     // 128 operations, and up to 64 times as many.
     assert_programs_fit(&rt, rt.alloc(), &Filter::And(&of_64, &of_64));
+}
+
+/// Checks the states and the program that ss(8) sends for a text.
+#[test]
+fn texts_are_those_of_ss(rt: HostRuntime) {
+    let text = b"state established sport >= :5 and ! ( dst 127.0.0.0/8:7 or autobound )";
+    let filter = ParsedFilter::parse(text).expect(&rt, "rejected");
+    let mut program = [0; 36];
+    assert!(rt; filter.states == Some(2));
+    assert!(rt; filter.write_program(&mut program) == Some(36));
+    let sent = "02082800000005000810140002080000070000007f000000010408000604080001040800";
+    assert_hex(&rt, rt.alloc(), &program, sent);
+}
+
+/// In each row: a text, and the printed error.
+const REJECTED_TEXTS: [(&str, &str); 2] = [
+    ("sport = :80 or dst http", "unexpected word at byte 19"),
+    ("state listening (", "the filter is not complete"),
+];
+
+/// Checks the texts of the errors of texts that are not filters.
+#[test]
+fn errors_of_texts_are_printed(rt: HostRuntime) {
+    for (text, printed) in &REJECTED_TEXTS {
+        let error = ParsedFilter::parse(text.as_bytes())
+            .err()
+            .expect(&rt, "accepted");
+        let line = format!(in rt.alloc(); "{error}").expect(&rt, "memory");
+        assert_text(&rt, line.as_str(), printed);
+    }
 }
