@@ -65,7 +65,7 @@ COMPILING = {"cc", "make", "pkg-config",
              *(it + name for it in ("", "./", "examples/") for name in IN_C)}
 BUILTIN = {"cd", "done", "echo", "export", "for", "printf", *PROGRAMS}
 # Commands of these words that are not run: they do not end, need root, or need a built library.
-NOT_RUN = re.compile(r".*(sockdump --(events|netns)|socklist -[EK]|fuzz_c|BUILT=)")
+NOT_RUN = re.compile(r".*(sockdump --(events|netns)|socklist -[EK]|fuzz_c|BUILT=|-static-pie)")
 # The first names of input lines of `sockdiag`.
 NAMES = "unixreq|unix|unixview|inetreq|inet|sockid4|sockid6|message|netlink|dump"
 ANSWER = re.compile(r"(ok|refused|unwritable|bad line)\b")

@@ -218,7 +218,7 @@ def boot(folder, it, made):
     os.truncate(disk, 1 << 24)
     image = next(iter([*kernel.glob("boot/vmlinuz*"), *kernel.glob("usr/lib/modules/*/vmlinuz")]))
     with open(at / "console", "wb") as console:
-        run("timeout", "600", *how.emulator, "-accel", "tcg", "-m", "1024", "-nographic",
+        run("timeout", "1800", *how.emulator, "-accel", "tcg", "-m", "1024", "-nographic",
             "-monitor", "none", "-serial", "stdio", "-nic", "none", "-no-reboot", "-kernel", image,
             "-initrd", at / "initial.gz", "-drive", f"file={disk},if=virtio,format=raw", "-append",
             f"console={how.console} panic=-1 loglevel=3 mitigations=off", stdout=console,
