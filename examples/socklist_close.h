@@ -133,8 +133,7 @@ static int close_socket(int kernel, struct sockdiag_inet_request *target) {
     ssize_t sent;
     target->header.flags = NLM_F_REQUEST | NLM_F_ACK;
     target->header.sequence_number = ++sequence_number;
-    length = sockdiag_write_inet_destroy(target, request, sizeof request);
-    if (length == 0)
+    if (sockdiag_write_inet_destroy(target, request, sizeof request, &length) != SOCKDIAG_OK)
         return EINVAL;
     do
         sent = send(kernel, request, length, 0);

@@ -86,7 +86,7 @@ USERS = {
     "a dump": [("netlink_packet_sock_diag", ["DumpReader", "feed"])],
     "lenient parsing": [("sock_diag_extras", ["items_agree_with_the_port"])],
     "the line program": [("sock_diag_lines", ["answer"]), ("sock_diag_lines", ["run"])],
-    "a reply in C": [("sockdiag_c", ["sockdiag_inet_get_lenient_details"])],
+    "a reply in C": [("sockdiag_c", ["sockdiag_inet_fill_lenient_details"])],
     "sslist": [("sslist_lister", ["run"])],
     "filters": [("sock_diag_filters", ["assemble"])],
 }

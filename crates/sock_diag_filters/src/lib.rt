@@ -23,6 +23,7 @@ pub use crate::request::{
     RequestWithAttributes,
 };
 pub use crate::text::{
-    FilterTextError, MAX_PARSED_PROGRAM, MAX_PARTS, ParsedFilter, Part, SocketFacts, states_named,
+    FilterTextError, MAX_PARSED_PROGRAM, MAX_PARTS, ParsedFilter, Part, SocketFacts, ip_in,
+    states_named,
 };
 pub use crate::view::RequestView;

@@ -1,6 +1,5 @@
 -- Lemmas about the definitions.
 pub mod FactTokens
-pub mod AddressText
 pub mod EqualFilter
 pub mod EqualOptions
 pub mod LongNames

@@ -13,3 +13,4 @@ mod values;
 pub use crate::text::facts::SocketFacts;
 pub use crate::text::parsed::{FilterTextError, MAX_PARSED_PROGRAM, MAX_PARTS, ParsedFilter, Part};
 pub use crate::text::states::states_named;
+pub use crate::text::values::ip_in;

@@ -187,7 +187,7 @@ fn new_prefix(address: IpAddr, bits: u8) -> Option<Prefix>
 
 /// Parses an IPv4 or IPv6 address. Returns `None` if the text is neither.
 #[tactic(auto, using(crate::specs::laws::AddressText::ip_text_rules))]
-pub(crate) fn ip_in(text: &[u8]) -> Option<IpAddr>
+pub fn ip_in(text: &[u8]) -> Option<IpAddr>
     ensures value { result ≡ ip_in text.now }
     // For each address `a`: the result is `a` if and only if the text is a text of `a`, by the
     // grammar of std (`IsIpText text a`).

@@ -1,10 +1,10 @@
 -- Conditions on the addresses of the sockets that are listed.
 use Rattle.std.specs.Prelude.{ℕ, ◌+◌, ◌-◌, ◌/◌, ◌^◌, ◌==◌, ◌&&◌, nat_le, Bool, true}
 use Rattle.std.specs.Prelude.{if◌then◌else◌, List, Option, None, Some, drop, option_and_then}
-use Rattle.std.specs.Prelude.{option_map, take}
-use Rattle.std.specs.Option.{option_map_or, option_or}
+use Rattle.std.specs.Prelude.{take}
+use Rattle.std.specs.Option.{option_map_or}
 use Rattle.std.specs.Net.Addr.{ipv4_bits, ipv6_bits}
-use Rattle.std.specs.Net.Reader.{read_ipv4, read_ipv6, whole_value}
+use Rattle.sock_diag_filters.specs.AddressText.{ip_in}
 use Rattle.std.specs.declared.net.ip_addr.IpAddr.{IpAddr}
 use Rattle.std.specs.declared.net.ip_addr.IpAddr.TheVariants.{V4, V6}
 use Rattle.sslist_lister.specs.command_line.Text.{index_of, decimal_u16}
@@ -41,16 +41,6 @@ meets_address (Some condition) address =
     begins_alike condition.length condition.address address
 
 -- ---- conditions of a command line
-
--- `ip_in text`: the address that the text is, as std::net parses it: four decimal numbers, or a
--- form of RFC 4291, section 2.2. None if the text is not an address. `read_ipv4` and `read_ipv6`
--- read an address at the start of a text, and `whole_value` is this address if no text is left
--- after it. The clause `spelled` of the function `ip_in` (src/command_line/addresses.rt) states the
--- same by the grammar of std, `IsIpText`.
-unfoldable pub ip_in : List ℕ → Option IpAddr
-ip_in text =
-    option_or (option_map (λ octets. V4 record { octets = octets }) (whole_value (read_ipv4 text)))
-    (option_map (λ segments. V6 record { segments = segments }) (whole_value (read_ipv6 text)))
 
 -- `begins_with address length`: the condition that another address begins with the first `length`
 -- bits of `address`; None if `address` has fewer than `length` bits

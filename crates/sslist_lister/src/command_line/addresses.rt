@@ -1,13 +1,13 @@
 //! Conditions on the addresses of the sockets that are listed.
 
-ghost use Rattle.std.specs.Prelude.{◌≡◌, ◌↔◌, ◌≤◌, Some};
-ghost use Rattle.std.specs.Net.Grammar.{IsIpText};
+ghost use Rattle.std.specs.Prelude.{◌≡◌, ◌≤◌};
+ghost use Rattle.sock_diag_filters.specs.AddressText.{ip_in};
 ghost use Rattle.sslist_lister.specs.command_line.Addresses.{address_condition, address_number};
 ghost use Rattle.sslist_lister.specs.command_line.Addresses.{begins_alike, begins_with, first_bits};
-ghost use Rattle.sslist_lister.specs.command_line.Addresses.{in_network, ip_in, meets_address};
-ghost use Rattle.sslist_lister.specs.command_line.Addresses.{width};
+ghost use Rattle.sslist_lister.specs.command_line.Addresses.{in_network, meets_address, width};
 
 use crate::command_line::text::{decimal_u16, index_of};
+use sock_diag_filters::ip_in;
 use std::net::IpAddr;
 
 /// A condition on an address: it is of the same version as another address, and both begin with
@@ -109,15 +109,4 @@ fn begins_with(address: IpAddr, length: u32) -> Option<AddressCondition>
     } else {
         None
     }
-}
-
-/// Parses an IPv4 or IPv6 address. Returns `None` if the text is neither.
-#[tactic(auto, using(crate::specs::laws::AddressText::ip_text_rules))]
-fn ip_in(text: &[u8]) -> Option<IpAddr>
-    ensures value { result ≡ ip_in text.now }
-    // For each address `a`: the result is `a` if and only if the text is a text of `a`, by the
-    // grammar of std (`IsIpText text a`).
-    ensures spelled { (a : IpAddr) → (result ≡ Some a) ↔ IsIpText text.now a }
-{
-    IpAddr::parse_ascii(text).ok()
 }
