@@ -8,6 +8,8 @@ pub trait ByteOrder {
     fn read_i32(bytes: &[u8]) -> i32;
     /// Reads a number of `count` bytes, at most 8.
     fn read_uint(bytes: &[u8], count: usize) -> u64;
+    /// Reads a number of `count` bytes, at most 16.
+    fn read_uint128(bytes: &[u8], count: usize) -> u128;
     fn write_u16(bytes: &mut [u8], number: u16);
     fn write_u32(bytes: &mut [u8], number: u32);
     fn write_u64(bytes: &mut [u8], number: u64);
@@ -69,13 +71,21 @@ macro_rules! order {
             #[inline(always)]
             fn read_uint(bytes: &[u8], count: usize) -> u64 {
                 let mut number = [0; 8];
-                let first: fn(usize) -> usize = $first;
-                number[first(count)..][..count].copy_from_slice(&bytes[..count]);
+                let first: fn(usize, usize) -> usize = $first;
+                number[first(number.len(), count)..][..count].copy_from_slice(&bytes[..count]);
                 u64::$from(number)
+            }
+
+            #[inline(always)]
+            fn read_uint128(bytes: &[u8], count: usize) -> u128 {
+                let mut number = [0; 16];
+                let first: fn(usize, usize) -> usize = $first;
+                number[first(number.len(), count)..][..count].copy_from_slice(&bytes[..count]);
+                u128::$from(number)
             }
         }
     };
 }
 
-order!(LittleEndian, from_le_bytes, to_le_bytes, |_| 0);
-order!(BigEndian, from_be_bytes, to_be_bytes, |count| 8 - count);
+order!(LittleEndian, from_le_bytes, to_le_bytes, |_, _| 0);
+order!(BigEndian, from_be_bytes, to_be_bytes, |len, count| len - count);
