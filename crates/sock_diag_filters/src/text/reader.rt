@@ -207,8 +207,8 @@ impl Reader {
         ensures { Follows (begun (state_of self.old) keyword) result self.new }
     {
         match keyword {
-            Keyword::Open => self.push(Pending::Group),
-            Keyword::Not => self.push(Pending::Not),
+            Keyword::Open => self.add_pending(Pending::Group),
+            Keyword::Not => self.add_pending(Pending::Not),
             Keyword::Field(field) => {
                 self.place = Place::Field(field);
                 Ok(())
@@ -223,8 +223,8 @@ impl Reader {
         ensures { Follows (after_operand (state_of self.old) keyword) result self.new }
     {
         match keyword {
-            Keyword::And => self.push(Pending::And),
-            Keyword::Or => self.push(Pending::Or),
+            Keyword::And => self.add_pending(Pending::And),
+            Keyword::Or => self.add_pending(Pending::Or),
             Keyword::Close => self.close(),
             _ => self.follow_directly(keyword),
         }
@@ -237,7 +237,7 @@ impl Reader {
         if !keyword.begins_operand() {
             return Err(Problem::Unexpected);
         }
-        self.push(Pending::And)?;
+        self.add_pending(Pending::And)?;
         self.begin(keyword)
     }
 
@@ -285,7 +285,7 @@ impl Reader {
             self.new }
     {
         if negated {
-            self.push(Pending::Not)?;
+            self.add_pending(Pending::Not)?;
         }
         if self.is_full() {
             return Err(Problem::TooLong);
@@ -332,7 +332,7 @@ impl Reader {
     }
 
     // Adds an operator or a group whose operand follows.
-    fn push(&mut self, operator: Pending) -> Result<(), Problem>
+    fn add_pending(&mut self, operator: Pending) -> Result<(), Problem>
         ensures { Follows (Some (with_pending operator (state_of self.old))) result self.new }
     {
         if self.is_full() {
