@@ -72,7 +72,8 @@ macro_rules! order {
             fn read_uint(bytes: &[u8], count: usize) -> u64 {
                 let mut number = [0; 8];
                 let first: fn(usize, usize) -> usize = $first;
-                number[first(number.len(), count)..][..count].copy_from_slice(&bytes[..count]);
+                let start = first(number.len(), count);
+                number[start..][..count].copy_from_slice(&bytes[..count]);
                 u64::$from(number)
             }
 
@@ -80,7 +81,8 @@ macro_rules! order {
             fn read_uint128(bytes: &[u8], count: usize) -> u128 {
                 let mut number = [0; 16];
                 let first: fn(usize, usize) -> usize = $first;
-                number[first(number.len(), count)..][..count].copy_from_slice(&bytes[..count]);
+                let start = first(number.len(), count);
+                number[start..][..count].copy_from_slice(&bytes[..count]);
                 u128::$from(number)
             }
         }
