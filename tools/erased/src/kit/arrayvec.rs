@@ -1,14 +1,17 @@
 //! `ArrayString` and `ArrayVec`, as in the crate arrayvec.
 
+#[cfg(feature = "std")]
 use core::fmt;
 use core::ops::Deref;
 
 /// A text of up to `N` bytes, without an allocation.
+#[cfg(feature = "std")]
 pub struct ArrayString<const N: usize> {
     bytes: [u8; N],
     len: usize,
 }
 
+#[cfg(feature = "std")]
 impl<const N: usize> ArrayString<N> {
     pub fn new() -> Self {
         ArrayString { bytes: [0; N], len: 0 }
@@ -19,6 +22,7 @@ impl<const N: usize> ArrayString<N> {
     }
 }
 
+#[cfg(feature = "std")]
 impl<const N: usize> fmt::Write for ArrayString<N> {
     fn write_str(&mut self, text: &str) -> fmt::Result {
         let end = self.len + text.len();

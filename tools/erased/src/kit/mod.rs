@@ -1,6 +1,5 @@
 //! What the sources use of the libraries of the Rattle kit, in plain Rust.
 
-#[cfg(feature = "std")]
 pub mod arrayvec;
 pub mod bitflags;
 mod boxed;

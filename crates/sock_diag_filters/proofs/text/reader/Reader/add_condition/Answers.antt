@@ -17,8 +17,8 @@ returns-in_err-add_pending c =
     let p = err_from_is_err_and c.from_residual.result c.from_residual.ensures.1 in
     too_long_follows (with_pending Not (state_of c.args.self.now))
     (with_condition c.args.negated c.args.condition (state_of c.args.self.now))
-    c.in_err-add_pending.field-0.0 c.add_pending.new.self c.add_pending.new.self c.from_residual.result
-    c.in_err-add_pending.ensures
+    c.in_err-add_pending.field-0.0 c.add_pending.new.self c.add_pending.new.self
+    c.from_residual.result c.in_err-add_pending.ensures
     (pending_is_shorter Not c.args.negated c.args.condition (state_of c.args.self.now))
     (grind (arith, p.1, p.2))
 

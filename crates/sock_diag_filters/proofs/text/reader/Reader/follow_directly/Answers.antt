@@ -12,5 +12,5 @@ returns-in_err-add_pending c =
     let p = err_from_is_err_and c.from_residual.result c.from_residual.ensures.1 in
     let begins : begins_operand c.args.keyword ≡ true = search rules in
     begun_too_long c.args.keyword (with_pending And (state_of c.args.self.now))
-    c.in_err-add_pending.field-0.0 c.add_pending.new.self c.add_pending.new.self c.from_residual.result begins
-    c.in_err-add_pending.ensures (grind (arith, p.1, p.2))
+    c.in_err-add_pending.field-0.0 c.add_pending.new.self c.add_pending.new.self
+    c.from_residual.result begins c.in_err-add_pending.ensures (grind (arith, p.1, p.2))
