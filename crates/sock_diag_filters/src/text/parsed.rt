@@ -145,8 +145,8 @@ impl ParsedFilter {
     /// [`program_len`](Self::program_len), and then writes nothing. Without conditions the program
     /// is empty, and a request has no such attribute.
     ///
-    /// The program is that of [`assemble`](crate::assemble): it passes the kernel's audit, and
-    /// selects the sockets that meet the filter.
+    /// The program is that of `assemble`: it passes the kernel's audit, and selects the sockets
+    /// that meet the filter.
     pub fn write_program(&self, buffer: &mut [u8]) -> Option<usize>
         ensures len { SomeIff result
             (sum_by part_size self.now.parts.items ≤ length buffer.old)
