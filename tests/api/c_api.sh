@@ -168,7 +168,8 @@ LD_LIBRARY_PATH="$work/prefix/lib" "$top/tests/api/kernels.py" "$work/list_socke
 "$top/tests/api/sockdump.py" "$work/sockdump"
 sslist=${SSLIST_PROGRAM-$top/crates/sslist/out/sslist}
 if [ -x "$sslist" ]; then
-    "$top/tests/api/socklist.py" "$work/socklist" "$work/sockdump" "$sslist"
+    LD_LIBRARY_PATH="$work/prefix/lib" \
+        "$top/tests/api/socklist.py" "$work/socklist" "$work/sockdump" "$sslist"
 else
     echo "c_api: skipped: socklist: no $sslist" >&2
 fi
