@@ -500,11 +500,11 @@ def test_programs(runs):
     missing = "socklist: sslist: No such file or directory\n"
     runs.use()
     (runs.folder / "sslist").unlink()
-    found = runs.end(env={"PATH": "/none"})
+    found = runs.end(env=os.environ | {"PATH": "/none"})
     compare("missing", (found[0], missing in found[2]), (1, True))
     (runs.folder / "elsewhere").mkdir()
     (runs.folder / "elsewhere/sslist").symlink_to(os.path.abspath(runs.programs["sslist"]))
-    compare("PATH", runs.end("-H", env={"PATH": f"{runs.folder}/elsewhere"})[0], 0)
+    compare("PATH", runs.end("-H", env=os.environ | {"PATH": f"{runs.folder}/elsewhere"})[0], 0)
     for name in ("sockdump", "sslist"):
         for script, status, error in (
                 ("kill -9 $$", 1, f"socklist: {name}: Killed\n"), ("exit 3", 1, ""),
