@@ -37,6 +37,16 @@ abbrev pub socket_protocol_of : AnyValue → Option ℕ
 socket_protocol_of (any.protocol n) = Some n
 socket_protocol_of other = None
 
+-- the mark
+abbrev pub mark_of : AnyValue → Option ℕ
+mark_of (any.mark n) = Some n
+mark_of other = None
+
+-- the id of the control group
+abbrev pub cgroup_id_of : AnyValue → Option ℕ
+cgroup_id_of (any.cgroup_id id) = Some id
+cgroup_id_of other = None
+
 -- the settings of a packet socket
 abbrev pub packet_info_of : AnyValue → Option PacketInfo
 packet_info_of (any.packet_info info) = Some info

@@ -1,6 +1,5 @@
 -- The text of a filter is read to a complete state, and from each state that is reached a text can
--- be
--- completed.
+-- be completed.
 use Rattle.std.proofs.Common.{◌≡◌, ◌∙◌, ℕ, List, [], ◌∷◌, ◌++◌, Option, None, Some, Bool, true}
 use Rattle.std.proofs.Common.{false}
 use Rattle.std.proofs.Common.{refl, sym, ap, subst, append-nil}

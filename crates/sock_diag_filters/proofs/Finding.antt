@@ -22,8 +22,7 @@ use Rattle.sock_diag_filters.specs.Sockets.{Socket}
 use Rattle.sock_diag_filters.specs.Sockets.{SocketEnd, address_has_optional_prefix}
 use Rattle.sock_diag_filters.specs.Sockets.{address_has_prefix, has_port, host_condition}
 use Rattle.sock_diag_filters.specs.Sockets.{kernel_evaluates, kernel_matches_address}
-use Rattle.sock_diag_filters.specs.Sockets.{kernel_matches_host, local_end, meets, meets_host}
-use Rattle.sock_diag_filters.specs.Sockets.{remote_end}
+use Rattle.sock_diag_filters.specs.Sockets.{kernel_matches_host, meets, meets_host}
 use Rattle.sock_diag_filters.proofs.Operations.{host, with_address}
 
 -- A number that fits `n` bytes round-trips through little-endian bytes.
@@ -84,19 +83,19 @@ host_found h end range =
 condition_found : (s : Socket) (c : Condition) → IsConditionInRange c
     → kernel_evaluates s (code_of c) (arguments c) ≡ meets s c
 condition_found s (conditions.SourcePort AtLeast port) range =
-    ap (λ (n : ℕ). nat_le n s.source_port) (port_round_trips port range)
+    ap (λ (n : ℕ). nat_le n s.source.port) (port_round_trips port range)
 condition_found s (conditions.SourcePort AtMost port) range =
-    ap (λ (n : ℕ). nat_le s.source_port n) (port_round_trips port range)
+    ap (λ (n : ℕ). nat_le s.source.port n) (port_round_trips port range)
 condition_found s (conditions.SourcePort Equal port) range =
-    ap (λ (n : ℕ). s.source_port == n) (port_round_trips port range)
+    ap (λ (n : ℕ). s.source.port == n) (port_round_trips port range)
 condition_found s (conditions.DestinationPort AtLeast port) range =
-    ap (λ (n : ℕ). nat_le n s.destination_port) (port_round_trips port range)
+    ap (λ (n : ℕ). nat_le n s.destination.port) (port_round_trips port range)
 condition_found s (conditions.DestinationPort AtMost port) range =
-    ap (λ (n : ℕ). nat_le s.destination_port n) (port_round_trips port range)
+    ap (λ (n : ℕ). nat_le s.destination.port n) (port_round_trips port range)
 condition_found s (conditions.DestinationPort Equal port) range =
-    ap (λ (n : ℕ). s.destination_port == n) (port_round_trips port range)
-condition_found s (conditions.Source h) range = host_found h (local_end s) range
-condition_found s (conditions.Destination h) range = host_found h (remote_end s) range
+    ap (λ (n : ℕ). s.destination.port == n) (port_round_trips port range)
+condition_found s (conditions.Source h) range = host_found h s.source range
+condition_found s (conditions.Destination h) range = host_found h s.destination range
 condition_found s (conditions.Interface number) range =
     ap (λ (n : ℕ). s.interface == n) (u32_round_trips number range)
 condition_found s (conditions.Mark mark mask) range =

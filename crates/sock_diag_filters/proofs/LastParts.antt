@@ -1,9 +1,9 @@
--- The last filter of some parts: which sockets it selects, and its program.
-use Rattle.std.proofs.Common.{◌≡◌, ◌∙◌, ℕ, ◌+◌, ◌-◌, ◌≤◌, List, [], ◌∷◌, ◌++◌, Bool}
+-- The program of the last filter of some parts.
+use Rattle.std.proofs.Common.{◌≡◌, ◌∙◌, ℕ, ◌+◌, ◌-◌, ◌≤◌, List, [], ◌∷◌, ◌++◌}
 use Rattle.std.proofs.Common.{refl, sym, ap, subst, append_assoc, arith, drop, length, take}
 use Rattle.std.proofs.lemmas.List.{length-append, length-take-le}
 use Rattle.std.proofs.lemmas.List.Sums.{sum_by-append}
-use Rattle.std.specs.Prelude.{not, ◌&&◌, ◌||◌, sum_by}
+use Rattle.std.specs.Prelude.{sum_by}
 use Rattle.sock_diag_filters.specs.declared.codes.TheConstants.{OPERATION_HEADER_LEN}
 use Rattle.sock_diag_filters.specs.declared.condition.Condition.{Condition}
 use Rattle.sock_diag_filters.specs.declared.filter.Filter.{Filter}
@@ -11,10 +11,8 @@ use Rattle.sock_diag_filters.specs.declared.filter.Filter.TheVariants as filters
 use Rattle.sock_diag_filters.specs.declared.text.parsed.Part.{Part}
 use Rattle.sock_diag_filters.specs.declared.text.parsed.Part.TheVariants as parts
 use Rattle.sock_diag_filters.specs.Conditions.{arguments, code_of}
-use Rattle.sock_diag_filters.specs.Filters.{meaning, program_size}
-use Rattle.std.proofs.Common.{IsTrue, Option, Some, None}
-use Rattle.sock_diag_filters.specs.Postfix.{optional_meaning, optional_postfix}
-use Rattle.sock_diag_filters.specs.Postfix.{IsLastSelected, IsLastWritten, part_size, postfix}
+use Rattle.sock_diag_filters.specs.Filters.{program_size}
+use Rattle.sock_diag_filters.specs.Postfix.{IsLastWritten, part_size, postfix}
 use Rattle.sock_diag_filters.specs.Sockets.{AreConditionsInRange, IsConditionInRange}
 use Rattle.sock_diag_filters.specs.private.Assembly.{EndsWith, jump, operation, program_of}
 use Rattle.sock_diag_filters.proofs.Ending.{ends_with_both}
@@ -53,8 +51,7 @@ same_last xs ys x y h = (
 )
 
 -- `IsTop last rest before filter`: the parts `rest` and the part `last` are `before` and the parts
--- of
--- the filter.
+-- of the filter.
 abbrev pub IsTop : Part → List Part → List Part → Filter → Type 0
 IsTop last rest before (filters.Condition c) = (last ≡ parts.Condition c) × (rest ≡ before)
 IsTop last rest before (filters.And' p a q b) =
@@ -82,89 +79,6 @@ top_of rest last before (filters.Not' p a) h =
     same_last rest (before ++ postfix a) last parts.Not (h ∙ sym (append_assoc before (postfix a)
     (parts.Not ∷ [])))
 
--- ---- selection
-
--- What `IsLastSelected` says of one filter.
-abbrev Selects : (Condition → Bool) → Bool → List Part → List Part → Filter → Type 0
-Selects met selected rest before filter = (selected ≡ meaning met filter) × (rest ≡ before)
-
-selects_condition : (met : Condition → Bool) (rest : List Part) (c : Condition) (before : List Part)
-    (filter : Filter) → IsTop (parts.Condition c) rest before filter
-    → Selects met (met c) rest before filter
-selects_condition met rest c before (filters.Condition d) (is, same) =
-    (grind arith, same)
-selects_condition met rest c before (filters.And' p a q b) (is, same) = absurd (cc)
-selects_condition met rest c before (filters.Or' p a q b) (is, same) = absurd (cc)
-selects_condition met rest c before (filters.Not' p a) (is, same) = absurd (cc)
-
-selects_not : (met : Condition → Bool) (rest : List Part) (operand : Bool) (outer : List Part)
-    → IsLastSelected met rest operand outer → (before : List Part) (filter : Filter)
-    → IsTop parts.Not rest before filter → Selects met (not operand) outer before filter
-selects_not met rest operand outer h before (filters.Not' p a) (is, same) =
-    let s = h before a same in (ap not s.0, s.1)
-selects_not met rest operand outer h before (filters.Condition d) (is, same) = absurd (cc)
-selects_not met rest operand outer h before (filters.And' p a q b) (is, same) = absurd (cc)
-selects_not met rest operand outer h before (filters.Or' p a q b) (is, same) = absurd (cc)
-
-selects_and : (met : Condition → Bool) (rest middle : List Part) (second first : Bool)
-    (outer : List Part) → IsLastSelected met rest second middle
-    → IsLastSelected met middle first outer → (before : List Part) (filter : Filter)
-    → IsTop parts.And rest before filter → Selects met (first && second) outer before filter
-selects_and met rest middle second first outer h k before (filters.And' p a q b) (is, same) =
-    let s = h (before ++ postfix a) b same in
-    let t = k before a s.1 in (ap (λ v. v && second) t.0 ∙ ap (λ v. meaning met a && v) s.0, t.1)
-selects_and met rest middle second first outer h k before (filters.Condition d) (is, same) =
-    absurd (cc)
-selects_and met rest middle second first outer h k before (filters.Not' p a) (is, same) =
-    absurd (cc)
-selects_and met rest middle second first outer h k before (filters.Or' p a q b) (is, same) =
-    absurd (cc)
-
-selects_or : (met : Condition → Bool) (rest middle : List Part) (second first : Bool)
-    (outer : List Part) → IsLastSelected met rest second middle
-    → IsLastSelected met middle first outer → (before : List Part) (filter : Filter)
-    → IsTop parts.Or rest before filter → Selects met (first || second) outer before filter
-selects_or met rest middle second first outer h k before (filters.Or' p a q b) (is, same) =
-    let s = h (before ++ postfix a) b same in
-    let t = k before a s.1 in (ap (λ v. v || second) t.0 ∙ ap (λ v. meaning met a || v) s.0, t.1)
-selects_or met rest middle second first outer h k before (filters.Condition d) (is, same) =
-    absurd (cc)
-selects_or met rest middle second first outer h k before (filters.Not' p a) (is, same) =
-    absurd (cc)
-selects_or met rest middle second first outer h k before (filters.And' p a q b) (is, same) =
-    absurd (cc)
-
-pub condition_selected : (met : Condition → Bool) (all rest : List Part) (c : Condition)
-    (selected : Bool) → all ≡ rest ++ parts.Condition c ∷ [] → selected ≡ met c
-    → IsLastSelected met all selected rest
-condition_selected met all rest c selected is same before filter h =
-    let s = selects_condition met rest c before filter (top_of rest (parts.Condition c) before
-    filter (sym is ∙ h)) in
-    (same ∙ s.0, s.1)
-
-pub not_selected : (met : Condition → Bool) (all rest : List Part) (operand : Bool)
-    (outer : List Part) → all ≡ rest ++ parts.Not ∷ [] → IsLastSelected met rest operand outer
-    → IsLastSelected met all (not operand) outer
-not_selected met all rest operand outer is h before filter k =
-    selects_not met rest operand outer h before filter (top_of rest parts.Not before filter (sym is
-    ∙ k))
-
-pub and_selected : (met : Condition → Bool) (all rest middle : List Part) (second first : Bool)
-    (outer : List Part) (selected : Bool) → all ≡ rest ++ parts.And ∷ []
-    → IsLastSelected met rest second middle → IsLastSelected met middle first outer
-    → selected ≡ (first && second) → IsLastSelected met all selected outer
-and_selected met all rest middle second first outer selected is h k same before filter l =
-    let s = selects_and met rest middle second first outer h k before filter
-    (top_of rest parts.And before filter (sym is ∙ l)) in (same ∙ s.0, s.1)
-
-pub or_selected : (met : Condition → Bool) (all rest middle : List Part) (second first : Bool)
-    (outer : List Part) (selected : Bool) → all ≡ rest ++ parts.Or ∷ []
-    → IsLastSelected met rest second middle → IsLastSelected met middle first outer
-    → selected ≡ (first || second) → IsLastSelected met all selected outer
-or_selected met all rest middle second first outer selected is h k same before filter l =
-    let s = selects_or met rest middle second first outer h k before filter
-    (top_of rest parts.Or before filter (sym is ∙ l)) in (same ∙ s.0, s.1)
-
 some_parts : (filter : Filter) → 1 ≤ length (postfix filter)
 some_parts (filters.Condition c) = omega arith
 some_parts (filters.And' p a q b) =
@@ -184,12 +98,6 @@ no_parts all before filter none h =
       length-append before
           (postfix filter),
     )
-
--- No filter has no parts.
-pub none_selected : (met : Condition → Bool) (all : List Part) (selected : Bool) (rest : List Part)
-    → length all ≡ 0 → IsLastSelected met all selected rest
-none_selected met all selected rest none before filter h =
-    absurd (no_parts all before filter none h)
 
 -- ---- programs
 
@@ -449,11 +357,3 @@ pub none_written : (all : List Part) (far : ℕ) (old new : List ℕ) (len : ℕ
     → length all ≡ 0 → IsLastWritten all far old new len rest
 none_written all far old new len rest none before filter h =
     absurd (no_parts all before filter none h)
-
--- The parts of an optional filter.
-pub all_selected : (met : Condition → Bool) (parts : List Part) (selected : Bool) (rest : List Part)
-    → (length parts ≡ 0 → IsTrue selected) → IsLastSelected met parts selected rest
-    → (filter : Option Filter) → parts ≡ optional_postfix filter
-    → selected ≡ optional_meaning met filter
-all_selected met parts selected rest empty h None is = empty (ap (λ (l : List Part). length l) is)
-all_selected met parts selected rest empty h (Some filter) is = (h [] filter is).0

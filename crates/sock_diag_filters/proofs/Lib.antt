@@ -17,5 +17,6 @@ pub mod ReadTexts
 pub mod Completing
 pub mod Parsing
 pub mod LastParts
+pub mod Evaluating
 pub mod ParsingText
 pub mod WrittenPrograms

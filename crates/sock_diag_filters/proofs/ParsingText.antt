@@ -18,8 +18,7 @@ use Rattle.sock_diag_filters.proofs.Parsing.{error_is_first, incomplete_is_error
 use Rattle.sock_diag_filters.proofs.ReadTexts.{read_is_text}
 
 -- `Leads s start word later text`: the words of the text lead to the same as, from the state `s`,
--- the
--- words that begin with `word` at `start`, which `later` follows.
+-- the words that begin with `word` at `start`, which `later` follows.
 abbrev pub Leads : State → ℕ → List ℕ → List ℕ → List ℕ → Type 0
 Leads s start word later text = outcome s (words_from start word later) ≡ outcome initial
     (placed_words text)
@@ -83,8 +82,7 @@ finished_is_parsed text t states parts h complete a b =
 -- ---- by the index of a byte
 
 -- `LeadsAt s start index text`: the words of the text lead to the same as, from the state `s`,
--- those
--- of the text from `start` on, of which the bytes before `index` are the beginning of a word.
+-- those of the text from `start` on, of which the bytes before `index` are the beginning of a word.
 abbrev pub LeadsAt : State → ℕ → ℕ → List ℕ → Type 0
 LeadsAt s start index text =
     outcome s (words_from start (take (index - start) (drop start text)) (drop index text))

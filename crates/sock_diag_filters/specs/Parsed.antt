@@ -38,8 +38,7 @@ pub record IsWordAt (text : List ℕ) (offset : ℕ) (before : List (List ℕ))
 
 -- `IsFilterTextError text error`: the text is rejected with this error.
 -- - `Unexpected offset`: a text of a filter begins with the words before the one at this offset,
--- and
---   none begins with these and this word.
+--   and none begins with these and this word.
 -- - `Incomplete`: a text of a filter begins with the words of the text, and they are none.
 -- - `TooLong offset`: with the word at this offset the filter has more than MAX_PARTS parts.
 abbrev pub IsFilterTextError : List ℕ → FilterTextError → Type 0
@@ -55,8 +54,7 @@ IsFilterTextError text (TooLong offset) =
     × (reading initial (before ++ word ∷ []) ≡ Some state) × (MAX_PARTS < size state)
 
 -- `outcome s words`: what reading these words in the state `s` leads to: a state, or the error at
--- the
--- first word that cannot follow or has too many parts.
+-- the first word that cannot follow or has too many parts.
 abbrev pub outcome : State → List (ℕ × List ℕ) → Result State FilterTextError
 outcome s [] = Ok s
 outcome s (word ∷ later) = elim (next s word.1) [

@@ -1,6 +1,6 @@
 -- Filters in postfix order.
 use Rattle.std.specs.Prelude.{◌≡◌, ℕ, ◌+◌, length, List, [], ◌∷◌, ◌++◌, Option, None, Some, Bool}
-use Rattle.std.specs.Prelude.{true}
+use Rattle.std.specs.Prelude.{true, ◌&&◌, ◌||◌, not, drop, fold}
 use Rattle.sock_diag_filters.specs.declared.condition.Condition.{Condition}
 use Rattle.sock_diag_filters.specs.declared.filter.Filter.{Filter}
 use Rattle.sock_diag_filters.specs.declared.filter.Filter.TheVariants as filters
@@ -25,24 +25,40 @@ optional_postfix None = []
 optional_postfix (Some filter) = postfix filter
 
 -- `optional_meaning met filter`: whether the filter selects a socket, if `met` says which
--- conditions
--- the socket meets. Without a filter each socket is selected.
+-- conditions the socket meets. Without a filter each socket is selected.
 abbrev pub optional_meaning : (Condition → Bool) → Option Filter → Bool
 optional_meaning met None = true
 optional_meaning met (Some filter) = meaning met filter
+
+-- ---- evaluation
+
+-- The last of some verdicts, which are listed from the last one to the first one. True if there is
+-- none, which no filter leads to.
+abbrev pub last_verdict : List Bool → Bool
+last_verdict [] = true
+last_verdict (verdict ∷ before) = verdict
+
+-- `with_part met verdicts part`: the verdicts after this part, which replaces those about its
+-- operands by its own. They are listed from the last one to the first one. `met` says which
+-- conditions are met.
+abbrev pub with_part : (Condition → Bool) → List Bool → Part → List Bool
+with_part met verdicts (parts.Condition condition) = met condition ∷ verdicts
+with_part met verdicts parts.Not = not (last_verdict verdicts) ∷ drop 1 verdicts
+with_part met verdicts parts.And =
+    (last_verdict (drop 1 verdicts) && last_verdict verdicts) ∷ drop 2 verdicts
+with_part met verdicts parts.Or =
+    (last_verdict (drop 1 verdicts) || last_verdict verdicts) ∷ drop 2 verdicts
+
+-- `are_met met parts`: whether the filter with these parts selects a socket, if `met` says which
+-- conditions the socket meets. Without parts each socket is selected.
+abbrev pub are_met : (Condition → Bool) → List Part → Bool
+are_met met parts = last_verdict (fold (with_part met) [] parts)
 
 -- ---- the last filter of some parts
 
 -- `IsLast parts before filter`: the parts are `before` and then those of the filter.
 abbrev pub IsLast : List Part → List Part → Filter → Type 0
 IsLast parts before filter = parts ≡ before ++ postfix filter
-
--- `IsLastSelected met parts selected rest`: `selected` is whether the last filter of the parts
--- selects a socket, and `rest` are the parts before it.
-abbrev pub IsLastSelected : (Condition → Bool) → List Part → Bool → List Part → Type 0
-IsLastSelected met parts selected rest =
-    (before : List Part) (filter : Filter) → IsLast parts before filter
-    → (selected ≡ meaning met filter) × (rest ≡ before)
 
 -- The number of bytes that a part adds to a program.
 abbrev pub part_size : Part → ℕ
@@ -52,8 +68,7 @@ part_size parts.Or = OPERATION_HEADER_LEN
 part_size parts.Not = OPERATION_HEADER_LEN
 
 -- `IsLastWritten parts far old new len rest`: the program of the last filter of the parts, `len`
--- bytes,
--- was written to the end of a buffer, and `rest` are the parts before the filter.
+-- bytes, was written to the end of a buffer, and `rest` are the parts before the filter.
 abbrev pub IsLastWritten : List Part → (far : ℕ) → (old new : List ℕ) → (len : ℕ) → List Part → Type
     0
 IsLastWritten parts far old new len rest =

@@ -18,18 +18,21 @@ use Rattle.sock_diag_filters.specs.declared.filter.Filter.{Filter}
 use Rattle.sock_diag_filters.specs.declared.filter.Filter.TheVariants as parts
 use Rattle.sock_diag_filters.specs.Prefixes.{octets_of}
 
+-- One end of a socket.
+pub record SocketEnd : Type 0 where
+  -- `family` of the socket: AF_INET or AF_INET6
+  pub family : ℕ
+  -- `sport` or `dport`, as a number
+  pub port : ℕ
+  -- `saddr` or `daddr`: the octets of the address in network byte order
+  pub octets : List ℕ
+
 -- A socket, as `struct inet_diag_entry` of the kernel's include/linux/inet_diag.h describes it.
 pub record Socket : Type 0 where
-  -- `family`: AF_INET or AF_INET6
-  pub family : ℕ
-  -- `sport`, the local port, as a number
-  pub source_port : ℕ
-  -- `dport`, the remote port, as a number
-  pub destination_port : ℕ
-  -- `saddr`, the octets of the local address in network byte order
-  pub source : List ℕ
-  -- `daddr`, the octets of the remote address in network byte order
-  pub destination : List ℕ
+  -- the local end
+  pub source : SocketEnd
+  -- the remote end
+  pub destination : SocketEnd
   -- `ifindex`, the index of the interface that the socket is bound to
   pub interface : ℕ
   -- `mark`
@@ -38,21 +41,6 @@ pub record Socket : Type 0 where
   pub cgroup : ℕ
   -- `userlocks` lacks SOCK_BINDPORT_LOCK: the kernel chose the local port
   pub is_auto_bound : Bool
-
--- One end of a socket: the family of the socket, and the port and the octets of the address of this
--- end.
-pub record SocketEnd : Type 0 where
-  pub family : ℕ
-  pub port : ℕ
-  pub octets : List ℕ
-
--- The local end of a socket.
-abbrev pub local_end : Socket → SocketEnd
-local_end s = record { family = s.family; port = s.source_port; octets = s.source }
-
--- The remote end of a socket.
-abbrev pub remote_end : Socket → SocketEnd
-remote_end s = record { family = s.family; port = s.destination_port; octets = s.destination }
 
 -- `have_equal_prefix bits octets others`: the first `bits` bits of `octets` and `others` are equal,
 -- as in the kernel's `bitstring_match`. Both are read as big-endian numbers of the length of
@@ -121,22 +109,22 @@ kernel_matches_host end host =
 -- `Run.antt` evaluates them.
 abbrev pub kernel_evaluates : Socket → ℕ → List ℕ → Bool
 kernel_evaluates s code args =
-    if code == codes.INET_DIAG_BC_S_GE then nat_le (compared_port args) s.source_port
-    else if code == codes.INET_DIAG_BC_S_LE then nat_le s.source_port (compared_port args)
+    if code == codes.INET_DIAG_BC_S_GE then nat_le (compared_port args) s.source.port
+    else if code == codes.INET_DIAG_BC_S_LE then nat_le s.source.port (compared_port args)
     else if code == codes.INET_DIAG_BC_D_GE
-    then nat_le (compared_port args) s.destination_port
+    then nat_le (compared_port args) s.destination.port
     else if code == codes.INET_DIAG_BC_D_LE
-    then nat_le s.destination_port (compared_port args)
+    then nat_le s.destination.port (compared_port args)
     else if code == codes.INET_DIAG_BC_AUTO then s.is_auto_bound
     else if code == codes.INET_DIAG_BC_S_COND
-    then kernel_matches_host (local_end s) (host_condition args)
+    then kernel_matches_host s.source (host_condition args)
     else if code == codes.INET_DIAG_BC_D_COND
-    then kernel_matches_host (remote_end s) (host_condition args)
+    then kernel_matches_host s.destination (host_condition args)
     else if code == codes.INET_DIAG_BC_DEV_COND then s.interface == little_number 4 args
     else if code == codes.INET_DIAG_BC_MARK_COND
     then bit_and s.mark (little_number 4 (drop 4 args)) == little_number 4 args
-    else if code == codes.INET_DIAG_BC_S_EQ then s.source_port == compared_port args
-    else if code == codes.INET_DIAG_BC_D_EQ then s.destination_port == compared_port args
+    else if code == codes.INET_DIAG_BC_S_EQ then s.source.port == compared_port args
+    else if code == codes.INET_DIAG_BC_D_EQ then s.destination.port == compared_port args
     else if code == codes.INET_DIAG_BC_CGROUP_COND then s.cgroup == little_number 8 args
     else true
 
@@ -186,10 +174,10 @@ meets_host host end =
 -- socket's mark that are in `mask` are equal to `mark`. `AutoBound`: the kernel chose the socket's
 -- local port.
 abbrev pub meets : Socket → Condition → Bool
-meets s (conditions.SourcePort comparison port) = compares comparison s.source_port port
-meets s (conditions.DestinationPort comparison port) = compares comparison s.destination_port port
-meets s (conditions.Source host) = meets_host host (local_end s)
-meets s (conditions.Destination host) = meets_host host (remote_end s)
+meets s (conditions.SourcePort comparison port) = compares comparison s.source.port port
+meets s (conditions.DestinationPort comparison port) = compares comparison s.destination.port port
+meets s (conditions.Source host) = meets_host host s.source
+meets s (conditions.Destination host) = meets_host host s.destination
 meets s (conditions.Interface number) = s.interface == number
 meets s (conditions.Mark mark mask) = bit_and s.mark mask == mark
 meets s (conditions.Cgroup number) = s.cgroup == number

@@ -1,5 +1,6 @@
 -- The states of sockets by their names.
-use Rattle.std.specs.Prelude.{ℕ, ◌^◌, nat_lt, if◌then◌else◌, List, Option, option_map}
+use Rattle.std.specs.Prelude.{ℕ, ◌^◌, ◌==◌, Bool, not, nat_lt, if◌then◌else◌, List, Option}
+use Rattle.std.specs.Prelude.{bit_and, option_map}
 use Rattle.std.specs.Option.{option_or}
 use Rattle.sock_diag_filters.specs.Rows.{value_named}
 use Rattle.sock_diag_filters.specs.declared.text.states.TheConstants.{GROUPS, STATES}
@@ -7,6 +8,10 @@ use Rattle.sock_diag_filters.specs.declared.text.states.TheConstants.{GROUPS, ST
 -- The bit of a state in a set of states. All states from 31 on share bit 31.
 abbrev pub state_bit : ℕ → ℕ
 state_bit state = if nat_lt state 31 then 2 ^ state else 2 ^ 31
+
+-- `has_state states state`: the bit of the state is set in `states`.
+abbrev pub has_state : ℕ → ℕ → Bool
+has_state states state = not (bit_and states (state_bit state) == 0)
 
 -- The state with this name, or `None` if there is none.
 unfoldable pub state_named : List ℕ → Option ℕ

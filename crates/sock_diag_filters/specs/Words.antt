@@ -8,8 +8,7 @@ placed start [] = []
 placed start (byte ∷ later) = (start, byte ∷ later) ∷ []
 
 -- `words_from start word bytes`: the words of a text with their offsets. The first of them begins
--- at
--- `start` with `word`, which `bytes` follow.
+-- at `start` with `word`, which `bytes` follow.
 abbrev pub words_from : (start : ℕ) → List ℕ → List ℕ → List (ℕ × List ℕ)
 words_from start word [] = placed start word
 words_from start word (byte ∷ later) =

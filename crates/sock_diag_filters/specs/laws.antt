@@ -3,3 +3,4 @@ pub mod Constants
 pub mod EqualCondition
 pub mod AddressText
 pub mod EqualPart
+pub mod StateGroups

@@ -2,15 +2,21 @@
 //! Proof only: the contract of each function states the property.
 
 ghost use Rattle.std.specs.Prelude.{◌≡◌, ◌↔◌, ◌+◌, ◌^◌, ◌<◌, ◌≤◌, ℕ, Bool, List, [], ◌∷◌};
-ghost use Rattle.std.specs.Prelude.{IfOk, IsOk, IsTrue, None, length, replicate};
+ghost use Rattle.std.specs.Prelude.{IfOk, IsOk, IsTrue, None, Option, length, replicate};
 ghost use Rattle.std.specs.Borrow.{Bor};
 ghost use Rattle.std.specs.declared.net.ip_addr.IpAddr.{IpAddr};
 ghost use Rattle.netlink_core.specs.declared.error.DecodeError.{DecodeError};
 ghost use Rattle.sock_diag_records.specs.Constants.{PairsAreEqual};
+ghost use Rattle.sock_diag_filters.specs.declared.condition.Condition.{Condition};
 ghost use Rattle.sock_diag_filters.specs.declared.filter.Filter.{Filter};
+ghost use Rattle.sock_diag_filters.specs.declared.text.facts.SocketFacts.{SocketFacts};
 ghost use Rattle.sock_diag_filters.specs.Conditions.{IsNewPrefix, arguments, code_of};
 ghost use Rattle.sock_diag_filters.specs.Filters.{meaning};
+ghost use Rattle.sock_diag_filters.specs.Postfix.{are_met, optional_meaning, optional_postfix};
+ghost use Rattle.sock_diag_filters.specs.Postfix.{postfix};
+ghost use Rattle.sock_diag_filters.specs.Programs.{IsProgram};
 ghost use Rattle.sock_diag_filters.specs.Run.{Runs};
+ghost use Rattle.sock_diag_filters.specs.SocketFacts.{are_known, facts_meet, socket_of};
 ghost use Rattle.sock_diag_filters.specs.Sockets.{AreConditionsInRange, Socket};
 ghost use Rattle.sock_diag_filters.specs.Sockets.{kernel_evaluates, meets};
 ghost use Rattle.sock_diag_filters.specs.InetRequests.{ParsesAsRequest, IsRequestType};
@@ -146,6 +152,23 @@ pub fn programs_select_by_filter()
     ensures { (socket : Socket) (filter : Filter) → AreConditionsInRange filter
         → meaning (λ c. kernel_evaluates socket (code_of c) (arguments c)) filter
         ≡ meaning (meets socket) filter }
+{}
+
+/// States that the parts of a filter, in postfix order, are met if the filter is. So
+/// [`ParsedFilter::selects`](crate::ParsedFilter::selects) selects the sockets that the program of
+/// the filter selects in the kernel, if what the filter compares is known.
+#[tactic(auto, using(crate::proofs::Evaluating::filter_rules))]
+pub fn parsed_filters_select_as_their_programs()
+    // `optional_postfix filter`: the parts of the filter, as `ParsedFilter::parse` returns them.
+    // `optional_meaning met filter`: whether the filter selects a socket, if `met` says which
+    // conditions the socket meets.
+    ensures meaning { (met : Condition → Bool) (filter : Option Filter)
+        → are_met met (optional_postfix filter) ≡ optional_meaning met filter }
+    // `IsProgram filter program`: this is a program of the filter, as `write_program` states it.
+    ensures kernel { (facts : SocketFacts) (filter : Filter) (program : List ℕ)
+        → IsTrue (are_known facts filter) → IsProgram filter program
+        → Runs (kernel_evaluates (socket_of facts)) program
+        (are_met (facts_meet facts) (postfix filter)) }
 {}
 
 /// States that a run of a program, with given results of its conditions (`condition_met`), has at

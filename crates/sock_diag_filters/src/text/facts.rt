@@ -2,7 +2,7 @@
 
 ghost use Rattle.std.specs.Prelude.{◌≡◌, ◌<◌, ◌≤◌, ◌*◌, ℕ, length};
 ghost use Rattle.std.specs.declared.net.ip_addr.IpAddr.TheVariants.{V6};
-ghost use Rattle.sock_diag_filters.specs.Prefixes.{family_of, octets_of};
+ghost use Rattle.sock_diag_filters.specs.Prefixes.{octets_of};
 ghost use Rattle.sock_diag_filters.specs.Sockets.{address_has_optional_prefix, address_has_prefix};
 ghost use Rattle.sock_diag_filters.specs.Sockets.{compares, have_equal_prefix, meets_host};
 ghost use Rattle.sock_diag_filters.specs.SocketEnds.{end_of};
@@ -24,23 +24,21 @@ pub struct SocketFacts {
     pub destination_port: u16,
     /// The index of the interface that the socket is bound to, or 0.
     pub interface: u32,
-    /// The mark.
-    pub mark: u32,
-    /// The id of the control group.
-    pub cgroup: u64,
-    /// The kernel chose the local port.
-    pub is_auto_bound: bool,
-    // Both addresses are of one family.
-    ghost same_family: { family_of source ≡ family_of destination },
+    /// The mark, if it is known.
+    pub mark: Option<u32>,
+    /// The id of the control group, if it is known.
+    pub cgroup: Option<u64>,
+    /// Whether the kernel chose the local port, if it is known. No reply says so.
+    pub is_auto_bound: Option<bool>,
 }
 
 impl SocketFacts {
-    ghost use Rattle.sock_diag_filters.specs.SocketFacts.{socket_of};
-    ghost use Rattle.sock_diag_filters.specs.Sockets.{meets};
+    ghost use Rattle.sock_diag_filters.specs.SocketFacts.{facts_meet};
 
-    /// Returns whether the socket meets a condition, as the kernel compares.
+    /// Returns whether the socket meets a condition, as the kernel compares. It does not if what
+    /// the condition compares is not known.
     pub fn meets(&self, condition: Condition) -> bool
-        ensures { result ≡ meets (socket_of self.now) condition }
+        ensures { result ≡ facts_meet self.now condition }
     {
         match condition {
             Condition::SourcePort(comparison, port) => compares(comparison, self.source_port, port),
@@ -52,9 +50,12 @@ impl SocketFacts {
                 matches_host(host, self.destination, self.destination_port)
             }
             Condition::Interface(number) => self.interface == number,
-            Condition::Mark { mark, mask } => self.mark & mask == mark,
-            Condition::Cgroup(number) => self.cgroup == number,
-            Condition::AutoBound => self.is_auto_bound,
+            Condition::Mark { mark, mask } => match self.mark {
+                Some(own) => own & mask == mark,
+                None => false,
+            },
+            Condition::Cgroup(number) => self.cgroup == Some(number),
+            Condition::AutoBound => self.is_auto_bound == Some(true),
         }
     }
 }

@@ -1,13 +1,12 @@
 //! Filters that were parsed from a text.
 
-ghost use Rattle.std.specs.Prelude.{◌≡◌, ◌≤◌, IfErr, IfNone, IfOk, IfSome, Option, SomeIff, length};
-ghost use Rattle.std.specs.Prelude.{sum_by, take};
+ghost use Rattle.std.specs.Prelude.{◌≡◌, ◌≤◌, IfErr, IfNone, IfOk, IfSome, SomeIff, length};
+ghost use Rattle.std.specs.Prelude.{option_map, sum_by, take};
 ghost use Rattle.sock_diag_filters.specs.Parsed.{IsFilterTextError, IsParsed};
-ghost use Rattle.sock_diag_filters.specs.Postfix.{optional_meaning, optional_postfix, part_size};
-ghost use Rattle.sock_diag_filters.specs.Postfix.{postfix};
+ghost use Rattle.sock_diag_filters.specs.Postfix.{are_met, part_size, postfix};
 ghost use Rattle.sock_diag_filters.specs.Programs.{IsProgram};
-ghost use Rattle.sock_diag_filters.specs.SocketFacts.{socket_of};
-ghost use Rattle.sock_diag_filters.specs.Sockets.{meets};
+ghost use Rattle.sock_diag_filters.specs.SocketFacts.{facts_meet};
+ghost use Rattle.sock_diag_filters.specs.States.{has_state};
 ghost use Rattle.sock_diag_filters.specs.Words.{words_of};
 ghost use Rattle.sock_diag_filters.specs.declared.filter.Filter.{Filter};
 ghost use Rattle.sock_diag_filters.specs.declared.text.parsed.Part.TheVariants.{And};
@@ -15,9 +14,11 @@ ghost use Rattle.sock_diag_filters.specs.declared.text.parsed.Part.TheVariants.{
 use crate::codes::OPERATION_HEADER_LEN;
 use crate::condition::Condition;
 use crate::text::facts::SocketFacts;
-use crate::text::postfix::{last_selects, program_len, write_last};
+use crate::text::postfix::{are_met, program_len, write_last};
 use crate::text::reader::Reader;
+use crate::text::states::state_bit;
 use arrayvec::ArrayVec;
+use std::fmt::{self, Debug, Formatter};
 use thiserror::Error;
 
 /// The greatest number of conditions, operators and open groups of a filter that is parsed from a
@@ -123,12 +124,17 @@ impl ParsedFilter {
     /// Returns whether the filter selects a socket with these facts. A filter without conditions
     /// selects each. The states are not considered.
     pub fn selects(&self, facts: &SocketFacts) -> bool
-        // For the filter whose parts in postfix order these are, as `parse` states it of its text.
-        ensures { (filter : Option Filter) → self.now.parts.items ≡ optional_postfix filter
-            → result ≡ optional_meaning (meets (socket_of facts.now)) filter }
+        ensures { result ≡ are_met (facts_meet facts.now) self.now.parts.items }
     {
-        let (selected, _) = last_selects(&self.parts, facts);
-        selected
+        are_met(&self.parts, facts)
+    }
+
+    /// Returns whether the filter selects sockets in a state, or `None` if its text names no state.
+    pub fn selects_state(&self, state: u8) -> Option<bool>
+        ensures { result ≡ option_map (λ states. has_state states state) self.now.states }
+    {
+        let states = self.states?;
+        Some(states & state_bit(state) != 0)
     }
 
     /// Returns the length of the filter's program in bytes, which is 0 if there are no conditions.
@@ -161,5 +167,15 @@ impl ParsedFilter {
         }
         let (_, _) = write_last(&self.parts, OPERATION_HEADER_LEN, &mut buffer[..len]);
         Some(len)
+    }
+}
+
+impl Debug for ParsedFilter {
+    fn fmt<W: fmt::Write>(&self, f: &mut Formatter<W>) -> fmt::Result {
+        let parts: &[Part] = &self.parts;
+        f.debug_struct("ParsedFilter")
+            .field("states", &self.states)
+            .field("parts", &parts)
+            .finish()
     }
 }

@@ -1,48 +1,60 @@
-//! Filters in postfix order: which sockets they select, and their programs. Each function takes the
-//! last filter of some parts, and returns the parts before it. It calls itself once for each part,
-//! of which there are at most `MAX_PARTS`.
+//! Filters in postfix order: which sockets they select, and their programs.
 
-ghost use Rattle.std.specs.Prelude.{◌≡◌, ◌+◌, ◌-◌, ◌*◌, ◌≤◌, IsTrue, length, sum_by};
-ghost use Rattle.sock_diag_filters.specs.Postfix.{IsLastSelected, IsLastWritten};
-ghost use Rattle.sock_diag_filters.specs.Postfix.{part_size};
-ghost use Rattle.sock_diag_filters.specs.SocketFacts.{socket_of};
-ghost use Rattle.sock_diag_filters.specs.Sockets.{meets};
+ghost use Rattle.std.specs.Prelude.{◌≡◌, ◌+◌, ◌-◌, ◌*◌, ◌<◌, ◌≤◌, drop, length, reverse, sum_by};
+ghost use Rattle.arrayvec.specs.ArrayVec.{array_vec_len};
+ghost use Rattle.sock_diag_filters.specs.Postfix.{IsLastWritten, are_met, last_verdict, part_size};
+ghost use Rattle.sock_diag_filters.specs.Postfix.{with_part};
+ghost use Rattle.sock_diag_filters.specs.SocketFacts.{facts_meet};
 ghost use Rattle.sock_diag_filters.specs.declared.codes.TheConstants.{MAX_DISTANCE};
 ghost use Rattle.sock_diag_filters.specs.declared.text.parsed.TheConstants.{MAX_PARTS};
 
 use crate::assembly::{write_condition, write_jump};
 use crate::codes::OPERATION_HEADER_LEN;
 use crate::text::facts::SocketFacts;
-use crate::text::parsed::Part;
+use crate::text::parsed::{MAX_PARTS, Part};
+use arrayvec::ArrayVec;
 
-/// Returns whether the last filter of some parts selects a socket, and the parts before the filter.
-pub(crate) fn last_selects<'a>(parts: &'a [Part], facts: &SocketFacts) -> (bool, &'a [Part])
-    ensures selected { IsLastSelected (meets (socket_of facts.now)) parts.now result.0
-        result.1.now }
-    // Without parts each socket is selected.
-    ensures empty { length parts.now ≡ 0 → IsTrue result.0 }
-    ensures shorter { length result.1.now ≤ length parts.now - 1 }
+/// Returns whether the filter with these parts selects a socket.
+pub(crate) fn are_met(parts: &[Part], facts: &SocketFacts) -> bool
+    requires { length parts.now ≤ MAX_PARTS }
+    ensures { result ≡ are_met (facts_meet facts.now) parts.now }
 {
-    let Some((last, before)) = parts.split_last() else {
-        return (true, parts);
-    };
-    match *last {
-        Part::Condition(condition) => (facts.meets(condition), before),
-        Part::Not => {
-            let (operand, rest) = last_selects(before, facts);
-            (!operand, rest)
-        }
+    let mut verdicts = ArrayVec::new();
+    for part in parts {
+        add_part(&mut verdicts, *part, facts);
+    }
+    remove_last(&mut verdicts)
+}
+
+/// Adds the verdict of a part, and removes those of its operands.
+fn add_part(verdicts: &mut ArrayVec<bool, MAX_PARTS>, part: Part, facts: &SocketFacts)
+    requires { array_vec_len verdicts.old < MAX_PARTS }
+    ensures value { reverse verdicts.new.items
+        ≡ with_part (facts_meet facts.now) (reverse verdicts.old.items) part }
+    ensures len { array_vec_len verdicts.new ≤ array_vec_len verdicts.old + 1 }
+{
+    let verdict = match part {
+        Part::Condition(condition) => facts.meets(condition),
+        Part::Not => !remove_last(verdicts),
         Part::And => {
-            let (second, middle) = last_selects(before, facts);
-            let (first, rest) = last_selects(middle, facts);
-            (first && second, rest)
+            let second = remove_last(verdicts);
+            remove_last(verdicts) && second
         }
         Part::Or => {
-            let (second, middle) = last_selects(before, facts);
-            let (first, rest) = last_selects(middle, facts);
-            (first || second, rest)
+            let second = remove_last(verdicts);
+            remove_last(verdicts) || second
         }
-    }
+    };
+    verdicts.push(verdict);
+}
+
+/// Removes the last verdict and returns it, or true if there is none.
+fn remove_last(verdicts: &mut ArrayVec<bool, MAX_PARTS>) -> bool
+    ensures value { result ≡ last_verdict (reverse verdicts.old.items) }
+    ensures rest { reverse verdicts.new.items ≡ drop 1 (reverse verdicts.old.items) }
+    ensures len { array_vec_len verdicts.new ≤ array_vec_len verdicts.old }
+{
+    verdicts.pop().unwrap_or(true)
 }
 
 /// Returns the length of the program of the filters in some parts, in bytes.
@@ -73,7 +85,8 @@ impl Part {
 }
 
 /// Writes the program of the last filter of some parts to the end of a buffer, as `assemble` does.
-/// Returns the length of the program, and the parts before the filter.
+/// Returns the length of the program, and the parts before the filter. Calls itself once for each
+/// part, of which there are at most `MAX_PARTS`.
 pub(crate) fn write_last<'a>(
     parts: &'a [Part],
     far: usize,

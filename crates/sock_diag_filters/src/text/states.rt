@@ -60,7 +60,7 @@ pub fn states_named(name: &[u8]) -> Option<u32>
 }
 
 /// Returns the bit of a state in a set of states: `1 << state`. All states from 31 on share bit 31.
-pub fn state_bit(state: u8) -> u32
+pub(crate) fn state_bit(state: u8) -> u32
     ensures { result ≡ state_bit state }
 {
     if state < 31 { 1 << state } else { 1 << 31 }
