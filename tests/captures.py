@@ -6,85 +6,99 @@ A table is a function below `@table`. Its rows are what it yields: the capture, 
 is shown, and the lines on standard error without the name of the program. What is shown are the
 lines after the heading, or members of the first object of --json. Then the status is 0 if there are
 no such lines or only notes, and otherwise 1. A further row of a table is a further `yield`.
+
+A capture is made by `listed` of messages, or by `pcap` and `section` of packets. Messages are made
+by `reply` and `request`, and lines by `line`.
 """
 
 import json
 import struct
 import sys
+from datetime import datetime, timedelta, timezone
 
 sys.dont_write_bytecode = True
 import runs
-from runs import HEADING, PCAP, SOCK_DIAG, attributes, listed, pcap, with_attributes
+from runs import HEADING, PCAP, SOCK_DIAG, attributes, listed, message, pcap, with_attributes
+
+ZEROS = "00" * 48
+
+
+def reply(header, *pairs):
+    """Returns the digits of a reply with this header and these attributes."""
+    return message(bytes.fromhex(header + attributes(*pairs)), 2, number=7).hex()
+
+
+def request(body, number=7, kind=20):
+    """Returns the digits of a request."""
+    return message(bytes.fromhex(body), 0x301, kind, number).hex()
+
+
+def numbers(*values):
+    """Returns the digits of numbers of 32 bits."""
+    return struct.pack(f"<{len(values)}I", *values).hex()
+
+
+def cells(words):
+    """Returns the columns of a line of the table, without the details."""
+    return "{:5} {:10} {:6} {:6} {:10} {:5} {:30} {}".format(*words.split())
+
+
+def line(words, details):
+    """Returns a line of the table with its details."""
+    return f"{cells(words)}\n\t {details}\n"
+
 
 # A reply about an IPv6 socket in TIME-WAIT. Local: [fe80::1], interface 3, port 22. Peer:
 # [2001:db8::ff], port 40000.
-INET6 = (
-    "580000001400020007000000000000000a06030000169c40fe80000000000000000000000000000120010db800"
-    "00000000000000000000ff030000000000000000000000000000000000000000000000e803000000000000"
+INET6_HEADER = (
+    "0a060300 00169c40 fe80000000000000 0000000000000001 20010db800000000 00000000000000ff"
+    "03000000" + ZEROS[:40] + "e8030000 00000000"
 )
+INET6 = reply(INET6_HEADER)
+INET6_WORDS = "inet6 TIME-WAIT 0 0 0 1000 [fe80::1]%3:22 [2001:db8::ff]:40000"
+INET6_LINE = line(INET6_WORDS, "timer:(timewait,0ms,0) sk:0")
 
-# Its line, and the line of its details.
-INET6_LINE = (
-    "inet6 TIME-WAIT  0      0      0          1000  [fe80::1]%3:22                 [2001:db8::"
-    "ff]:40000\n"
-    "\t timer:(timewait,0ms,0) sk:0\n"
-)
-
-# The line of the IPv4 socket below, and the line of its details.
-INET4_LINE = (
-    "inet  ESTAB      0      0      5          1000  192.0.2.1:22                   192.0.2.2:4"
-    "0000\n"
-    "\t sk:0\n"
-)
+# A reply about an IPv4 socket.
+INET4 = reply("02010000 00169c40 c0000201" + ZEROS[:24] + "c0000202" + ZEROS[:24] + ZEROS[:48]
+              + "e8030000 05000000")
+INET4_LINE = line("inet ESTAB 0 0 5 1000 192.0.2.1:22 192.0.2.2:40000", "sk:0")
 
 # A reply about a listening UNIX stream socket with the abstract name `a b\`.
-UNIX = (
-    "3800000014000200070000000000000001010a000e4f0000a00200000000000009000000006120625c0000000c"
-    "0004000200000080000000"
-)
-
-# Its lines.
-UNIX_LINE = (
-    "u_str LISTEN     2      128    20238      -     @a\\x20b\\x5c                    *\n"
-    "\t sk:2a0\n"
-)
+UNIX_HEADER = "01010a00 0e4f0000 a002000000000000"
+UNIX_NAME, UNIX_QUEUES = (0, "006120625c"), (4, numbers(2, 128))
+UNIX = reply(UNIX_HEADER, UNIX_NAME, UNIX_QUEUES)
+UNIX_LINE = line(r"u_str LISTEN 2 128 20238 - @a\x20b\x5c *", "sk:2a0")
 
 # An NLMSG_DONE.
-DONE = "1400000003000200070000000000000000000000"
+DONE = message(bytes(4), 2, 3, 7).hex()
 
 # A reply about a UNIX socket with only 12 of the 16 bytes of its header.
-SHORT = "1c00000014000200070000000000000001010a000e4f0000a0020000"
+SHORT = reply("01010a00 0e4f0000 a0020000")
 
 # A reply about a socket of AF_SMC (43), a family that sslist does not know.
-OTHER_FAMILY = "200000001400020007000000000000002b0101000e4f0000a002000000000000"
+OTHER_FAMILY = reply("2b010100 0e4f0000 a002000000000000")
 
-# Requests for UNIX, TCP, MPTCP and netlink sockets.
-REQUEST = "2800000014000103010000000000000001000000ffffffff000000003f000000ffffffffffffffff"
-TCP_REQUEST = (
-    "4800000014000103070000000000000002060000ffffffff000000000000000000000000000000000000000000"
-    "000000000000000000000000000000000000000000000000000000"
-)
-MPTCP_REQUEST = (
-    "5000000014000103070000000000000002ff000080040000000000000000000000000000000000000000000000"
-    "0000000000000000000000000000000000000000000000000000000800030006010000"
-)
-OTHER_REQUEST = "180000001400010307000000000000001000000000000000"
+# Requests for UNIX, TCP, MPTCP, netlink and SCTP sockets.
+REQUEST = request("01000000 ffffffff 00000000 3f000000 ffffffffffffffff", 1)
+TCP_REQUEST = request("02060000 ffffffff" + ZEROS)
+MPTCP_REQUEST = request("02ff0000 80040000" + ZEROS + "08000300 06010000")
+OTHER_REQUEST = request("10000000 00000000")
+SCTP_REQUEST = request("02840000 ffffffff" + ZEROS)
 
-# A request for SCTP sockets, and the header of a reply about an SCTP association, as a kernel sent
-# it. Its attributes are INET_DIAG_INFO, _LOCALS, _CONG and _PEERS, in the kernel's order and with
-# the kernel's lengths. A reply about the socket has the first two of them. The addresses are
-# 10.0.0.1, fe80::1 with port 7, and one of another family, in 128 bytes each.
-SCTP_REQUEST = TCP_REQUEST[:34] + "84" + TCP_REQUEST[36:]
-ASSOCIATION = (
-    "5800000014000200070000000000000002030000b77417707f0000010000000000000000000000007f00000100"
-    "000000000000000000000001000000a300000000000000000000000000000000000000000000000a1a0000"
+# The header of a reply about an SCTP association, as a kernel sent it. Its attributes are
+# INET_DIAG_INFO, _LOCALS, _CONG and _PEERS, in the kernel's order and with the kernel's lengths. A
+# reply about the socket has the first two of them. The addresses are 10.0.0.1, fe80::1 with port 7,
+# and one of another family, in 128 bytes each.
+ASSOCIATION = reply(
+    "02030000 b7741770 7f000001" + ZEROS[:24] + "7f000001" + ZEROS[:24] + "01000000 a3000000"
+    + ZEROS[:32] + "00000000 0a1a0000"
 )
 ADDRESSES = (
     "020000000a000001" + "ff" * 120,
     "0a00000700000000fe80" + "00" * 13 + "01" + "00" * 104,
     "0100" + "ff" * 126,
 )
-ASSOCIATION_ATTRIBUTES = [(2, "01" * 368), (12, ADDRESSES[0]), (4, "72656e6f00"),
+ASSOCIATION_ATTRIBUTES = [(2, "01" * 368), (12, ADDRESSES[0]), (4, b"reno\0".hex()),
                           (13, "".join(ADDRESSES))]
 LOCALS = [{"family": 2, "port": 0, "addr": "10.0.0.1"}]
 PEERS = [*LOCALS, {"family": 10, "port": 7, "addr": "fe80::1"}, {"family": 1, "port": 65535}]
@@ -110,63 +124,58 @@ HEADERS = [
 # A file header with a longer limit of packets.
 WIDE_HEADER = "d4c3b2a102000400000000000000000000000400fd000000"
 
+# Nine numbers of a socket's memory, its details and its member of JSON.
+NINE = numbers(0, 212992, 0, 212992, 0, 0, 0, 0, 0)
+MEMORY = "skmem:(r0,rb212992,t0,tb212992,f0,w0,o0,bl0,d0)"
+MEMORY_MEMBER = (
+    '"meminfo":{"rmem_alloc":0,"rcvbuf":212992,"wmem_alloc":0,"sndbuf":212992,"fwd_alloc":0,'
+    '"wmem_queued":0,"optmem":0,"backlog":0,"drops":0}'
+)
+
+# Headers of replies about a netlink, a packet and an XDP socket.
+NETLINK_HEADER = "10020000 92100000 00000000 00000000 09000000 0100000000000000"
+PACKET_HEADER = "11030300 1bb00300 0230000000000000"
+XDP_HEADER = "2c030000 07000000 0800000000000000"
+
 # Replies about sockets of other families, each with its lines and with its object in JSON: the
 # replies of a kernel about a netlink and a packet socket, and replies about a listening vsock
 # socket, an XDP socket and a netlink socket with groups, which were written by hand from the
 # kernel's headers.
 FAMILIES = [
     (
-        "5c00000014000200070000009340000010020007000000000000000000000000040000000300000000"
-        "0000002800000000000000004003000000000000400300000000000000000000000000000000000000"
-        "00000800040000000000",
-        "nl    UNCONN     0      0      4          -     0:0                            *\n"
-        "\t sk:3 skmem:(r0,rb212992,t0,tb212992,f0,w0,o0,bl0,d0)\n",
-        "{\"netid\":\"nl\",\"state_name\":\"UNCONN\",\"family\":16,\"type\":2,\"protocol\":"
-        "0,\"state\":7,\"portid\":0,\"dst_portid\":0,\"dst_group\":0,\"ino\":4,\"cookie\":"
-        "\"3\",\"meminfo\":{\"rmem_alloc\":0,\"rcvbuf\":212992,\"wmem_alloc\":0,\"sndbuf\":"
-        "212992,\"fwd_alloc\":0,\"wmem_queued\":0,\"optmem\":0,\"backlog\":0,\"drops\":0},"
-        "\"flags\":0,\"other_attributes\":[]}",
+        reply("10020007" + ZEROS[:24] + "04000000 0300000000000000", (0, NINE), (4, "00000000")),
+        line("nl UNCONN 0 0 4 - 0:0 *", f"sk:3 {MEMORY}"),
+        '{"netid":"nl","state_name":"UNCONN","family":16,"type":2,"protocol":0,"state":7,'
+        '"portid":0,"dst_portid":0,"dst_group":0,"ino":4,"cookie":"3",' + MEMORY_MEMBER
+        + ',"flags":0,"other_attributes":[]}',
     ),
     (
-        "70000000140002000700000093400000110303001bb0030002300000000000001c0000000100000000"
-        "0000000000000000000000000000000100000008000500000000000400010028000600000000000040"
-        "030000000000004003000000000000000000000000000000000000000000",
-        "p_raw UNCONN     0      0      241691     0     3:1                            *\n"
-        "\t sk:3002 ver:0 cpy_thresh:0 running uid:0 skmem:(r0,rb212992,t0,tb212992,f0,w0,o"
-        "0,bl0,d0)\n",
-        "{\"netid\":\"p_raw\",\"state_name\":\"UNCONN\",\"family\":17,\"type\":3,\"num\":3,"
-        "\"ino\":241691,\"cookie\":\"3002\",\"info\":{\"index\":1,\"version\":0,\"reserve\""
-        ":0,\"copy_thresh\":0,\"tstamp\":0,\"flags\":1},\"mclist\":[],\"uid\":0,\"meminfo\":"
-        "{\"rmem_alloc"
-        "\":0,\"rcvbuf\":212992,\"wmem_alloc\":0,\"sndbuf\":212992,\"fwd_alloc\":0,\"wmem_q"
-        "ueued\":0,\"optmem\":0,\"backlog\":0,\"drops\":0},\"other_attributes\":[]}",
+        reply(PACKET_HEADER, (0, numbers(1, 0, 0, 0, 0, 1)), (5, "00000000"), (1, ""), (6, NINE)),
+        line("p_raw UNCONN 0 0 241691 0 3:1 *",
+             f"sk:3002 ver:0 cpy_thresh:0 running uid:0 {MEMORY}"),
+        '{"netid":"p_raw","state_name":"UNCONN","family":17,"type":3,"num":3,"ino":241691,'
+        '"cookie":"3002","info":{"index":1,"version":0,"reserve":0,"copy_thresh":0,"tstamp":0,'
+        '"flags":1},"mclist":[],"uid":0,' + MEMORY_MEMBER + ',"other_attributes":[]}',
     ),
     (
-        "3000000014000200070000000000000028010a00ffffffffd2040000ffffffffffffffff0500000009"
-        "00000000000000",
-        "v_str LISTEN     -      -      5          -     *:1234                         *:*"
-        "\n"
-        "\t sk:9\n",
-        "{\"netid\":\"v_str\",\"state_name\":\"LISTEN\",\"family\":40,\"type\":1,\"state\":"
-        "10,\"shutdown\":0,\"src_cid\":4294967295,\"src_port\":1234,\"dst_cid\":4294967295,"
-        "\"dst_port\":4294967295,\"ino\":5,\"cookie\":\"9\",\"other_attributes\":[]}",
+        reply("28010a00 ffffffff d2040000 ffffffff ffffffff 05000000 0900000000000000"),
+        line("v_str LISTEN - - 5 - *:1234 *:*", "sk:9"),
+        '{"netid":"v_str","state_name":"LISTEN","family":40,"type":1,"state":10,"shutdown":0,'
+        '"src_cid":4294967295,"src_port":1234,"dst_cid":4294967295,"dst_port":4294967295,"ino":5,'
+        '"cookie":"9","other_attributes":[]}',
     ),
     (
-        "2c0000001400020007000000000000002c0300000700000008000000000000000c0001000200000001"
-        "000000",
-        "xdp   UNCONN     -      -      7          -     2:1                            *\n"
-        "\t sk:8\n",
-        "{\"netid\":\"xdp\",\"state_name\":\"UNCONN\",\"family\":44,\"type\":3,\"ino\":7,\""
-        "cookie\":\"8\",\"info\":{\"ifindex\":2,\"queue_id\":1},\"other_attributes\":[]}",
+        reply(XDP_HEADER, (1, numbers(2, 1))),
+        line("xdp UNCONN - - 7 - 2:1 *", "sk:8"),
+        '{"netid":"xdp","state_name":"UNCONN","family":44,"type":3,"ino":7,"cookie":"8",'
+        '"info":{"ifindex":2,"queue_id":1},"other_attributes":[]}',
     ),
     (
-        "3800000014000200070000000000000010020000921000000000000000000000090000000100000000"
-        "0000000c0001001100000002000000",
-        "nl    UNCONN     -      -      9          -     0:4242                         *\n"
-        "\t sk:1 groups:1,5,34\n",
-        "{\"netid\":\"nl\",\"state_name\":\"UNCONN\",\"family\":16,\"type\":2,\"protocol\":"
-        "0,\"state\":0,\"portid\":4242,\"dst_portid\":0,\"dst_group\":0,\"ino\":9,\"cookie"
-        "\":\"1\",\"groups\":[1,5,34],\"other_attributes\":[]}",
+        reply(NETLINK_HEADER, (1, "1100000002000000")),
+        line("nl UNCONN - - 9 - 0:4242 *", "sk:1 groups:1,5,34"),
+        '{"netid":"nl","state_name":"UNCONN","family":16,"type":2,"protocol":0,"state":0,'
+        '"portid":4242,"dst_portid":0,"dst_group":0,"ino":9,"cookie":"1","groups":[1,5,34],'
+        '"other_attributes":[]}',
     ),
 ]
 
@@ -175,9 +184,7 @@ FAMILIES = [
 # member in JSON and its value.
 FAMILY_VALUES = [
     (
-        "2c000000140002000700000000000000100200009210000000000000000000000900000001000000"
-        "00000000",
-        "nl    UNCONN     -      -      9          -     0:4242                         * sk:1",
+        reply(NETLINK_HEADER), cells("nl UNCONN - - 9 - 0:4242 *") + " sk:1",
         [
             (1, "0100000001000080" + "00" * 7 + "80", " groups:1,33,64,128", "groups",
              [1, 33, 64, 128]),
@@ -190,14 +197,13 @@ FAMILY_VALUES = [
         ],
     ),
     (
-        "20000000140002000700000000000000110303001bb003000230000000000000",
-        "p_raw UNCONN     -      -      241691     -     3:*                            * sk:3002",
+        reply(PACKET_HEADER), cells("p_raw UNCONN - - 241691 - 3:* *") + " sk:3002",
         [
-            (2, "0040000004000000000800002000000000000000" "0d0000001f000000",
+            (2, numbers(16384, 4, 2048, 32, 0, 13, 31),
              " ring_rx(blk_size:16384,blk_nr:4,frm_size:2048,frm_nr:32,tmo:0,features:0x1f)",
              "rx_ring", {"block_size": 16384, "block_nr": 4, "frame_size": 2048, "frame_nr": 32,
                          "retire_tmo": 0, "sizeof_priv": 13, "features": 31}),
-            (3, "01000000020000000300000004000000" "050000000600000000000000ff",
+            (3, numbers(1, 2, 3, 4, 5, 6, 0) + "ff",
              " ring_tx(blk_size:1,blk_nr:2,frm_size:3,frm_nr:4,tmo:5,features:0x0)",
              "tx_ring", {"block_size": 1, "block_nr": 2, "frame_size": 3, "frame_nr": 4,
                          "retire_tmo": 5, "sizeof_priv": 6, "features": 0}),
@@ -217,21 +223,18 @@ FAMILY_VALUES = [
         ],
     ),
     (
-        "200000001400020007000000000000002c030000070000000800000000000000",
-        "xdp   UNCONN     -      -      7          -     *:*                            * sk:8",
+        reply(XDP_HEADER), cells("xdp UNCONN - - 7 - *:* *") + " sk:8",
         [
             (3, "00080000", " rx(entries:2048)", "rx_ring", {"entries": 2048}),
             (4, "01000000", " tx(entries:1)", "tx_ring", {"entries": 1}),
-            (5, "00000000010000000200000003000000" "04000000050000000600000007000000"
-             "0300000008000000",
+            (5, numbers(0, 1, 2, 3, 4, 5, 6, 7, 3, 8),
              " umem(id:2,size:4294967296,num_pages:3,chunk_size:4,headroom:5,ifindex:6,qid:7,zc:1,"
              "refs:8)",
              "umem", {"id": 2, "size": 1 << 32, "num_pages": 3, "chunk_size": 4, "headroom": 5,
                       "ifindex": 6, "queue_id": 7, "flags": 3, "refs": 8}),
             (6, "02000000", " fr(entries:2)", "umem_fill_ring", {"entries": 2}),
             (7, "03000000", " cr(entries:3)", "umem_completion_ring", {"entries": 3}),
-            (9, "010000000000000002000000000000000300000000000000" "040000000000000005000000000000"
-             "000600000000000000",
+            (9, numbers(1, 0, 2, 0, 3, 0, 4, 0, 5, 0, 6, 0),
              " stats(rx dropped:1,rx invalid:2,rx queue full:3,rx fill ring empty:4,tx invalid:5,"
              "tx ring empty:6)",
              "stats", {"rx_dropped": 1, "rx_invalid": 2, "rx_full": 3, "fill_ring_empty": 4,
@@ -240,133 +243,76 @@ FAMILY_VALUES = [
     ),
 ]
 
-# A reply about an IPv6 socket with the attributes of newer kernels, the last one of which is too
-# short, and a reply about a UNIX socket with a user id. Their lines follow.
+# Attributes of newer kernels, the last one of which is too short, and a UNIX socket with a user id.
 NEWER = [
-    "b40000001400020007000000000000000a06030000169c40fe80000000000000000000000000000120010d"
-    "b80000000000000000000000ff030000000000000000000000000000000000000000000000e80300000000"
-    "00000c001500341200000000000006001600120100001800100040420f000000000032000000e302000000"
-    "02000014000900010000000002000064000000c8000000140003000100000005000000640000005a000000"
-    "0500160001000000",
-    "4000000014000200070000000000000001010a000e4f0000a00200000000000009000000006120625c0000"
-    "000c000400020000008000000008000700e8030000",
+    reply(INET6_HEADER, (21, "3412000000000000"), (22, "1201"),
+          (16, numbers(1000000, 0, 50, 739, 512)), (9, numbers(1, 512, 100, 200)),
+          (3, numbers(1, 5, 100, 90)), (22, "01")),
+    reply(UNIX_HEADER, UNIX_NAME, UNIX_QUEUES, (7, numbers(1000))),
 ]
 NEWER_LINES = [
-    "inet6 TIME-WAIT  0      0      0          1000  [fe80::1]%3:22                 [2001:d"
-    "b8::ff]:40000\n"
-    "\t timer:(timewait,0ms,0) sk:0 vegas:(enabled:1,rttcnt:5,rtt:100,minrtt:90) dctcp:(ena"
-    "bled:1,ce_state:0,alpha:512,ab_ecn:100,ab_tot:200) bbr:(bw:1000000,mrtt:50,pacing_gain"
-    ":739,cwnd_gain:512) cgroup:4660 is_icsk mc_loop bind_address_no_port unread:(22,1,wron"
-    "g-length)\n",
-    "u_str LISTEN     2      128    20238      1000  @a\\x20b\\x5c                    *\n"
-    "\t sk:2a0\n",
+    line(INET6_WORDS, "timer:(timewait,0ms,0) sk:0 vegas:(enabled:1,rttcnt:5,rtt:100,minrtt:90) "
+         "dctcp:(enabled:1,ce_state:0,alpha:512,ab_ecn:100,ab_tot:200) bbr:(bw:1000000,mrtt:50,"
+         "pacing_gain:739,cwnd_gain:512) cgroup:4660 is_icsk mc_loop bind_address_no_port "
+         "unread:(22,1,wrong-length)"),
+    line(r"u_str LISTEN 2 128 20238 1000 @a\x20b\x5c *", "sk:2a0"),
 ]
+
+# The first members of the objects of the UNIX and the IPv6 socket.
+UNIX_MEMBERS = ('{"netid":"u_str","state_name":"LISTEN","family":1,"type":1,"state":10,"ino":20238,'
+                '"cookie":"2a0",')
+INET6_MEMBERS = (
+    '{"netid":"inet6","state_name":"TIME-WAIT","family":10,"state":6,"timer":3,"retrans":0,'
+    '"sport":22,"dport":40000,"src":"fe80::1","dst":"2001:db8::ff","if":3,"cookie":"0",'
+    '"expires":0,"rqueue":0,"wqueue":0,"uid":1000,"inode":0,'
+)
 
 # A reply about a UNIX socket with three UNIX_DIAG_RQLEN: a short one, 2 and 128, 3 and 4; an
 # unknown attribute, and a UNIX_DIAG_UID of three bytes.
-REPEATED = (
-    "50000000140002000700000000000000" "01010a000e4f0000a002000000000000" "0800040009000000"
-    "0c0004000200000080000000" "0600630001020000" "0c0004000300000004000000" "07000700e8030000"
-)
-REPEATED_LINES = (
-    "u_str LISTEN     2      128    20238      -     *                              *\n"
-    "\t sk:2a0 unread:(4,4,wrong-length) unknown:(99,2) unread:(7,3,wrong-length)\n"
-)
-REPEATED_OBJECT = (
-    '{"netid":"u_str","state_name":"LISTEN","family":1,"type":1,"state":10,"ino":20238,"cookie":"'
-    '2a0","rqlen":{"rqueue":2,"wqueue":128},"other_attributes":[{"kind":4,"length":4,"hex":"09000'
-    '000","error":"wrong-length"},{"kind":99,"length":2,"hex":"0102"},{"kind":7,"length":3,"hex":"'
-    'e80300","error":"wrong-length"}]}\n'
+REPEATED = reply(UNIX_HEADER, (4, numbers(9)), UNIX_QUEUES, (99, "0102"), (4, numbers(3, 4)),
+                 (7, "e80300"))
+REPEATED_LINES = line("u_str LISTEN 2 128 20238 - * *", "sk:2a0 unread:(4,4,wrong-length) "
+                      "unknown:(99,2) unread:(7,3,wrong-length)")
+REPEATED_OBJECT = UNIX_MEMBERS + (
+    '"rqlen":{"rqueue":2,"wqueue":128},"other_attributes":[{"kind":4,"length":4,"hex":"09000000",'
+    '"error":"wrong-length"},{"kind":99,"length":2,"hex":"0102"},{"kind":7,"length":3,'
+    '"hex":"e80300","error":"wrong-length"}]}\n'
 )
 
 # A reply with 104 bytes of struct tcp_info, and its lines up to their details.
-SHORT_INFO = (
-    "c40000001400020007000000000000000a06030000169c40fe80000000000000000000000000000120010db800"
-    "00000000000000000000ff030000000000000000000000000000000000000000000000e8030000000000006c00"
-    "02000000000000079700e01c030000000000000000000000000000000000000000000000000000000000000000"
-    "000000000000000000000000000000000000000000000000006400000032000000ffffff7f0a00000000000000"
-    "00000000000000000000000003000000"
-)
-SHORT_INFO_COLUMNS = (
-    "TIME-WAIT  0      0      0          1000  [fe80::1]%3:22                 [2001:db8::ff]:40"
-    "000\n"
-    "\t timer:(timewait,0ms,0) sk:0 "
-)
+SHORT_INFO = reply(INET6_HEADER, (
+    2, "0000000000079700" + numbers(204000, *[0] * 14, 100, 50, (1 << 31) - 1, 10, 0, 0, 0, 0, 3)))
+SHORT_INFO_COLUMNS = INET6_LINE[6:-1] + " "
 
 # A reply about a listening socket whose abstract name is `e` with an accent, a Chinese letter, a
 # space, U+202E and a backslash. Its lines with --utf8 and without. The path in the reply NO_UTF8
 # is not valid UTF-8.
-LETTERS = (
-    "3000000014000200070000000000000001010a000e4f0000a0020000000000000f00000000c3a9e6bca220e280"
-    "ae5c00"
-)
-LETTERS_LINE = (
-    "u_str LISTEN     -      -      20238      -     @é漢\\x20\\xe2\\x80\\xae\\x5c       *\n"
-    "\t sk:2a0\n"
-)
-LETTERS_ESCAPED = (
-    "u_str LISTEN     -      -      20238      -     @\\xc3\\xa9\\xe6\\xbc\\xa2\\x20\\xe2\\x80"
-    "\\xae\\x5c *\n"
-    "\t sk:2a0\n"
-)
-NO_UTF8 = "2c00000014000200070000000000000001010a000e4f0000a002000000000000090000002fc3a9ff00000000"
-NO_UTF8_LINE = (
-    "u_str LISTEN     -      -      20238      -     /\\xc3\\xa9\\xff                  *\n"
-    "\t sk:2a0\n"
-)
+LETTERS = reply(UNIX_HEADER, (0, "00" + "é漢 \u202e\\".encode().hex()))
+LETTERS_LINE = line(r"u_str LISTEN - - 20238 - @é漢\x20\xe2\x80\xae\x5c *", "sk:2a0").replace(
+    " *", "*")
+LETTERS_ESCAPED = line(r"u_str LISTEN - - 20238 - @\xc3\xa9\xe6\xbc\xa2\x20\xe2\x80\xae\x5c *",
+                       "sk:2a0")
+NO_UTF8 = reply(UNIX_HEADER, (0, "2fc3a9ff00"))
+NO_UTF8_LINE = line(r"u_str LISTEN - - 20238 - /\xc3\xa9\xff *", "sk:2a0")
 
 # Replies with their objects in JSON: a UNIX socket for each form of a name (an abstract name, a
 # path, and both if they are not valid UTF-8), an IPv4 and an IPv6 socket, and one with an invalid
 # value.
 OBJECTS = [
-    (
-        UNIX,
-        "{\"netid\":\"u_str\",\"state_name\":\"LISTEN\",\"family\":1,\"type\":1,\"state\":1"
-        "0,\"ino\":20238,\"cookie\":\"2a0\",\"name\":{\"abstract\":\"a b\\\\\"},\"rqlen\":{"
-        "\"rqueue\":2,\"wqueue\":128},\"other_attributes\":[]}",
-    ),
-    (
-        "2800000014000200070000000000000001010a000e4f0000a002000000000000080000002fc3a900",
-        "{\"netid\":\"u_str\",\"state_name\":\"LISTEN\",\"family\":1,\"type\":1,\"state\":1"
-        "0,\"ino\":20238,\"cookie\":\"2a0\",\"name\":{\"path\":\"/é\"},\"other_attributes\""
-        ":[]}",
-    ),
-    (
-        NO_UTF8,
-        "{\"netid\":\"u_str\",\"state_name\":\"LISTEN\",\"family\":1,\"type\":1,\"state\":1"
-        "0,\"ino\":20238,\"cookie\":\"2a0\",\"name\":{\"path_hex\":\"2fc3a9ff\"},\"other_at"
-        "tributes\":[]}",
-    ),
-    (
-        "2800000014000200070000000000000001010a000e4f0000a0020000000000000600000000ff0000",
-        "{\"netid\":\"u_str\",\"state_name\":\"LISTEN\",\"family\":1,\"type\":1,\"state\":1"
-        "0,\"ino\":20238,\"cookie\":\"2a0\",\"name\":{\"abstract_hex\":\"ff\"},\"other_attr"
-        "ibutes\":[]}",
-    ),
-    (
-        "580000001400020007000000000000000201000000169c40c0000201000000000000000000000000c0"
-        "000202000000000000000000000000000000000000000000000000000000000000000000000000e803"
-        "000005000000",
-        "{\"netid\":\"inet\",\"state_name\":\"ESTAB\",\"family\":2,\"state\":1,\"timer\":0,"
-        "\"retrans\":0,\"sport\":22,\"dport\":40000,\"src\":\"192.0.2.1\",\"dst\":\"192.0.2"
-        ".2\",\"if\":0,\"cookie\":\"0\",\"expires\":0,\"rqueue\":0,\"wqueue\":0,\"uid\":100"
-        "0,\"inode\":5,\"other_attributes\":[]}",
-    ),
-    (
-        INET6,
-        "{\"netid\":\"inet6\",\"state_name\":\"TIME-WAIT\",\"family\":10,\"state\":6,\"time"
-        "r\":3,\"retrans\":0,\"sport\":22,\"dport\":40000,\"src\":\"fe80::1\",\"dst\":\"200"
-        "1:db8::ff\",\"if\":3,\"cookie\":\"0\",\"expires\":0,\"rqueue\":0,\"wqueue\":0,\"ui"
-        "d\":1000,\"inode\":0,\"other_attributes\":[]}",
-    ),
-    (
-        SHORT_INFO,
-        "{\"netid\":\"inet6\",\"state_name\":\"TIME-WAIT\",\"family\":10,\"state\":6,\"time"
-        "r\":3,\"retrans\":0,\"sport\":22,\"dport\":40000,\"src\":\"fe80::1\",\"dst\":\"200"
-        "1:db8::ff\",\"if\":3,\"cookie\":\"0\",\"expires\":0,\"rqueue\":0,\"wqueue\":0,\"ui"
-        "d\":1000,\"inode\":0,\"other_attributes\":[{\"kind\":2,\"length\":104,\"hex\":\""
-        + SHORT_INFO[-208:] + "\",\"error\":\"too-short\"}]}",
-    ),
+    (UNIX, UNIX_MEMBERS + '"name":{"abstract":"a b\\\\"},"rqlen":{"rqueue":2,"wqueue":128},'
+     '"other_attributes":[]}'),
+    (reply(UNIX_HEADER, (0, "2fc3a900")),
+     UNIX_MEMBERS + '"name":{"path":"/é"},"other_attributes":[]}'),
+    (NO_UTF8, UNIX_MEMBERS + '"name":{"path_hex":"2fc3a9ff"},"other_attributes":[]}'),
+    (reply(UNIX_HEADER, (0, "00ff")),
+     UNIX_MEMBERS + '"name":{"abstract_hex":"ff"},"other_attributes":[]}'),
+    (INET4,
+     '{"netid":"inet","state_name":"ESTAB","family":2,"state":1,"timer":0,"retrans":0,"sport":22,'
+     '"dport":40000,"src":"192.0.2.1","dst":"192.0.2.2","if":0,"cookie":"0","expires":0,'
+     '"rqueue":0,"wqueue":0,"uid":1000,"inode":5,"other_attributes":[]}'),
+    (INET6, INET6_MEMBERS + '"other_attributes":[]}'),
+    (SHORT_INFO, INET6_MEMBERS + '"other_attributes":[{"kind":2,"length":104,"hex":"'
+     + SHORT_INFO[-208:] + '","error":"too-short"}]}'),
 ]
 
 # Errors that are expected at several places.
@@ -374,57 +320,29 @@ EMPTY = "the input is empty; the program that wrote it may have failed"
 TOO_SHORT = "not a capture (pcap or pcapng, as tcpdump -w writes): it has fewer than 4 bytes"
 TRUNCATED = "the capture is truncated; if it is still being written, record it by tcpdump -U"
 
-# The first 16 bytes of a file header, and its last 8 with the snapshot length 100.
-FRONT = "d4c3b2a1020004000000000000000000"
-OF_100 = "64000000fd000000"
 
-# The packet header and the cooked header of a packet of 100 bytes.
-OF_SOCK_DIAG = "0700000009000000640000006400000000040338000000000000000000000004"
+def recorded(data, length=None):
+    """Returns the digits of a packet of a pcap file, which had this length before it was truncated,
+    captured 7 seconds and 9 units after 1970."""
+    size = len(bytes.fromhex(data))
+    return numbers(7, 9, size, length or size) + data
 
-# A packet of another protocol, and one of 15 bytes.
-OTHER_AND_SHORT = (
-    "070000000900000010000000100000000000000000000000000000000000000007000000090000000f0000000f"
-    "000000000403380000000000000000000000"
-)
 
-# A packet with an NLMSG_OVERRUN that has the flag NLM_F_DUMP_INTR.
-LOST = (
-    "070000000900000020000000200000000004033800000000000000000000000410000000040010000700000000"
-    "000000"
-)
-
-# A packet with an NLMSG_DONE that has the error 2.
-FAILED = (
-    "070000000900000024000000240000000004033800000000000000000000000414000000030002000700000000"
-    "000000feffffff"
-)
-
-# A packet of another protocol that is truncated to 16 of 101 bytes.
-CUT = "0700000009000000100000006500000000000000000000000000000000000000"
-
-# A packet with an NLMSG_ERROR that has the error 2 and answers MPTCP_REQUEST, which follows.
-NO_ENTRY = (
-    "070000000900000074000000740000000004033800000000000000000000000464000000020000000700000000"
-    "000000feffffff"
-)
-
-# A packet that is truncated to 32 of 72 bytes, in the middle of its message.
-CUT_MESSAGE = (
-    "070000000900000020000000480000000004033800000000000000000000000438000000140002000700000000"
-    "000000"
-)
+# A file header with the snapshot length 100, and its first 16 bytes.
+FRONT = PCAP[:32]
+OF_100 = FRONT + "64000000fd000000"
 
 # A section header and the description of a netlink interface of a pcapng file, little-endian and
 # big-endian.
 STARTS = [
-    "0a0d0d0a1c0000004d3c2b1a01000000ffffffffffffffff1c0000000100000014000000fd000000000000"
-    "0014000000",
-    "0a0d0d0a0000001c1a2b3c4d00010000ffffffffffffffff0000001c000000010000001400fd0000000000"
-    "0000000014",
+    "0a0d0d0a1c0000004d3c2b1a01000000ffffffffffffffff1c000000"
+    "0100000014000000fd0000000000000014000000",
+    "0a0d0d0a0000001c1a2b3c4d00010000ffffffffffffffff0000001c"
+    "000000010000001400fd00000000000000000014",
 ]
 
 # A section header, little-endian.
-SECTION = "0a0d0d0a1c0000004d3c2b1a01000000ffffffffffffffff1c000000"
+SECTION = STARTS[0][:56]
 
 # An interface whose timestamps have nanoseconds, after a comment of five bytes.
 NANOSECONDS = (
@@ -439,10 +357,7 @@ UNKNOWN = "341200800c0000000c000000"
 
 # Invalid blocks after a section header and an interface, each with its error.
 INVALID = [
-    (
-        "0600000008000000",
-        TRUNCATED,
-    ),
+    ("0600000008000000", TRUNCATED),
     ("060000000800000000000000", "invalid length of the block at offset 48"),
     ("060000000d00000000000000", "invalid length of the block at offset 48"),
     ("0600000004000001000000000400000100", "invalid length of the block at offset 48"),
@@ -450,39 +365,19 @@ INVALID = [
     ("060000000c0000000c000000", "invalid length of the block at offset 48"),
     ("0300000010000000000000000c000000", "two different lengths of the block at offset 48"),
     ("0a0d0d0a1c00000000000000", "unknown byte order of the section at offset 48"),
-    (
-        "0a0d0d0a1c0000004d3c2b1a02000000ffffffffffffffff1c000000",
-        "unsupported pcapng version, expected 1, of the section at offset 48",
-    ),
-    (
-        "0100000018000000fd000000000000000100010018000000",
-        "invalid options of the interface at offset 48",
-    ),
-    (
-        "010000001c000000fd00000000000000090001000c0000001c000000",
-        "unsupported time resolution of the interface at offset 48",
-    ),
-    (
-        "0600000020000000010000000000000000000000000000000000000020000000",
-        "unknown interface of the packet at offset 48",
-    ),
-    (
-        "0600000020000000000000000000000000000000010000000000000020000000",
-        "invalid captured length of the packet at offset 48",
-    ),
-    (
-        "0600000020000000000000000000000000000000010004000000000020000000",
-        "packet length 262145 exceeds the maximum of 262144",
-    ),
-    (
-        "060000002000000000000000ffffffff00000000000000000000000020000000",
-        "unsupported time (2106 or later) of the packet at offset 48",
-    ),
-    (
-        "0100000014000000010000000000000014000000060000002000000001000000000000000000000000"
-        "0000000000000020000000",
-        "unsupported link type 1, expected 253 (netlink), as of nlmon0",
-    ),
+    ("0a0d0d0a1c0000004d3c2b1a02000000ffffffffffffffff1c000000",
+     "unsupported pcapng version, expected 1, of the section at offset 48"),
+    ("0100000018000000fd000000000000000100010018000000",
+     "invalid options of the interface at offset 48"),
+    ("010000001c000000fd00000000000000090001000c0000001c000000",
+     "unsupported time resolution of the interface at offset 48"),
+    (numbers(6, 32, 1, 0, 0, 0, 0, 32), "unknown interface of the packet at offset 48"),
+    (numbers(6, 32, 0, 0, 0, 1, 0, 32), "invalid captured length of the packet at offset 48"),
+    (numbers(6, 32, 0, 0, 0, 262145, 0, 32), "packet length 262145 exceeds the maximum of 262144"),
+    (numbers(6, 32, 0, (1 << 32) - 1, 0, 0, 0, 32),
+     "unsupported time (2106 or later) of the packet at offset 48"),
+    (numbers(1, 20, 1, 0, 20, 6, 32, 1, 0, 0, 0, 0, 32),
+     "unsupported link type 1, expected 253 (netlink), as of nlmon0"),
 ]
 
 # The time of the packets of `pcap` and `enhanced` in microseconds; of those of `enhanced` in
@@ -572,8 +467,6 @@ MIXED = [
     (SOCK_DIAG, INET6), (SOCK_DIAG, DONE),
 ]
 MIXED_LINES = [UNIX_LINE, INET6_LINE]
-# The IPv4 socket.
-INET4 = OBJECTS[4][0]
 
 
 @table
@@ -592,21 +485,15 @@ def captures_of_both_orders():
 @table
 def each_family():
     """Each family has lines and an object in JSON, with its unknown and its invalid attributes."""
-    for reply, line, shown in FAMILIES:
-        yield listed(reply), "", line
-        yield listed(reply), "--json", shown + "\n"
-    for reply, shown in OBJECTS:
-        yield listed(reply), "--json", shown + "\n"
+    for given, lines, shown in FAMILIES:
+        yield listed(given), "", lines
+        yield listed(given), "--json", shown + "\n"
+    for given, shown in OBJECTS:
+        yield listed(given), "--json", shown + "\n"
     yield listed(*NEWER), "", NEWER_LINES
-    reply, line, _ = FAMILY_VALUES[2]
-    uid = listed(with_attributes(reply, (2, "07000000")))
-    yield uid, "-O", line.replace("-     *:*", "7     *:*") + " uid:7\n"
+    uid = listed(reply(XDP_HEADER, (2, numbers(7))))
+    yield uid, "-O", cells("xdp UNCONN - - 7 7 *:* *") + " sk:8 uid:7\n"
     yield uid, "", {"uid": 7}
-
-
-def numbers(*values):
-    """Returns the digits of numbers of 32 bits."""
-    return struct.pack(f"<{len(values)}I", *values).hex()
 
 
 @table
@@ -614,26 +501,25 @@ def distinct_numbers():
     """Each number of a reply has its place: a socket whose numbers differ from each other."""
     names = ("rmem_alloc", "rcvbuf", "wmem_alloc", "sndbuf", "fwd_alloc", "wmem_queued", "optmem",
              "backlog", "drops")
-    reply = (INET4[:32] + "02010203" "00010002" "c0000201" + "00" * 12 + "c0000202" + "00" * 12
-             + numbers(4, 5, 6, 7, 8, 9, 10, 11))
-    reply = with_attributes(reply, (7, numbers(*range(21, 30))), (1, numbers(31, 32, 33, 34)),
-                            (4, b"bbr\0".hex()))
-    yield listed(reply), "-oemi", (
-        "inet  ESTAB      8      9      11         10    192.0.2.1%4:1                  192.0.2.2:2"
-        "\n\t timer:(keepalive,7ms,3) sk:600000005 mem:(r31,w32,f33,t34) cong:bbr skmem:(r21,rb22,"
-        "t23,tb24,f25,w26,o27,bl28,d29)\n")
-    yield listed(reply), "", {
+    header = ("02010203 00010002 c0000201" + ZEROS[:24] + "c0000202" + ZEROS[:24]
+              + numbers(4, 5, 6, 7, 8, 9, 10, 11))
+    ip = reply(header, (7, numbers(*range(21, 30))), (1, numbers(31, 32, 33, 34)),
+               (4, b"bbr\0".hex()))
+    yield listed(ip), "-oemi", line(
+        "inet ESTAB 8 9 11 10 192.0.2.1%4:1 192.0.2.2:2",
+        "timer:(keepalive,7ms,3) sk:600000005 mem:(r31,w32,f33,t34) cong:bbr "
+        "skmem:(r21,rb22,t23,tb24,f25,w26,o27,bl28,d29)")
+    yield listed(ip), "", {
         "state": 1, "timer": 2, "retrans": 3, "sport": 1, "dport": 2, "src": "192.0.2.1",
         "dst": "192.0.2.2", "if": 4, "cookie": "600000005", "expires": 7, "rqueue": 8, "wqueue": 9,
         "uid": 10, "inode": 11, "meminfo": {"rmem": 31, "wmem": 32, "fmem": 33, "tmem": 34},
         "cong": "bbr", "skmeminfo": dict(zip(names, range(21, 30)))}
-    reply = with_attributes(UNIX[:64], (1, numbers(1, 2)), (3, numbers(3, 4)),
-                            (5, numbers(*range(5, 14))))
-    yield listed(reply), "-oem", (
-        "u_str LISTEN     -      -      20238      -     *                              *\n"
-        "\t sk:2a0 vfs:(1,2) pending:3 pending:4 skmem:(r5,rb6,t7,tb8,f9,w10,o11,bl12,d13)\n")
-    yield listed(reply), "", {"vfs": {"ino": 1, "dev": 2}, "icons": [3, 4],
-                              "meminfo": dict(zip(names, range(5, 14)))}
+    unix = reply(UNIX_HEADER, (1, numbers(1, 2)), (3, numbers(3, 4)), (5, numbers(*range(5, 14))))
+    yield listed(unix), "-oem", line(
+        "u_str LISTEN - - 20238 - * *",
+        "sk:2a0 vfs:(1,2) pending:3 pending:4 skmem:(r5,rb6,t7,tb8,f9,w10,o11,bl12,d13)")
+    yield listed(unix), "", {"vfs": {"ino": 1, "dev": 2}, "icons": [3, 4],
+                             "meminfo": dict(zip(names, range(5, 14)))}
 
 
 @table
@@ -641,15 +527,15 @@ def values_of_other_families():
     """Groups, flags, rings, fanout groups, memory and counters of netlink, packet and XDP sockets.
     Of groups only bits that are set count. A filter consists of instructions of 8 bytes, and
     memberships have 44 bytes."""
-    for header, line, values in FAMILY_VALUES:
+    for header, columns_shown, values in FAMILY_VALUES:
         for kind, value, detail, member, shown in values:
             capture = pcap(WIDE_HEADER, (SOCK_DIAG, with_attributes(header, (kind, value))))
-            yield capture, "-O", [line, detail, "\n"]
+            yield capture, "-O", [columns_shown, detail, "\n"]
             yield capture, "", {member: shown, "other_attributes": []}
-    header, line, _ = FAMILY_VALUES[1]
+    header, columns_shown, _ = FAMILY_VALUES[1]
     for kind, length in ((7, 1), (7, 7), (7, 9), (1, 1), (1, 43), (1, 45)):
         capture = listed(with_attributes(header, (kind, "00" * length)))
-        yield capture, "-O", [line, f" unread:({kind},{length},wrong-length)\n"]
+        yield capture, "-O", [columns_shown, f" unread:({kind},{length},wrong-length)\n"]
         yield capture, "", {"other_attributes": [
             {"kind": kind, "length": length, "hex": "00" * length, "error": "wrong-length"}]}
 
@@ -779,8 +665,7 @@ def association(state, *pairs):
 
 def association_columns(netid, state):
     """Returns the columns of such a reply."""
-    return (f"{netid:5} {state:10} 0      0      6666       0     127.0.0.1%1:46964              "
-            "127.0.0.1:6000")
+    return cells(f"{netid} {state} 0 0 6666 0 127.0.0.1%1:46964 127.0.0.1:6000")
 
 
 @table
@@ -827,7 +712,7 @@ def associations_by_state():
         lines = [association_columns("sctp", name), "\n"]
         groups = selecting.get(state, {"all", "connected", "synchronized", "big"})
         for group in (*single, "all", "connected", "synchronized", "bucket", "big"):
-            yield capture, f"-oO --state={group}", lines if group in groups else []
+            yield capture, f"-oO -- state {group}", lines if group in groups else []
         yield capture, "-oOl", lines if state == 0 else []
 
 
@@ -837,8 +722,8 @@ def states_without_a_name():
     for state in ("0c", "1f", "20", "ff"):
         capture = listed(UNIX[:36] + state + UNIX[38:])
         for group in ("all", "connected", "synchronized", "big"):
-            yield capture, f"--state={group}", UNIX_LINE.replace("LISTEN ", "UNKNOWN")
-        yield capture, "--state=bucket", []
+            yield capture, f"-- state {group}", UNIX_LINE.replace("LISTEN ", "UNKNOWN")
+        yield capture, "-- state bucket", []
 
 
 @table
@@ -861,31 +746,32 @@ def names_in_utf8():
 
 @table
 def sockets_by_address():
-    """Options select the sockets whose addresses begin with these bits, of the same IP version. An
-    IPv4-mapped address is an IPv6 address. fe80 is 1111 1110 1000 0000."""
+    """Filters select the sockets whose addresses begin with these bits. An IPv4-mapped address also
+    begins with those of an IPv4 address. fe80 is 1111 1110 1000 0000."""
     mapped = INET6.replace("fe800000000000000000000000000001", "00000000000000000000ffffc0000201")
     mapped_line = INET6_LINE.replace("[fe80::1]%3:22         ", "[::ffff:192.0.2.1]%3:22")
     for reply, line, meeting, others in [
         (INET6, INET6_LINE,
-            "--src=fe80::1 --src=FE80:0::0:1/128 --src=fe80::/10 --src=fec0::/9 --src=ff00::/7 "
-            "--src=::/0 --dst=2001:db8::fe/127 --dst=2001:db8:0::255.255.255.255/96 --sport=22-22",
-            "--src=fe80:: --src=fec0::/10 --src=ff00::/8 --src=0.0.0.0/0 --dst=2001:db8::fe "
-            "--dst=fe80::1 --dst=2001:db8::7f/121 --sport=23-39999 --dport=22-39999"),
+            "src [fe80::1], src FE80:0::0:1/128, src fe80::/10, src fec0::/9, src ff00::/7, src ::/0, "
+            "dst 2001:db8::fe/127, dst 2001:db8:0::255.255.255.255/96, src [fe80::1]:22, dev 3",
+            "src [fe80::], src fec0::/10, src ff00::/8, src 0.0.0.0/0, dst [2001:db8::fe], dev 2, "
+            "dst [fe80::1], dst 2001:db8::7f/121, src [fe80::1]:23, src *:23"),
         (mapped, mapped_line,
-            "--src=::ffff:192.0.2.1 --src=::ffff:c000:201 --src=::ffff:0:0/96 --src=::/80",
-            "--src=192.0.2.1 --src=0.0.0.0/0 --src=::192.0.2.1 --src=::/81"),
+            "src [::ffff:192.0.2.1], src [::ffff:c000:201], src ::ffff:0:0/96, src ::/80, "
+            "src 192.0.2.1, src 192.0.0.0/16, src 0.0.0.0/0",
+            "src ::/81, src 192.0.2.2, src 128.0.0.0/2, src [::192.0.2.1]"),
         (INET4, INET4_LINE,
-            "--src=192.0.2.1 --src=192.0.2.1/32 --src=192.0.2.0/31 --src=192.0.2.255/24 "
-            "--src=255.0.0.0/2 --dst=192.0.2.3/31 --dst=10.0.0.0/0",
-            "--src=192.0.2.0 --src=192.0.2.2/31 --src=255.0.0.0/3 --dst=192.0.2.1 --src=::/0 "
-            "--src=::ffff:192.0.2.1 --dst=192.0.2.3"),
-        (UNIX, UNIX_LINE, "-x", "--src=0.0.0.0/0 --dst=::/0 --sport=0-65535"),
+            "src 192.0.2.1, src 192.0.2.1/32, src 192.0.2.0/31, src 192.0.2.255/24, "
+            "src 255.0.0.0/2, dst 192.0.2.3/31, dst 10.0.0.0/0",
+            "src 192.0.2.0, src 192.0.2.2/31, src 255.0.0.0/3, dst 192.0.2.1, src ::/0, "
+            "src [::ffff:192.0.2.1], dst 192.0.2.3"),
+        (UNIX, UNIX_LINE, "state all", "src 0.0.0.0/0, dst ::/0, not dst ::/0, sport >= 0"),
     ]:
-        for option in meeting.split():
-            yield listed(reply), option, line
-        for option in others.split():
-            yield listed(reply), option, []
-    yield listed(INET6, mapped, UNIX), "--src=::/0 --dst=2001::/16 --src=::/64", mapped_line
+        for text in meeting.split(", "):
+            yield listed(reply), f"-- {text}", line
+        for text in others.split(", "):
+            yield listed(reply), f"-- {text}", []
+    yield listed(INET6, mapped, UNIX), "-- src ::/64 dst 2001::/16", mapped_line
 
 
 @table
@@ -998,32 +884,148 @@ def truncated_captures():
 
 
 @table
+def truncated_packets():
+    """A packet that is truncated at any byte has one line on standard error, and its complete
+    messages are listed. A message that is wrong for another reason has a line too."""
+    unix = reply(UNIX_HEADER)
+    whole = SOCK_DIAG + unix + unix
+    for length in range(80):
+        yield digits(PCAP, recorded(whole[: 2 * length], 80)), "", (
+            line("u_str LISTEN - - 20238 - * *", "sk:2a0") * (length >= 48)
+        ), [f"packet 1: truncated to {length} of 80 bytes"]
+    yield digits(PCAP, recorded(SOCK_DIAG + "03" + unix[2:], 80)), "", [], [
+        "packet 1: truncated to 48 of 80 bytes",
+        "packet 1, message 1: message length 3 is under 16"]
+
+
+@table
+def long_inputs():
+    """Attributes of 65,532 bytes, paths of any length, and more requests than are retained."""
+    long_value, shutdown = (200, "00" * 65528), (6, "01")
+    yield pcap(WIDE_HEADER, (SOCK_DIAG, reply(UNIX_HEADER, *[long_value] * 3, shutdown))), "", line(
+        "u_str LISTEN - - 20238 - * *", "sk:2a0 -->" + " unknown:(200,65528)" * 3)
+    for size in (*range(1, 300), 4096, 65000):
+        path = "/" + "a" * size
+        yield pcap(WIDE_HEADER, (SOCK_DIAG, reply(UNIX_HEADER, (0, f"{path}\0".encode().hex())))), (
+            ""), line(f"u_str LISTEN - - 20238 - {path} *", "sk:2a0")
+    requests = (request("02060000" + numbers(it) + ZEROS) for it in range(300))
+    yield listed(*requests, UNIX), "", UNIX_LINE
+
+
+@table
+def times():
+    """The times of requests are those of Python's datetime: of the first and the last day of each
+    month, the greatest time, and fractions of more than a second."""
+    days = [datetime(year, month, 1) for year in range(1970, 2107) for month in range(1, 13)]
+    starts = [int(day.replace(tzinfo=timezone.utc).timestamp()) for day in days]
+    seconds = [it + shift for it in starts for shift in (0, 45_296, -1)]
+    moments = [(it, it % 1_000_000) for it in seconds if 0 <= it < 1 << 32]
+    moments += [((1 << 32) - 1, fraction) for fraction in (999_999, 1_000_000, (1 << 32) - 1)]
+    packet = recorded(SOCK_DIAG + request("01" + "00" * 23))[16:]
+    for header, unit in ((HEADERS[0], 1000), (HEADERS[1], 1)):
+        lines = []
+        for second, fraction in moments:
+            whole, rest = divmod(second * 1_000_000_000 + fraction * unit, 1_000_000_000)
+            date = datetime(1970, 1, 1) + timedelta(seconds=whole)
+            lines.append(f"-- {date.isoformat()}.{rest:09}Z unix states:0x0\n")
+        yield digits(header, *(numbers(*it) + packet for it in moments)), "--requests -H", lines
+
+
+def answer(payload, flags=0, kind=2):
+    """Returns the digits of an NLMSG_ERROR, or of another type."""
+    return message(bytes.fromhex(payload), flags, kind).hex()
+
+
+# What a kernel answers: the errors ENOENT, EACCES and EINVAL. The lines about the first and the
+# last one, and about a request that is not in the answer.
+NO_ENTRY, DENIED, WRONG = (struct.pack("<i", -it).hex() for it in (2, 13, 22))
+ENOENT, EINVAL = (f"note: the kernel returned {it}" for it in ("ENOENT", "EINVAL"))
+EARLIER = " (request: in an earlier packet)"
+
+
+@table
+def answers_of_a_kernel():
+    """The lines about errors in messages of the types NLMSG_ERROR (2) and NLMSG_DONE (3)."""
+    yield listed(
+        answer(DENIED) + answer(WRONG), answer("00000000", 16, 3), answer(NO_ENTRY, 0, 3),
+        answer("01010a00", 0, 20) + "03" + "00" * 19, answer("0102", 0, 3),
+    ), "", [], [
+        f"packet 1, message 1: the kernel returned error 13{EARLIER}",
+        f"packet 1, message 2: {EINVAL}{EARLIER}",
+        "packet 2, message 1: dump interrupted (NLM_F_DUMP_INTR)",
+        f"packet 3, message 1: {ENOENT}{EARLIER}",
+        "packet 4, message 1: UnixResponseHeader: buffer of 4 bytes, at least 16 needed",
+        "packet 4, message 2: message length 3 is under 16",
+        f"packet 5, message 1: the kernel's answer has no error number{EARLIER}",
+    ]
+    for error, shown in ((NO_ENTRY, ENOENT), (WRONG, EINVAL)):
+        for kind in (2, 3):
+            yield listed(answer(error, 0, kind)), "", [], [f"packet 1, message 1: {shown}{EARLIER}"]
+
+
+@table
+def explained_errors():
+    """Errors with the attributes of an extended acknowledgement (NLM_F_ACK_TLVS, 512), after a whole
+    request or after its header (NLM_F_CAPPED, 256). The sockets that a whole request is for are
+    named if their family is known."""
+    text, offset = attributes((1, b"No such attribute\x1b\0".hex())), attributes((2, numbers(36)))
+    short, shown = answer("00" * 6, 0, 20) + "0000", ": No such attribute\\x1b"
+    raw = request("0aff0000 fe000000" + ZEROS)
+    raw_shown = " (request: raw family:inet6 states:0xfe)"
+    for payload, flags, kind, expected in (
+        (WRONG + raw, 0, 2, EINVAL + raw_shown),
+        (WRONG + raw[:32], 256, 2, EINVAL + EARLIER),
+        (WRONG + raw, 0, 3, EINVAL + EARLIER),
+        (WRONG + raw + text, 512, 2, EINVAL + raw_shown + shown),
+        (DENIED + request("01" + "00" * 23), 0, 2,
+            "the kernel returned error 13 (request: unix states:0x0)"),
+        (DENIED + answer("01" + "00" * 23, 0, 20), 0, 2, f"the kernel returned error 13{EARLIER}"),
+        (NO_ENTRY + request("28" + "00" * 23), 0, 2, f"{ENOENT} (request: vsock)"),
+        (NO_ENTRY + request("0206" + "00" * 54, kind=21), 0, 2,
+            f"{ENOENT} (request: destroy tcp family:inet states:0x0)"),
+        (WRONG + short + text + offset, 512, 2, f"{EINVAL}{EARLIER}{shown} (offset 36)"),
+        (WRONG + short[:32] + offset, 768, 2, f"{EINVAL}{EARLIER} (offset 36)"),
+        (WRONG + short[:32] + text, 768, 2, EINVAL + EARLIER + shown),
+        (WRONG + short + text + offset, 0, 2, EINVAL + EARLIER),
+        (WRONG + short[:32] + text + offset, 512, 2, EINVAL + EARLIER),
+        (WRONG + text + offset, 512, 3, f"{EINVAL}{EARLIER}{shown} (offset 36)"),
+        (DENIED + text, 512, 3, f"the kernel returned error 13{EARLIER}{shown}"),
+    ):
+        yield listed(answer(payload, flags, kind)), "", [], [f"packet 1, message 1: {expected}"]
+
+
+@table
 def errors():
     """The diagnostics and failures on standard error, with their numbers."""
     short = "UnixResponseHeader: buffer of 12 bytes, at least 16 needed"
-    yield digits(FRONT, OF_100, OF_SOCK_DIAG, SHORT, SHORT, SHORT), "", None, [
+    yield digits(OF_100, recorded(SOCK_DIAG + 3 * SHORT)), "", None, [
         f"packet 1, message {number}: {short}" for number in (1, 2, 3)]
-    yield digits(FRONT, OF_100, OTHER_AND_SHORT, LOST, FAILED, CUT, "00"), "", None, [
+    yield digits(OF_100, recorded("00" * 16), recorded(SOCK_DIAG[:-2]),
+                 recorded(SOCK_DIAG + answer("", 16, 4)), recorded("00" * 16, 101),
+                 "00"), "", None, [
         "packet 2: fewer than 16 bytes",
         "packet 3, message 1: dump interrupted (NLM_F_DUMP_INTR)",
         "packet 3, message 1: the kernel lost data",
-        "packet 4, message 1: note: the kernel returned ENOENT (request: in an earlier packet)",
-        "packet 5: truncated to 16 of 101 bytes",
-        f"packet 6: {TRUNCATED}",
+        "packet 4: truncated to 16 of 101 bytes",
+        f"packet 5: {TRUNCATED}",
     ]
-    yield digits(FRONT, OF_100, NO_ENTRY, MPTCP_REQUEST, CUT_MESSAGE), "", None, [
-        "packet 1, message 1: note: the kernel returned ENOENT"
-        " (request: mptcp family:inet states:0x480)",
+    yield digits(OF_100, recorded(SOCK_DIAG + answer(NO_ENTRY + MPTCP_REQUEST)),
+                 recorded(SOCK_DIAG + UNIX[:32], 72)), "", None, [
+        f"packet 1, message 1: {ENOENT} (request: mptcp family:inet states:0x480)",
         "packet 2: truncated to 32 of 72 bytes",
     ]
+    no_capture = "not a capture (pcap or pcapng, as tcpdump -w writes): it begins with 0x"
     for parts, error in (
         ([""], EMPTY), ([FRONT, "48"], TRUNCATED),
         ([FRONT, "4800000001000000"],
             "unsupported link type 1, expected 253 (netlink), as of nlmon0"),
-        (["d4c3b2a10300", FRONT, OF_100], "unsupported pcap version 3, expected 2"),
-        (["1f8b0800", FRONT, OF_100],
-            "compressed by gzip; decompress it first, with gzip -dc"),
-        ([FRONT, OF_100, "07000000090000000100040001000400"],
+        (["d4c3b2a10300", OF_100], "unsupported pcap version 3, expected 2"),
+        *(([start, OF_100], f"compressed by {it}; decompress it first, with {it} -dc")
+            for start, it in (("1f8b0800", "gzip"), (b"BZh9\x17rE8P\x90".hex(), "bzip2"),
+                              ("fd377a58", "xz"), ("28b52ffd", "zstd"))),
+        *(([start, "00" * 20], no_capture + start) for start in ("01020aff", b"BZx9".hex())),
+        ([b"hello\n".hex()], no_capture + "68656c6c"),
+        ([OF_100, numbers(7, 9, 262145, 262145)],
             "packet 1: packet length 262145 exceeds the maximum of 262144"),
         (["0a0d0d0a1c000000000000000000"], "unknown byte order of the section at offset 0"),
         ([SECTION, SIMPLE], "packet 1: unknown interface of the packet at offset 28"),

@@ -3,9 +3,10 @@
 
 ghost use Rattle.std.specs.Prelude.{⊤};
 
+use sock_diag_filters::{Condition, FilterTextError, MAX_PARTS, ParsedFilter, Part};
 use sslist_lister::{
     Choice, HELP, ListCapture, ListError, Options, Rejection, Sink, VERSION, WriteError, choose,
-    escaped, heading, list_captures, names_several, run_to_status, send,
+    escaped, filter_text, heading, list_captures, names_several, run_to_status, send,
 };
 use std::alloc::{AllocError, Global};
 use std::fs::File;
@@ -21,7 +22,7 @@ const USAGE_ERROR: u8 = 2;
 const LONGEST_ARGUMENT: usize = 131_072;
 
 /// Text after the error about a file that cannot be opened, if its name may be a filter of ss(8).
-const FILTER_HINT: &str = "; a filter is written --state=STATE, --sport=PORT or --src=ADDRESS";
+const FILTER_HINT: &str = "; a filter follows --, as in sslist FILE -- state established";
 
 fn main(rt: HostRuntime) -> ExitCode {
     let mut arguments = match env::args(&rt) {
@@ -49,28 +50,91 @@ fn answer(rt: &HostRuntime, arguments: &[String]) -> ExitCode {
             let _ = rt.eprintln("sslist: -f without a family; try sslist --help");
             ExitCode::from(USAGE_ERROR)
         }
-        Choice::Captures(options) => {
-            let has_captions = names_several(arguments);
-            let mut lister = Lister {
-                rt,
-                options,
-                has_captions,
-            };
-            list_captures(arguments, &mut lister)
+        Choice::Captures(options) => match filter_in(rt, arguments) {
+            Ok(filter) => {
+                let options = options.with_filter(&filter);
+                let has_captions = names_several(arguments);
+                let mut lister = Lister {
+                    rt,
+                    options,
+                    has_captions,
+                };
+                list_captures(arguments, &mut lister)
+            }
+            Err(status) => status,
+        },
+    }
+}
+
+/// Returns the filter in the arguments. If there is none, reports why, and returns the status.
+fn filter_in(rt: &HostRuntime, arguments: &[String]) -> Result<ParsedFilter, ExitCode> {
+    let Ok(text) = filter_text(rt.alloc(), arguments) else {
+        return Err(out_of_memory(rt));
+    };
+    match ParsedFilter::parse(text.as_slice()) {
+        Ok(filter) if has_auto_bound(&filter.parts) => {
+            let _ = rt.eprintln("sslist: a capture does not contain what autobound tests");
+            Err(ExitCode::from(USAGE_ERROR))
+        }
+        Ok(filter) => Ok(filter),
+        Err(error) => Err(reject_filter(rt, error, text.as_slice())),
+    }
+}
+
+/// Returns whether one of the parts of a filter tests whether the kernel chose the local port.
+fn has_auto_bound(parts: &[Part]) -> bool {
+    for part in parts {
+        if matches!(part, Part::Condition(Condition::AutoBound)) {
+            return true;
         }
     }
+    false
+}
+
+/// Reports the first error of a filter's text, with status 2.
+fn reject_filter(rt: &HostRuntime, error: FilterTextError, text: &[u8]) -> ExitCode {
+    let offset = match error {
+        FilterTextError::Unexpected { offset } | FilterTextError::TooLong { offset } => offset,
+        FilterTextError::Incomplete => text.len(),
+    };
+    let Ok(shown) = escaped(rt.alloc(), word_at(text, offset)) else {
+        return out_of_memory(rt);
+    };
+    let _ = match error {
+        FilterTextError::Unexpected { .. } => {
+            eprintln!(rt; "sslist: unexpected {shown} in the filter; try sslist --help")
+        }
+        FilterTextError::TooLong { .. } => {
+            eprintln!(rt; "sslist: more than {MAX_PARTS} parts in the filter at {shown}")
+        }
+        FilterTextError::Incomplete => {
+            rt.eprintln("sslist: the filter is not complete; try sslist --help")
+        }
+    };
+    ExitCode::from(USAGE_ERROR)
+}
+
+/// Returns the word of a text at an offset.
+fn word_at(text: &[u8], offset: usize) -> &[u8] {
+    let rest = text.get(offset..).unwrap_or_default();
+    for (index, byte) in rest.iter().enumerate() {
+        if byte.is_ascii_whitespace() {
+            return &rest[..index];
+        }
+    }
+    rest
 }
 
 /// Lists captures on standard output with these options.
 #[derive(Drop)]
-struct Lister<'a> {
-    rt: &'a HostRuntime,
-    options: Options,
+struct Lister<'r, 'f> {
+    rt: &'r HostRuntime,
+    options: Options<'f>,
     /// Each table has a caption.
     has_captions: bool,
 }
 
-impl ListCapture for Lister<'_> {
+impl ListCapture for Lister<'_, '_> {
     // The captures that were listed are not recorded: any list is possible.
     ghost listed = { λ _ _. ⊤ };
 
@@ -91,7 +155,7 @@ impl ListCapture for Lister<'_> {
 }
 
 /// Lists the capture in a file.
-fn list_file(rt: &HostRuntime, options: Options, name: &str, heading: &[u8]) -> ExitCode {
+fn list_file(rt: &HostRuntime, options: Options<'_>, name: &str, heading: &[u8]) -> ExitCode {
     let Ok(shown) = escaped(rt.alloc(), name.as_bytes()) else {
         return out_of_memory(rt);
     };
@@ -123,7 +187,7 @@ fn may_be_filter(name: &str) -> bool {
 }
 
 /// Lists the capture on standard input. A terminal is rejected, since nobody types a capture.
-fn list_standard_input(rt: &HostRuntime, options: Options, heading: &[u8]) -> ExitCode {
+fn list_standard_input(rt: &HostRuntime, options: Options<'_>, heading: &[u8]) -> ExitCode {
     let input = rt.stdin();
     if input.is_terminal() {
         let _ = rt.eprintln(
@@ -137,7 +201,7 @@ fn list_standard_input(rt: &HostRuntime, options: Options, heading: &[u8]) -> Ex
 /// Lists the capture that a reader returns.
 fn list<R: Read + Drop>(
     rt: &HostRuntime,
-    options: Options,
+    options: Options<'_>,
     front: &str,
     heading: &[u8],
     input: R,
@@ -200,26 +264,11 @@ fn rejection_text(alloc: Global, reason: Rejection, argument: &str) -> Result<St
             format!(in alloc; "-{letter} has to be alone, not in {shown}")
         }
         Rejection::MissingValue => {
-            let value = name_of_value(argument);
-            format!(in alloc; "{shown} needs a value: write {shown}={value}")
+            format!(in alloc; "{shown} needs a value: write {shown}=FAMILY")
         }
         Rejection::UnexpectedValue => no_value_text(alloc, argument),
         Rejection::UnknownFamily => format!(in alloc; "unknown family {shown} after -f"),
         Rejection::UnknownFamilyValue => format!(in alloc; "unknown family in {shown}"),
-        Rejection::UnknownStateValue => {
-            let form =
-                "states are named as in the column State, such as LISTEN, one in each option";
-            format!(in alloc; "unknown state in {shown}: {form}")
-        }
-        Rejection::InvalidPortValue => {
-            let form =
-                "a port is N, N-M, N- or -M, where N and M are 0 to 65535, and N is at most M";
-            format!(in alloc; "invalid port in {shown}: {form}")
-        }
-        Rejection::InvalidAddressValue => {
-            let form = "an address is IPv4 or IPv6, without a port; /LENGTH may follow it";
-            format!(in alloc; "invalid address in {shown}: {form}")
-        }
     }
 }
 
@@ -253,16 +302,6 @@ fn letter_hint(letter: u8) -> &'static str {
         b'A' => "; select sockets by -t, -u, -M, -x, -0 or -f FAMILY",
         b'r' => "; names are never resolved",
         _ => "",
-    }
-}
-
-/// Returns the name of the value of an option in the usage.
-fn name_of_value(option: &str) -> &'static str {
-    match option {
-        "--family" => "FAMILY",
-        "--state" => "STATE",
-        "--src" | "--dst" => "ADDRESS",
-        _ => "PORT",
     }
 }
 

@@ -37,13 +37,11 @@ argument_does_not_decide parsed_as.Utf8 no_help no_version no_rejection = refl
 argument_does_not_decide parsed_as.Requests no_help no_version no_rejection = refl
 argument_does_not_decide parsed_as.Json no_help no_version no_rejection = refl
 argument_does_not_decide (parsed_as.Sockets family) no_help no_version no_rejection = refl
-argument_does_not_decide (parsed_as.States states) no_help no_version no_rejection = refl
-argument_does_not_decide (parsed_as.Port end condition) no_help no_version no_rejection = refl
-argument_does_not_decide (parsed_as.Address end condition) no_help no_version no_rejection = refl
 argument_does_not_decide (parsed_as.Letters needs) no_help no_version no_rejection = refl
 argument_does_not_decide (parsed_as.Letter letter) no_help no_version no_rejection = refl
 argument_does_not_decide parsed_as.EndOfOptions no_help no_version no_rejection = refl
 argument_does_not_decide parsed_as.File no_help no_version no_rejection = refl
+argument_does_not_decide parsed_as.Word no_help no_version no_rejection = refl
 
 -- The first argument that decides is found.
 pub first_deciding_argument_found : {X : Type 0} (bytes_of : X → List ℕ) (arguments : List X)

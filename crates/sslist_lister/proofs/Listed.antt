@@ -4,9 +4,11 @@ use Rattle.std.proofs.Common.{Option, map, drop, length, get_or, refl, ap, sym, 
 use Rattle.std.proofs.Common.{append-nil, append_assoc, arith}
 use Rattle.std.proofs.lemmas.List.{drop_more, map_push}
 use Rattle.std.proofs.lemmas.List.Sums.{fold_push}
-use Rattle.sslist_lister.specs.command_line.Choice.{argument_at, names_file, next_place}
+use Rattle.std.specs.Prelude.{codes}
+use Rattle.sslist_lister.specs.command_line.Choice.{argument_at, is_word, names_file, next_place}
 use Rattle.sslist_lister.specs.command_line.Files.{AddsListing, Listing, ListsAll, capture_named}
-use Rattle.sslist_lister.specs.command_line.Files.{files_from, files_or_input, last_failure}
+use Rattle.sslist_lister.specs.command_line.Files.{files_from, files_or_input, filter_text_from}
+use Rattle.sslist_lister.specs.command_line.Files.{last_failure}
 use Rattle.sslist_lister.specs.command_line.Files.{later_failure}
 use Rattle.sslist_lister.specs.declared.command_line.arguments.Argument.{Argument}
 use Rattle.sslist_lister.specs.declared.command_line.arguments.Place.{Place}
@@ -73,6 +75,35 @@ captures_without_file bytes_of arguments index place argument parsed bytes in_ra
     ap (λ l. map capture_named (files_from place (map bytes_of l)))
     (drop_more arguments index argument in_range)
     ∙ (rw (sym is, sym same, sym kind, file) refl)
+
+-- the text of the words of the filter among the arguments from this index on, the first of which is
+-- at this place
+abbrev pub text_from : {X : Type 0} → (X → List ℕ) → List X → ℕ → Place → List ℕ
+text_from bytes_of arguments index place =
+    filter_text_from place (map bytes_of (drop index arguments))
+
+-- The next argument is a word of the filter.
+pub text_with_word : {X : Type 0} (bytes_of : X → List ℕ) (arguments : List X) (index : ℕ)
+    (place : Place) (argument : X) (parsed : Argument) (bytes : List ℕ)
+    → index < length arguments → argument ≡ get_or arguments index argument
+    → bytes ≡ bytes_of argument → parsed ≡ argument_at place bytes → is_word parsed ≡ true
+    → text_from bytes_of arguments index place
+    ≡ (bytes ++ codes " ") ++ text_from bytes_of arguments (index + 1) (next_place place parsed)
+text_with_word bytes_of arguments index place argument parsed bytes in_range is same kind word =
+    ap (λ l. filter_text_from place (map bytes_of l)) (drop_more arguments index argument in_range)
+    ∙ (rw (sym is, sym same, sym kind, word) refl)
+
+-- The next argument is not one.
+pub text_without_word : {X : Type 0} (bytes_of : X → List ℕ) (arguments : List X) (index : ℕ)
+    (place : Place) (argument : X) (parsed : Argument) (bytes : List ℕ)
+    → index < length arguments → argument ≡ get_or arguments index argument
+    → bytes ≡ bytes_of argument → parsed ≡ argument_at place bytes → is_word parsed ≡ false
+    → text_from bytes_of arguments index place
+    ≡ text_from bytes_of arguments (index + 1) (next_place place parsed)
+text_without_word bytes_of arguments index place argument parsed bytes in_range is same kind
+    other =
+    ap (λ l. filter_text_from place (map bytes_of l)) (drop_more arguments index argument in_range)
+    ∙ (rw (sym is, sym same, sym kind, other) refl)
 
 is_filled-push : {A : Type 0} (xs : List A) (y : A) → is_filled (xs ++ y ∷ []) ≡ true
 is_filled-push [] y = refl

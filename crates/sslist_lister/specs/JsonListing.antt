@@ -24,7 +24,7 @@ unix_output o list h s =
 -- `inet_output o list socket s`: what is written for the IPv4 or IPv6 socket `socket`
 abbrev pub inet_output : Options → ℕ → InetSocket → Summary → List ℕ
 inet_output o list socket s =
-    if lists_inet o socket
+    if lists_inet o socket s
     then (if o.json
     then socket_json list (inet_header_members socket) s
     else inet_lines o socket s) else []

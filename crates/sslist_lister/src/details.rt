@@ -33,14 +33,14 @@ use std::alloc::AllocError;
 /// there are no details.
 pub(crate) fn push_details(
     text: &mut Vec<u8>,
-    options: Options,
+    options: Options<'_>,
     timer: &RawTimer,
     cookie: &[u8; 8],
     found: &Attributes<'_>,
 ) -> Result<(), AllocError>
     ensures { OnOk result (text.new.items ≡ text.old.items
-        ++ details_after_separator options
-        (details options timer.now cookie.now (collected found.now))) }
+        ++ details_after_separator options.entry
+        (details options.entry timer.now cookie.now (collected found.now))) }
 {
     let start = text.len();
     text.extend_from_slice(separator(options))?;
@@ -57,13 +57,13 @@ pub(crate) fn push_details(
 #[tactic(auto, using(crate::proofs::Slots::detail_rules))]
 fn push_selected(
     text: &mut Vec<u8>,
-    options: Options,
+    options: Options<'_>,
     timer: &RawTimer,
     cookie: &[u8; 8],
     found: &Attributes<'_>,
 ) -> Result<(), AllocError>
     ensures { OnOk result (text.new.items ≡ text.old.items
-        ++ details options timer.now cookie.now (collected found.now)) }
+        ++ details options.entry timer.now cookie.now (collected found.now)) }
 {
     push_shown_timer(text, options, timer)?;
     push_shown_cookie(text, options, cookie)?;
@@ -75,12 +75,12 @@ fn push_selected(
 /// its group of details.
 fn push_valid(
     text: &mut Vec<u8>,
-    options: Options,
+    options: Options<'_>,
     sockets: Sockets,
     slots: &[Option<Valid<'_>>],
 ) -> Result<(), AllocError>
     ensures { OnOk result (text.new.items ≡ text.old.items
-        ++ flat_map (λ slot. valid_detail options sockets (slot_value slot)) slots.now) }
+        ++ flat_map (λ slot. valid_detail options.entry sockets (slot_value slot)) slots.now) }
 {
     for slot in slots {
         if let Some((kind, value)) = slot {
@@ -94,13 +94,13 @@ fn push_valid(
 /// its group of details.
 fn push_facts(
     text: &mut Vec<u8>,
-    options: Options,
+    options: Options<'_>,
     sockets: Sockets,
     kind: u16,
     value: &AnyNla<'_>,
 ) -> Result<(), AllocError>
     ensures { OnOk result (text.new.items ≡ text.old.items
-        ++ valid_detail options sockets (Some (kind, any_model value.now))) }
+        ++ valid_detail options.entry sockets (Some (kind, any_model value.now))) }
 {
     if !options.shows(detail_group(sockets, kind)) {
         return Ok(());
@@ -112,12 +112,12 @@ fn push_facts(
 /// Appends each unknown or invalid attribute, if the options select its group of details.
 fn push_others(
     text: &mut Vec<u8>,
-    options: Options,
+    options: Options<'_>,
     sockets: Sockets,
     others: &[(NlaBuffer<'_>, Status)],
 ) -> Result<(), AllocError>
     ensures { OnOk result (text.new.items ≡ text.old.items
-        ++ flat_map (λ other. other_detail options sockets (other_model other)) others.now) }
+        ++ flat_map (λ other. other_detail options.entry sockets (other_model other)) others.now) }
 {
     for (nla, status) in others {
         if options.shows(detail_group(sockets, nla.kind())) {

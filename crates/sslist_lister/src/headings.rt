@@ -14,9 +14,13 @@ use std::alloc::{AllocError, Global};
 
 /// Returns the text before a table: a caption with the name of its file if `name` is given, and
 /// the heading. It is empty with `-H` and with `--json`. Names are shown as names of sockets are.
-pub fn heading(alloc: Global, options: Options, name: Option<&str>) -> Result<Vec<u8>, AllocError>
+pub fn heading(
+    alloc: Global,
+    options: Options<'_>,
+    name: Option<&str>,
+) -> Result<Vec<u8>, AllocError>
     ensures { IfOk result (λ text. text.items
-        ≡ text_before_table options (option_map (λ file. file.now) name.entry) HEADING.now) }
+        ≡ text_before_table options.entry (option_map (λ file. file.now) name.entry) HEADING.now) }
 {
     let mut text = Vec::new(alloc);
     if options.no_heading || options.json {
@@ -46,12 +50,12 @@ fn push_caption(text: &mut Vec<u8>, utf8: bool, name: Option<&str>) -> Result<()
 /// Appends nothing if the request is not a repetition, and with `-H` and `--json`.
 pub(crate) fn push_list_heading(
     text: &mut Vec<u8>,
-    options: Options,
+    options: Options<'_>,
     header: &PacketHeader,
     is_repetition: bool,
 ) -> Result<(), AllocError>
     ensures { OnOk result (text.new.items ≡ text.old.items
-        ++ list_heading options header.now HEADING.now is_repetition) }
+        ++ list_heading options.entry header.now HEADING.now is_repetition) }
 {
     if !is_repetition || options.no_heading || options.json {
         return Ok(());

@@ -42,14 +42,15 @@ mod request_line;
 mod requests;
 mod sctp;
 mod sctp_addresses;
+mod selection;
 mod stream;
 mod tcp;
 mod texts;
 mod ulp_info;
 
 pub use command_line::{
-    AddressCondition, Choice, Detail, Family, ListCapture, Options, PortCondition, Rejection,
-    SocketFilter, choose, list_captures, names_several,
+    Choice, Detail, Family, ListCapture, Options, Rejection, choose, filter_text, list_captures,
+    names_several,
 };
 pub use error_text::push_decode_error;
 pub use headings::heading;
@@ -71,12 +72,12 @@ pub const VERSION: &str = "1.0.0";
 
 /// The text that `sslist --help` prints.
 pub const HELP: &str = "\
-Usage: sslist [OPTION ..] [FILE ..]
+Usage: sslist [OPTION ..] [FILE ..] [-- FILTER]
 
 Lists the sockets in captures of netlink traffic: in each FILE, or in standard
 input if there is none, or if FILE is -. A capture is in pcap or pcapng format,
 as written by tcpdump -i nlmon0 -w -, or by sockdump, which records the sockets
-of this machine: sockdump | sslist. Arguments after -- are files.
+of this machine: sockdump | sslist.
 
 Select sockets (several options add up):
   -t, --tcp              TCP sockets
@@ -93,23 +94,19 @@ Select sockets (several options add up):
   -l, --listening        only listening sockets: states LISTEN and UNCONN
   -a, --all              sockets in all states (default)
 
-Filter sockets (a socket is listed if it meets all of these):
-      --state=STATE      in this state; several options add up
-      --sport=PORT       IPv4 and IPv6 sockets with this local port
-      --dport=PORT       IPv4 and IPv6 sockets with this remote port
-      --src=ADDRESS      IPv4 or IPv6 sockets with this local address
-      --dst=ADDRESS      IPv4 or IPv6 sockets with this remote address
+Filter sockets (by the words of ss(8), after --):
+  sslist FILE -- state established '( dport = :443 or src 10.0.0.0/8 )'
+  state STATE, exclude STATE  the states, first of all; they replace -l and -a
+  sport, dport                a port: 443 or :443, after =, !=, <, >, <= or >=
+  src, dst                    an address, /LENGTH and :PORT may follow it
+  dev, fwmark, cgroup         an index, a mark or MARK/MASK, an id; after = or !=
+  not, and, or, ( )           and a group begins and ends with a word of its own
   STATE is established (or estab), syn-sent, syn-recv (or syn-rcv), fin-wait-1,
   fin-wait-2, time-wait, closed (or close, unconnected, unconn), close-wait,
   last-ack, listening (or listen) or closing; or a group: all, connected (all
   but closed and listening), synchronized (connected but not syn-sent), bucket
-  (syn-recv and time-wait), big (all but bucket). Case does not matter. Such an
-  option replaces -l and -a.
-  PORT is a number, not a name: N is port N, N-M is N to M, N- is N or more, -M
-  is M or less. ADDRESS is IPv4, for IPv4 sockets, or IPv6, for IPv6 sockets.
-  ADDRESS/LENGTH is all addresses with the same first LENGTH bits: 10.0.0.0/8.
-  Of several for the same port or address the last one counts. Filters written
-  as in ss(8), such as state listening, are taken as names of files.
+  (syn-recv and time-wait), big (all but bucket). Case does not matter. Only
+  IPv4 and IPv6 sockets meet other words. Only numbers, no names.
 
 Select details (all by default; several options add up):
   -o, --options          the timer
@@ -145,7 +142,7 @@ Exit status:
 /// or a packet had an error.
 pub fn run_to_status<R: Source, W: Sink, E: Sink>(
     alloc: Global,
-    options: Options,
+    options: Options<'_>,
     front: &str,
     heading: &[u8],
     input: &mut R,
@@ -158,7 +155,7 @@ pub fn run_to_status<R: Source, W: Sink, E: Sink>(
         × ((exit_status result ≡ 0) ↔ (outcome ≡ Ok true))
         × ((exit_status result ≡ 1) ↔ ¬ (outcome ≡ Ok true))
         × ListingEndsReported (record {
-          options = options;
+          options = options.entry;
           heading = heading.now;
           front = front.now;
           left_before = R.left input.old;

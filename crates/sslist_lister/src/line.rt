@@ -20,7 +20,6 @@ ghost use Rattle.sslist_lister.specs.JsonListing.{inet_output, unix_output};
 ghost use Rattle.sslist_lister.specs.JsonSockets.{inet_header_members, unix_header_members};
 ghost use Rattle.sslist_lister.specs.Listing.{after_header, header_lines, inet_reply_lines};
 ghost use Rattle.sslist_lister.specs.Listing.{reply_error, reply_lines};
-ghost use Rattle.sslist_lister.specs.Selection.{lists_inet};
 ghost use Rattle.sslist_lister.specs.Table.{inet_columns, inet_first_columns, inet_lines};
 ghost use Rattle.sslist_lister.specs.Table.{inet_sockets, unix_columns, unix_first_columns};
 ghost use Rattle.sslist_lister.specs.Table.{unix_lines};
@@ -34,7 +33,8 @@ use crate::kinds::{name_of_inet_kind, name_of_unix_kind};
 use crate::name_cells::push_name_column;
 use crate::others::push_other;
 use crate::protocol::protocol_in;
-use crate::sctp::{is_association, name_of_inet_state, tcp_state_of};
+use crate::sctp::{is_association, name_of_inet_state};
+use crate::selection::lists_inet;
 use crate::texts::cells::{
     Cells, name_of_state, push_endpoint, push_endpoint_column, push_first_columns,
     push_number_or_star,
@@ -44,9 +44,7 @@ use netlink_core::DecodeError;
 use sock_diag_attributes::unix::nlas::NameView;
 use sock_diag_extras::any::{AnyHeader, AnyNla, InfoFormat, RawTimer, Sockets};
 use sock_diag_extras::constants::UNIX_DIAG_UID;
-use sock_diag_records::constants::{
-    AF_INET6, IPPROTO_SCTP, UNIX_DIAG_NAME, UNIX_DIAG_PEER, UNIX_DIAG_RQLEN,
-};
+use sock_diag_records::constants::{IPPROTO_SCTP, UNIX_DIAG_NAME, UNIX_DIAG_PEER, UNIX_DIAG_RQLEN};
 use sock_diag_records::inet::InetResponseHeader;
 use sock_diag_records::unix::UnixResponseHeader;
 use std::alloc::AllocError;
@@ -69,13 +67,13 @@ const NO_INTERFACE: u32 = 0;
 /// not such an error. A reply about a socket of an unknown family has no lines and no error.
 pub(crate) fn push_reply(
     text: &mut Vec<u8>,
-    options: Options,
+    options: Options<'_>,
     list: u64,
     requested: Option<u32>,
     message_type: u16,
     payload: &[u8],
 ) -> Result<Option<DecodeError>, AllocError>
-    ensures lines { OnOk result (text.new.items ≡ text.old.items ++ reply_lines options list
+    ensures lines { OnOk result (text.new.items ≡ text.old.items ++ reply_lines options.entry list
         requested payload.now (any_header payload.now message_type)) }
     ensures error { IfOk result (λ error.
         error ≡ reply_error payload.now (any_header payload.now message_type)) }
@@ -92,7 +90,7 @@ pub(crate) fn push_reply(
 /// any.
 fn push_socket(
     text: &mut Vec<u8>,
-    options: Options,
+    options: Options<'_>,
     list: u64,
     requested: Option<u32>,
     header: AnyHeader,
@@ -100,7 +98,7 @@ fn push_socket(
 ) -> Result<Option<DecodeError>, AllocError>
     requires { header_size header ≤ length payload.now }
     ensures lines { OnOk result (text.new.items ≡ text.old.items
-        ++ header_lines options list requested payload.now header) }
+        ++ header_lines options.entry list requested payload.now header) }
     ensures error { IfOk result
         (λ error. error ≡ framing_error_of (pieces_in (after_header payload.now header))) }
 {
@@ -130,12 +128,12 @@ fn after_header<'a>(payload: &'a [u8], header: &AnyHeader) -> &'a [u8]
 /// are its attributes. Returns the error of the bytes after the last attribute, if there are any.
 fn push_unix(
     text: &mut Vec<u8>,
-    options: Options,
+    options: Options<'_>,
     list: u64,
     header: &UnixResponseHeader,
     bytes: &[u8],
 ) -> Result<Option<DecodeError>, AllocError>
-    ensures lines { OnOk result (text.new.items ≡ text.old.items ++ unix_output options list
+    ensures lines { OnOk result (text.new.items ≡ text.old.items ++ unix_output options.entry list
         header.now (summary_of Unix bytes.now)) }
     ensures error { IfOk result
         (λ error. error ≡ framing_error_of (pieces_in bytes.now)) }
@@ -152,15 +150,15 @@ fn push_unix(
 /// its line of JSON.
 fn push_unix_lines(
     text: &mut Vec<u8>,
-    options: Options,
+    options: Options<'_>,
     list: u64,
     header: &UnixResponseHeader,
     found: &Attributes<'_>,
 ) -> Result<(), AllocError>
     ensures { OnOk result (text.new.items ≡ text.old.items
-        ++ (if options.json
+        ++ (if options.entry.json
         then socket_json list (unix_header_members header.now) (collected found.now)
-        else unix_lines options header.now (collected found.now))) }
+        else unix_lines options.entry header.now (collected found.now))) }
 {
     if options.json {
         return push_json(text, list, header, found);
@@ -173,12 +171,12 @@ fn push_unix_lines(
 /// Appends the columns of a UNIX socket.
 fn push_unix_columns(
     text: &mut Vec<u8>,
-    options: Options,
+    options: Options<'_>,
     header: &UnixResponseHeader,
     found: &Attributes<'_>,
 ) -> Result<(), AllocError>
     ensures { OnOk result (text.new.items ≡ text.old.items
-        ++ unix_columns options header.now (collected found.now)) }
+        ++ unix_columns options.entry header.now (collected found.now)) }
 {
     let cells = unix_cells(header, queues_in(found), user_in(found));
     push_first_columns(text, &cells)?;
@@ -268,7 +266,7 @@ pub(crate) struct InetSocket {
 /// last attribute, if there are any.
 fn push_inet(
     text: &mut Vec<u8>,
-    options: Options,
+    options: Options<'_>,
     list: u64,
     requested: Option<u32>,
     header: InetResponseHeader,
@@ -276,7 +274,7 @@ fn push_inet(
     bytes: &[u8],
 ) -> Result<Option<DecodeError>, AllocError>
     ensures lines { OnOk result (text.new.items ≡ text.old.items
-        ++ inet_reply_lines options list requested header timer bytes.now) }
+        ++ inet_reply_lines options.entry list requested header timer bytes.now) }
     ensures error { IfOk result
         (λ error. error ≡ framing_error_of (pieces_in bytes.now)) }
 {
@@ -300,7 +298,7 @@ fn push_inet(
 /// if it is about other sockets, by the protocol of the socket.
 fn push_inet_socket(
     text: &mut Vec<u8>,
-    options: Options,
+    options: Options<'_>,
     list: u64,
     socket: &InetSocket,
     found: &Attributes<'_>,
@@ -308,8 +306,9 @@ fn push_inet_socket(
     bytes: &[u8],
 ) -> Result<(), AllocError>
     requires { collected found.now ≡ summary_of asked bytes.now }
-    ensures { OnOk result (text.new.items ≡ text.old.items ++ inet_output options list socket.now
-        (summary_of (inet_sockets socket.now.protocol socket.now.is_association) bytes.now)) }
+    ensures { OnOk result (text.new.items ≡ text.old.items
+        ++ inet_output options.entry list socket.now (summary_of
+        (inet_sockets socket.now.protocol socket.now.is_association) bytes.now)) }
 {
     let sockets = inet_sockets(socket.protocol, socket.is_association);
     if are_same(sockets, asked) {
@@ -329,14 +328,14 @@ fn are_same(sockets: Sockets, others: Sockets) -> bool
 /// attributes, which are read as those of a reply about these sockets.
 fn push_inet_again(
     text: &mut Vec<u8>,
-    options: Options,
+    options: Options<'_>,
     list: u64,
     socket: &InetSocket,
     sockets: Sockets,
     bytes: &[u8],
 ) -> Result<(), AllocError>
-    ensures { OnOk result (text.new.items ≡ text.old.items ++ inet_output options list socket.now
-        (summary_of sockets bytes.now)) }
+    ensures { OnOk result (text.new.items ≡ text.old.items
+        ++ inet_output options.entry list socket.now (summary_of sockets bytes.now)) }
 {
     let mut found = Attributes::new(*text.allocator(), sockets);
     found.collect(bytes)?;
@@ -347,15 +346,15 @@ fn push_inet_again(
 /// select it.
 fn push_inet_output(
     text: &mut Vec<u8>,
-    options: Options,
+    options: Options<'_>,
     list: u64,
     socket: &InetSocket,
     found: &Attributes<'_>,
 ) -> Result<(), AllocError>
     ensures { OnOk result (text.new.items ≡ text.old.items
-        ++ inet_output options list socket.now (collected found.now)) }
+        ++ inet_output options.entry list socket.now (collected found.now)) }
 {
-    if lists_inet(options, socket) {
+    if lists_inet(options, socket, found) {
         push_inet_lines(text, options, list, socket, found)
     } else {
         Ok(())
@@ -366,14 +365,14 @@ fn push_inet_output(
 /// line of JSON.
 fn push_inet_lines(
     text: &mut Vec<u8>,
-    options: Options,
+    options: Options<'_>,
     list: u64,
     socket: &InetSocket,
     found: &Attributes<'_>,
 ) -> Result<(), AllocError>
-    ensures { OnOk result (text.new.items ≡ text.old.items ++ (if options.json
+    ensures { OnOk result (text.new.items ≡ text.old.items ++ (if options.entry.json
         then socket_json list (inet_header_members socket.now) (collected found.now)
-        else inet_lines options socket.now (collected found.now))) }
+        else inet_lines options.entry socket.now (collected found.now))) }
 {
     if options.json {
         return push_json(text, list, socket, found);
@@ -382,24 +381,6 @@ fn push_inet_lines(
     let cookie = &socket.header.socket_id.cookie;
     push_details(text, options, &socket.timer, cookie, found)?;
     Ok(text.push(b'\n')?)
-}
-
-/// Returns whether the options select an IPv4 or IPv6 socket: they list its protocol, its IP
-/// version and its state, and its ports and addresses meet their conditions.
-fn lists_inet(options: Options, socket: &InetSocket) -> bool
-    ensures { result ≡ lists_inet options socket.now }
-{
-    let header = &socket.header;
-    let id = &header.socket_id;
-    options.lists_protocol(socket.protocol)
-        && options.lists_version(header.family == AF_INET6)
-        && options.lists_state(tcp_state_of(socket.is_association, header.state))
-        && options
-            .filter
-            .meets_ports(id.source_port, id.destination_port)
-        && options
-            .filter
-            .meets_addresses(id.source_address, id.destination_address)
 }
 
 /// Returns the sockets that a reply about an IPv4 or IPv6 socket of this protocol is about. The

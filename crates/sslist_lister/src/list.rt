@@ -106,12 +106,12 @@ struct Position {
 pub fn list_packet(
     written: &mut PacketOutput<'_>,
     requests: &mut Requests,
-    options: Options,
+    options: Options<'_>,
     number: u64,
     packet: &[u8],
     header: &PacketHeader,
 ) -> Result<bool, AllocError>
-    ensures lists { IfOk result (ListsCapturedPacket options (past_requests requests.old)
+    ensures lists { IfOk result (ListsCapturedPacket options.entry (past_requests requests.old)
         (captured_packet packet.now header.now) written.old.lines.items written.new.lines.items) }
     ensures asked { OnOk result (past_requests requests.new
         ≡ requests_after_packet (past_requests requests.old) packet.now) }
@@ -133,13 +133,13 @@ pub fn list_packet(
 fn list_content(
     written: &mut PacketOutput<'_>,
     requests: &mut Requests,
-    options: Options,
+    options: Options<'_>,
     number: u64,
     is_whole: bool,
     packet: &[u8],
     header: &PacketHeader,
 ) -> Result<bool, AllocError>
-    ensures lists { IfOk result (ListsPacket options (past_requests requests.old)
+    ensures lists { IfOk result (ListsPacket options.entry (past_requests requests.old)
         (captured_packet packet.now header.now) written.old.lines.items written.new.lines.items) }
     ensures asked { OnOk result (past_requests requests.new
         ≡ requests_after_packet (past_requests requests.old) packet.now) }
@@ -185,13 +185,13 @@ fn push_short_if_whole(
 fn list_sock_diag(
     written: &mut PacketOutput<'_>,
     requests: &mut Requests,
-    options: Options,
+    options: Options<'_>,
     number: u64,
     is_whole: bool,
     datagram: &[u8],
     header: &PacketHeader,
 ) -> Result<bool, AllocError>
-    ensures lists { IfOk result (ListsDatagram options (past_requests requests.old) header.now
+    ensures lists { IfOk result (ListsDatagram options.entry (past_requests requests.old) header.now
         datagram.now written.old.lines.items written.new.lines.items) }
     ensures asked { OnOk result (past_requests requests.new
         ≡ requests_after_datagram (past_requests requests.old) datagram.now) }
@@ -218,13 +218,13 @@ fn list_sock_diag(
 fn list_datagram(
     written: &mut PacketOutput<'_>,
     requests: &Requests,
-    options: Options,
+    options: Options<'_>,
     number: u64,
     is_whole: bool,
     datagram: &[u8],
 ) -> Result<bool, AllocError>
-    ensures lists { IfOk result (ListsMessages options (past_requests requests.now) datagram.now
-        written.old.lines.items written.new.lines.items) }
+    ensures lists { IfOk result (ListsMessages options.entry (past_requests requests.now)
+        datagram.now written.old.lines.items written.new.lines.items) }
     ensures diagnosed { OnOk result (DiagnosesMessages written.old.front.now number is_whole
         datagram.now written.old.diagnostics.items written.new.diagnostics.items) }
     ensures front { written.new.front ≡ written.old.front }
@@ -299,12 +299,12 @@ fn next_number(count: u64, limit: usize) -> u64
 fn list_message(
     written: &mut PacketOutput<'_>,
     requests: &Requests,
-    options: Options,
+    options: Options<'_>,
     position: Position,
     message: &Message<'_>,
 ) -> Result<bool, AllocError>
     ensures lines { OnOk result (written.new.lines.items ≡ written.old.lines.items
-        ++ message_lines options (past_requests requests.now) (message_parts message.now)) }
+        ++ message_lines options.entry (past_requests requests.now) (message_parts message.now)) }
     ensures clean { IfOk result (λ is_clean. is_clean
         ≡ is_clean_message (message_parts message.now)) }
     ensures diagnosed { OnOk result (written.new.diagnostics.items ≡ written.old.diagnostics.items
@@ -346,11 +346,11 @@ fn is_none_or_informational(diagnostic: &Option<Diagnostic>) -> bool
 fn push_message(
     lines: &mut Vec<u8>,
     requests: &Requests,
-    options: Options,
+    options: Options<'_>,
     message: &Message<'_>,
 ) -> Result<Option<Diagnostic>, AllocError>
     ensures lines { OnOk result (lines.new.items ≡ lines.old.items
-        ++ message_lines options (past_requests requests.now) (message_parts message.now)) }
+        ++ message_lines options.entry (past_requests requests.now) (message_parts message.now)) }
     ensures diagnostic { IfOk result (λ diagnostic. diagnostic
         ≡ message_diagnostic message.now.header.message_type message.now.payload.now) }
 {

@@ -89,14 +89,14 @@ pub(crate) trait Listed: JsonHeader {
 /// attributes. Returns the error of the bytes after the last attribute, if there are any.
 pub(crate) fn push_other<H: Listed>(
     text: &mut Vec<u8>,
-    options: Options,
+    options: Options<'_>,
     list: u64,
     header: &H,
     bytes: &[u8],
 ) -> Result<Option<DecodeError>, AllocError>
     ensures lines { let summary = summary_of H.listed_sockets bytes.now in
         OnOk result (text.new.items ≡ text.old.items
-        ++ other_output options list (H.listed header.now summary) (H.json_members header.now)
+        ++ other_output options.entry list (H.listed header.now summary) (H.json_members header.now)
         summary) }
     ensures error { IfOk result
         (λ error. error ≡ framing_error_of (pieces_in bytes.now)) }
@@ -112,14 +112,15 @@ pub(crate) fn push_other<H: Listed>(
 /// `found`, if the options select it: its lines of the table, or its line of JSON.
 fn push_output<H: Listed>(
     text: &mut Vec<u8>,
-    options: Options,
+    options: Options<'_>,
     list: u64,
     header: &H,
     socket: &OtherSocket,
     found: &Attributes<'_>,
 ) -> Result<(), AllocError>
-    ensures { OnOk result (text.new.items ≡ text.old.items ++ other_output options list socket.now
-        (H.json_members header.now) (collected found.now)) }
+    ensures { OnOk result (text.new.items ≡ text.old.items
+        ++ other_output options.entry list socket.now (H.json_members header.now)
+        (collected found.now)) }
 {
     if !options.lists_family(socket.family, socket.state) {
         return Ok(());
@@ -134,12 +135,12 @@ fn push_output<H: Listed>(
 #[tactic(auto, using(crate::proofs::Adding::three_texts_concatenate))]
 fn push_lines(
     text: &mut Vec<u8>,
-    options: Options,
+    options: Options<'_>,
     socket: &OtherSocket,
     found: &Attributes<'_>,
 ) -> Result<(), AllocError>
     ensures { OnOk result (text.new.items ≡ text.old.items
-        ++ other_lines options socket.now (collected found.now)) }
+        ++ other_lines options.entry socket.now (collected found.now)) }
 {
     push_other_columns(text, socket, found)?;
     let mut cookie = [0; 8];

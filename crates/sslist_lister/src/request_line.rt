@@ -26,12 +26,12 @@ use std::alloc::AllocError;
 /// of its capture.
 pub(crate) fn push_shown_request(
     text: &mut Vec<u8>,
-    options: Options,
+    options: Options<'_>,
     header: &PacketHeader,
     request: &Message<'_>,
 ) -> Result<(), AllocError>
     ensures { OnOk result (text.new.items ≡ text.old.items
-        ++ request_line_if_selected options header.now (message_parts request.now)) }
+        ++ request_line_if_selected options.entry header.now (message_parts request.now)) }
 {
     if !options.requests || options.json {
         return Ok(());

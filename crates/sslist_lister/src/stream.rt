@@ -30,7 +30,7 @@ use std::alloc::Global;
 /// streams.
 pub fn run<R: Source, W: Sink, E: Sink>(
     alloc: Global,
-    options: Options,
+    options: Options<'_>,
     front: &str,
     heading: &[u8],
     input: &mut R,
@@ -39,7 +39,7 @@ pub fn run<R: Source, W: Sink, E: Sink>(
     is_open: &mut bool,
 ) -> Result<bool, ListError>
     ensures ended { ListingEnds (record {
-      options = options;
+      options = options.entry;
       heading = heading.now;
       front = front.now;
       left_before = R.left input.old;

@@ -2,26 +2,19 @@
 use Rattle.std.specs.Prelude.{◌≡◌, ◌≢◌, ℕ, ◌+◌, ◌-◌, ◌||◌, ◌==◌, if◌then◌else◌, not, Bool, true}
 use Rattle.std.specs.Prelude.{false, List, [], ◌∷◌, Option, Some, None, bytes_eq, codes, drop, find}
 use Rattle.std.specs.Prelude.{fold, is_some, length, nat_eq, nat_lt, option_map, slice_index, take}
-use Rattle.std.specs.Prelude.{bit_or, unwrap_or}
+use Rattle.std.specs.Prelude.{unwrap_or}
 use Rattle.std.specs.List.{ends_with, list_any, starts_with}
 use Rattle.std.specs.Option.{option_map_or}
-use Rattle.sslist_lister.specs.declared.command_line.addresses.AddressCondition.{AddressCondition}
 use Rattle.sslist_lister.specs.declared.command_line.arguments.Argument.{Argument}
 use Rattle.sslist_lister.specs.declared.command_line.arguments.Argument.TheVariants as parsed_as
-use Rattle.sslist_lister.specs.declared.command_line.arguments.End.{End}
-use Rattle.sslist_lister.specs.declared.command_line.arguments.End.TheVariants.{Local, Remote}
-use Rattle.sslist_lister.specs.declared.command_line.arguments.Valued.{Valued}
-use Rattle.sslist_lister.specs.declared.command_line.arguments.Valued.TheVariants as valued
 use Rattle.sslist_lister.specs.declared.command_line.arguments.Place.{Place}
 use Rattle.sslist_lister.specs.declared.command_line.arguments.Place.TheVariants as places
-use Rattle.sslist_lister.specs.declared.command_line.arguments.TheConstants.{FAMILIES, FLAGS}
-use Rattle.sslist_lister.specs.declared.command_line.arguments.TheConstants.{LETTERS, VALUED}
+use Rattle.sslist_lister.specs.declared.command_line.arguments.TheConstants.{FAMILIES, FAMILY}
+use Rattle.sslist_lister.specs.declared.command_line.arguments.TheConstants.{FLAGS, LETTERS}
 use Rattle.sslist_lister.specs.declared.command_line.choice.Choice.{Choice}
 use Rattle.sslist_lister.specs.declared.command_line.choice.Choice.TheVariants as choices
 use Rattle.sslist_lister.specs.declared.command_line.choice.Rejection.{Rejection}
 use Rattle.sslist_lister.specs.declared.command_line.choice.Rejection.TheVariants as rejections
-use Rattle.sslist_lister.specs.declared.command_line.filter.PortCondition.{PortCondition}
-use Rattle.sslist_lister.specs.declared.command_line.filter.SocketFilter.{SocketFilter}
 use Rattle.sslist_lister.specs.declared.command_line.options.AnyFamily.{AnyFamily}
 use Rattle.sslist_lister.specs.declared.command_line.options.AnyFamily.TheVariants.{Inet, Inet6}
 use Rattle.sslist_lister.specs.declared.command_line.options.AnyFamily.TheVariants.{Netlink, Packet}
@@ -29,8 +22,6 @@ use Rattle.sslist_lister.specs.declared.command_line.options.AnyFamily.TheVarian
 use Rattle.sslist_lister.specs.declared.command_line.options.AnyFamily.TheVariants.{Xdp}
 use Rattle.sslist_lister.specs.declared.command_line.options.Options.{Options}
 use Rattle.sslist_lister.specs.Rows.{Text}
-use Rattle.sslist_lister.specs.command_line.Addresses.{address_condition}
-use Rattle.sslist_lister.specs.command_line.Filter.{port_condition, states_named}
 use Rattle.sslist_lister.specs.command_line.Text.{index_of}
 
 -- ---- letters
@@ -119,10 +110,6 @@ value_of (row ∷ later) name = if bytes_eq name row.0.now then Some row.1 else 
 unfoldable pub flag_argument : List ℕ → Option Argument
 flag_argument argument = value_of FLAGS argument
 
--- what the option with this name is about, which needs a value; None if there is no such option
-unfoldable pub valued_option : List ℕ → Option Valued
-valued_option name = value_of VALUED name
-
 -- ---- families
 
 -- the family of this name; None if there is none
@@ -170,26 +157,13 @@ letters_argument argument =
     else option_map_or (λ letter. parsed_as.Rejected (letter_rejection letter))
     (first_rejected_letter (drop 1 argument)) (parsed_as.Letters (ends_in_f argument))
 
--- `valued_argument option value`: what the value of an option is parsed as: the name of a family,
--- of a state or of a group of states, or a condition on the port or the address of an end; any
--- other text is rejected
-abbrev pub valued_argument : Valued → List ℕ → Argument
-valued_argument valued.Family value = family_argument rejections.UnknownFamilyValue value
-valued_argument valued.State value = option_map_or parsed_as.States (states_named value)
-    (parsed_as.Rejected rejections.UnknownStateValue)
-valued_argument (valued.Port end) value = option_map_or (parsed_as.Port end) (port_condition value)
-    (parsed_as.Rejected rejections.InvalidPortValue)
-valued_argument (valued.Address end) value =
-    option_map_or (parsed_as.Address end) (address_condition value)
-    (parsed_as.Rejected rejections.InvalidAddressValue)
-
 -- `named_value name value`: what the name of an option and its value are parsed as: rejected if
 -- there is no such option, or if it takes no value
 abbrev pub named_value : List ℕ → List ℕ → Argument
 named_value name value =
-    option_map_or (λ option. valued_argument option value) (valued_option name)
-    (parsed_as.Rejected (if is_some (flag_argument name) then rejections.UnexpectedValue
-    else rejections.UnknownOption))
+    if bytes_eq name FAMILY.now then family_argument rejections.UnknownFamilyValue value
+    else parsed_as.Rejected (if is_some (flag_argument name) then rejections.UnexpectedValue
+    else rejections.UnknownOption)
 
 -- what an argument is parsed as that begins with two hyphens and is not in `FLAGS`: the name of an
 -- option, an equals sign (61) and its value; any other one is rejected
@@ -197,7 +171,7 @@ abbrev pub long_argument : List ℕ → Argument
 long_argument argument =
     option_map_or (λ index. named_value (take index argument) (drop (index + 1) argument))
     (index_of 61 argument)
-    (parsed_as.Rejected (if is_some (valued_option argument) then rejections.MissingValue
+    (parsed_as.Rejected (if bytes_eq argument FAMILY.now then rejections.MissingValue
     else rejections.UnknownOption))
 
 -- what an option is parsed as
@@ -209,19 +183,19 @@ option_argument argument =
     else letters_argument argument)
 
 -- `argument_at place argument`: what an argument is parsed as at its place: as an option or a file,
--- as the name of a family, or as a file.
+-- as the name of a family, or as a word of the filter.
 abbrev pub argument_at : Place → List ℕ → Argument
 argument_at places.Any argument =
     if is_file argument then parsed_as.File else option_argument argument
 argument_at places.Family argument = family_argument rejections.UnknownFamily argument
-argument_at places.File argument = parsed_as.File
+argument_at places.Word argument = parsed_as.Word
 
 -- `next_place place parsed`: the place of the argument after one at `place` that is parsed as
--- `parsed`: the name of a family after letters that end in f, the name of a file after `--` and
+-- `parsed`: the name of a family after letters that end in f, a word of the filter after `--` and
 -- from then on.
 abbrev pub next_place : Place → Argument → Place
-next_place places.File parsed = places.File
-next_place place parsed_as.EndOfOptions = places.File
+next_place places.Word parsed = places.Word
+next_place place parsed_as.EndOfOptions = places.Word
 next_place place (parsed_as.Letters true) = places.Family
 next_place place parsed = places.Any
 
@@ -256,36 +230,21 @@ abbrev pub names_file : Argument → Bool
 names_file parsed_as.File = true
 names_file parsed = false
 
+-- the argument is a word of the filter
+abbrev pub is_word : Argument → Bool
+is_word parsed_as.Word = true
+is_word parsed = false
+
 -- ---- the command line
-
--- `with_end_port end condition filter`: the filter with this condition on the local or the remote
--- port; it replaces an earlier one
-abbrev pub with_end_port : End → PortCondition → SocketFilter → SocketFilter
-with_end_port Local condition filter = record filter { source_port = Some condition }
-with_end_port Remote condition filter = record filter { destination_port = Some condition }
-
--- `with_end_address end condition filter`: the filter with this condition on the local or the
--- remote address; it replaces an earlier one
-abbrev pub with_end_address : End → AddressCondition → SocketFilter → SocketFilter
-with_end_address Local condition filter = record filter { source_address = Some condition }
-with_end_address Remote condition filter = record filter { destination_address = Some condition }
 
 -- `with_argument options parsed argument`: `options`, and the options of the argument, which is
 -- parsed as `parsed`. Letters follow a hyphen, so that an argument of letters is not empty. A long
--- name means what its letter means. States add up. Of several conditions on the same port or
--- address the last one counts.
+-- name means what its letter means.
 abbrev pub with_argument : Options → Argument → List ℕ → Options
 with_argument options parsed_as.Utf8 argument = record options { utf8 = true }
 with_argument options parsed_as.Requests argument = record options { requests = true }
 with_argument options parsed_as.Json argument = record options { json = true }
 with_argument options (parsed_as.Sockets family) argument = with_family family options
-with_argument options (parsed_as.States states) argument = record options {
-  filter = record options.filter { states = bit_or options.filter.states states };
-}
-with_argument options (parsed_as.Port end condition) argument =
-    record options { filter = with_end_port end condition options.filter }
-with_argument options (parsed_as.Address end condition) argument =
-    record options { filter = with_end_address end condition options.filter }
 with_argument options (parsed_as.Letters needs_family) argument =
     if length argument == 0 then options else with_letters (drop 1 argument) options
 with_argument options (parsed_as.Letter letter) argument = with_letters (letter ∷ []) options
@@ -314,13 +273,7 @@ no_options = record {
   utf8 = false;
   requests = false;
   json = false;
-  filter = record {
-    states = 0;
-    source_port = None;
-    destination_port = None;
-    source_address = None;
-    destination_address = None;
-  };
+  filter = None;
 }
 
 -- `options_after options place arguments`: these options, and those of all these arguments, the

@@ -1,7 +1,7 @@
--- The captures that a command line names, and the exit status.
+-- The captures that a command line names, the exit status, and the text of the filter.
 use Rattle.std.specs.Prelude.{◌≡◌, ℕ, ◌==◌, if◌then◌else◌, List, [], ◌∷◌, ◌++◌, Option, Some, None}
-use Rattle.std.specs.Prelude.{bytes_eq, codes, filter, fold, map}
-use Rattle.sslist_lister.specs.command_line.Choice.{names_file, parsed_arguments}
+use Rattle.std.specs.Prelude.{bytes_eq, codes, filter, flat_map, fold, map}
+use Rattle.sslist_lister.specs.command_line.Choice.{is_word, names_file, parsed_arguments}
 use Rattle.sslist_lister.specs.declared.command_line.arguments.Place.{Place}
 use Rattle.sslist_lister.specs.declared.command_line.arguments.Place.TheVariants.{Any}
 
@@ -31,6 +31,17 @@ files_or_input (file ∷ files) = map capture_named (file ∷ files)
 -- the captures that the arguments name, in order
 abbrev pub captures_in : List (List ℕ) → List (Option (List ℕ))
 captures_in arguments = files_or_input (files_from Any arguments)
+
+-- `filter_text_from place arguments`: the text of the words of the filter among these arguments,
+-- each with a space after it. The first argument is at this place.
+abbrev pub filter_text_from : Place → List (List ℕ) → List ℕ
+filter_text_from place arguments = flat_map
+    (λ argument. if is_word argument.parsed then argument.bytes ++ codes " " else [])
+    (parsed_arguments place arguments)
+
+-- the text of the filter in the arguments
+abbrev pub filter_text : List (List ℕ) → List ℕ
+filter_text arguments = filter_text_from Any arguments
 
 -- `later_failure before status`: `status` unless it is 0, or else `before`
 abbrev pub later_failure : ℕ → ℕ → ℕ

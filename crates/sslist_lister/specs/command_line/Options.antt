@@ -1,6 +1,8 @@
 -- Selection of the sockets that are listed, and of the details that are shown.
 use Rattle.std.specs.Prelude.{ℕ, Bool, false, ◌||◌, ◌&&◌, not, ◌==◌, if◌then◌else◌, Option, None}
-use Rattle.std.specs.Prelude.{Some}
+use Rattle.std.specs.Prelude.{Some, length, option_and_then, option_map, unwrap_or}
+use Rattle.std.specs.Option.{option_map_or}
+use Rattle.sock_diag_filters.specs.States.{has_state}
 use Rattle.sslist_lister.specs.declared.command_line.options.Detail.{Detail}
 use Rattle.sslist_lister.specs.declared.command_line.options.Detail.TheVariants.{Timer, Extended}
 use Rattle.sslist_lister.specs.declared.command_line.options.Detail.TheVariants.{Memory, Connection}
@@ -11,7 +13,6 @@ use Rattle.sslist_lister.specs.declared.command_line.options.Options.{Options}
 use Rattle.sock_diag_records.specs.declared.constants.TheConstants.{TCP_CLOSE, TCP_LISTEN}
 use Rattle.sslist_lister.specs.declared.command_line.options.TheConstants.{IPPROTO_MPTCP}
 use Rattle.sslist_lister.specs.declared.command_line.options.TheConstants.{IPPROTO_TCP, IPPROTO_UDP}
-use Rattle.sslist_lister.specs.command_line.Filter.{has_endpoint_condition, has_state}
 
 -- `selects_detail options detail`: the option of this group of details is set
 abbrev pub selects_detail : Options → Detail → Bool
@@ -40,21 +41,31 @@ abbrev pub selects_sockets : Options → Bool
 selects_sockets options =
     selects_inet_protocol options || options.inet || options.inet6 || selects_other_family options
 
--- `lists_state options state`: no socket is left out because it is in this state. If there is an
--- option `--state` (`states` is not 0), these are its states. Else they are all, or with `-l` only
--- TCP_LISTEN and TCP_CLOSE, as in ss(8).
+-- the filter has conditions
+abbrev pub has_conditions : Options → Bool
+has_conditions options =
+    option_map_or (λ filter. not (length filter.now.parts.items == 0)) options.filter false
+
+-- `selects_state options state`: whether the filter selects sockets in this state; None if it names
+-- no states
+abbrev pub selects_state : Options → ℕ → Option Bool
+selects_state options state = option_and_then
+    (λ filter. option_map (λ states. has_state states state) filter.now.states) options.filter
+
+-- `lists_state options state`: no socket is left out because it is in this state. If the filter
+-- names states, it is one of these. Else it is any, or with `-l` TCP_LISTEN or TCP_CLOSE, as in
+-- ss(8).
 abbrev pub lists_state : Options → ℕ → Bool
-lists_state options state =
-    if not (options.filter.states == 0) then has_state options.filter.states state
-    else not options.listening || state == TCP_LISTEN || state == TCP_CLOSE
+lists_state options state = unwrap_or (selects_state options state)
+    (not options.listening || state == TCP_LISTEN || state == TCP_CLOSE)
 
 -- `lists_unix options state`: a UNIX socket in this state is listed. Three conditions must hold:
 -- `-x` is set, or no option that selects sockets is; sockets in this state are listed
--- (`lists_state`); and there is no condition on a port or an address of an IPv4 or IPv6 socket.
+-- (`lists_state`); and the filter has no conditions, which only IPv4 and IPv6 sockets meet.
 abbrev pub lists_unix : Options → ℕ → Bool
 lists_unix options state =
     (options.unix || not (selects_sockets options)) && lists_state options state
-    && not (has_endpoint_condition options.filter)
+    && not (has_conditions options)
 
 -- `selects_protocol options protocol`: the option of this protocol, a number IPPROTO_.., is set.
 -- None is a protocol that is not known, which can be any of the three.
@@ -87,9 +98,9 @@ selects_family options Xdp = options.xdp
 
 -- `lists_family options family state`: a socket of this family in this state is listed. Three
 -- conditions must hold: the option of the family is set, or no option that selects sockets is; the
--- state leaves no socket out; and there is no condition on a port or an address of an IPv4 or IPv6
--- socket.
+-- state leaves no socket out; and the filter has no conditions, which only IPv4 and IPv6 sockets
+-- meet.
 abbrev pub lists_family : Options → Family → ℕ → Bool
 lists_family options family state =
     (selects_family options family || not (selects_sockets options)) && lists_state options state
-    && not (has_endpoint_condition options.filter)
+    && not (has_conditions options)

@@ -1,5 +1,5 @@
 -- Columns that a cell takes in a terminal.
-use Rattle.std.specs.Prelude.{ℕ, ◌-◌, if◌then◌else◌, ◌&&◌, Bool, false, List, [], ◌∷◌, ◌++◌, chars}
+use Rattle.std.specs.Prelude.{ℕ, ◌+◌, ◌-◌, if◌then◌else◌, ◌&&◌, Bool, false, List, ◌++◌, chars}
 use Rattle.std.specs.Prelude.{length, replicate}
 use Rattle.std.specs.Str.{is_utf8}
 use Rattle.unicode_width.specs.Width.{str_width}
@@ -14,7 +14,7 @@ cell_width utf8 cell =
 -- `column_padding width used`: the spaces (32) after the content of a column, which is `used` wide:
 -- up to the width, and one more
 abbrev pub column_padding : ℕ → ℕ → List ℕ
-column_padding width used = replicate (width - used) 32 ++ 32 ∷ []
+column_padding width used = replicate (width - used + 1) 32
 
 -- `spaces_after utf8 width cell`: the spaces after a cell
 abbrev pub spaces_after : Bool → ℕ → List ℕ → List ℕ

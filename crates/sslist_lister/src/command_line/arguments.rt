@@ -6,19 +6,15 @@ ghost use Rattle.sslist_lister.specs.command_line.Choice.{argument_at, ends_in_f
 ghost use Rattle.sslist_lister.specs.command_line.Choice.{family_argument, family_named};
 ghost use Rattle.sslist_lister.specs.command_line.Choice.{first_rejected_letter};
 ghost use Rattle.sslist_lister.specs.command_line.Choice.{first_unknown_letter, flag_argument};
-ghost use Rattle.sslist_lister.specs.command_line.Choice.{is_file, letter_rejection};
+ghost use Rattle.sslist_lister.specs.command_line.Choice.{is_file, is_word, letter_rejection};
 ghost use Rattle.sslist_lister.specs.command_line.Choice.{letters_argument, listening_after};
 ghost use Rattle.sslist_lister.specs.command_line.Choice.{long_argument, named_value, names_file};
 ghost use Rattle.sslist_lister.specs.command_line.Choice.{next_place, option_argument};
-ghost use Rattle.sslist_lister.specs.command_line.Choice.{valued_argument, valued_option};
 ghost use Rattle.sslist_lister.specs.command_line.Choice.{with_argument, with_details};
-ghost use Rattle.sslist_lister.specs.command_line.Choice.{with_end_address, with_end_port};
 ghost use Rattle.sslist_lister.specs.command_line.Choice.{with_family, with_letters, with_sockets};
 ghost use Rattle.sslist_lister.specs.command_line.Choice.{without_last_f};
 
-use crate::command_line::addresses::{AddressCondition, address_condition};
 use crate::command_line::choice::Rejection;
-use crate::command_line::filter::{PortCondition, SocketFilter, port_condition, states_named};
 use crate::command_line::options::{AnyFamily, Options};
 use crate::command_line::text::index_of;
 
@@ -55,15 +51,8 @@ const FLAGS: [(&str, Argument); 25] = [
     ("--oneline", Argument::Letter(b'O')),
 ];
 
-/// The options with a value, such as `--sport=80`.
-const VALUED: [(&str, Valued); 6] = [
-    ("--family", Valued::Family),
-    ("--state", Valued::State),
-    ("--sport", Valued::Port(End::Local)),
-    ("--dport", Valued::Port(End::Remote)),
-    ("--src", Valued::Address(End::Local)),
-    ("--dst", Valued::Address(End::Remote)),
-];
+/// The option with a value, the name of a family.
+const FAMILY: &[u8] = b"--family";
 
 /// The families by their names, as the option `-f` of ss(8) has them.
 const FAMILIES: [(&str, AnyFamily); 8] = [
@@ -84,30 +73,8 @@ pub(crate) enum Place {
     Any,
     /// The name of a family, since the argument before it ends in the letter `f`.
     Family,
-    /// The name of a file, since it follows `--`.
-    File,
-}
-
-/// An end of a socket.
-#[derive(Clone, Copy)]
-pub(crate) enum End {
-    /// The local end.
-    Local,
-    /// The remote end.
-    Remote,
-}
-
-/// What an option with a value is about.
-#[derive(Clone, Copy)]
-enum Valued {
-    /// A family, by its name.
-    Family,
-    /// A state or a group of states, by its name.
-    State,
-    /// The port of an end.
-    Port(End),
-    /// The address of an end.
-    Address(End),
+    /// A word of the filter, since it follows `--`.
+    Word,
 }
 
 /// An argument of the command line.
@@ -125,12 +92,6 @@ pub(crate) enum Argument {
     Json,
     /// An option that selects sockets of a family, or the name of a family after `-f`.
     Sockets(AnyFamily),
-    /// `--state=`, with these states, a bit for each.
-    States(u32),
-    /// `--sport=` or `--dport=`, with this condition on the port of an end.
-    Port(End, PortCondition),
-    /// `--src=` or `--dst=`, with this condition on the address of an end.
-    Address(End, AddressCondition),
     /// A hyphen and letters, each of which is an option.
     Letters {
         /// The last letter is `f`, so that the next argument is the name of a family.
@@ -142,12 +103,14 @@ pub(crate) enum Argument {
     EndOfOptions,
     /// The name of a file, or `-` for standard input.
     File,
+    /// A word of the filter.
+    Word,
     /// An argument that is rejected, for this reason.
     Rejected(Rejection),
 }
 
 /// Parses an argument by its place: at `Any` as an option or the name of a file, at `Family` as the
-/// name of a family, at `File` as the name of a file. An invalid one is returned as `Rejected`.
+/// name of a family, at `Word` as a word of the filter. An invalid one is returned as `Rejected`.
 pub(crate) fn argument_at(place: Place, argument: &[u8]) -> Argument
     ensures { result ≡ argument_at place argument.now }
 {
@@ -155,7 +118,7 @@ pub(crate) fn argument_at(place: Place, argument: &[u8]) -> Argument
         Place::Any if is_file(argument) => Argument::File,
         Place::Any => option_argument(argument),
         Place::Family => family_argument(Rejection::UnknownFamily, argument),
-        Place::File => Argument::File,
+        Place::Word => Argument::Word,
     }
 }
 
@@ -209,18 +172,9 @@ fn long_argument(argument: &[u8]) -> Argument
 {
     match index_of(b'=', argument) {
         Some(index) => named_value(&argument[..index], &argument[index + 1..]),
-        None if valued_option(argument).is_some() => Argument::Rejected(Rejection::MissingValue),
+        None if argument == FAMILY => Argument::Rejected(Rejection::MissingValue),
         None => Argument::Rejected(Rejection::UnknownOption),
     }
-}
-
-/// Returns what the option with this name is about, which needs a value, or `None` if there is no
-/// such option.
-#[tactic(auto, unfolding(crate::specs::command_line::Choice::valued_option))]
-fn valued_option(name: &[u8]) -> Option<Valued>
-    ensures { result ≡ valued_option name.now }
-{
-    value_of(&VALUED, name)
 }
 
 /// Parses the name of an option and its value. It is rejected if there is no such option, or if the
@@ -228,32 +182,12 @@ fn valued_option(name: &[u8]) -> Option<Valued>
 fn named_value(name: &[u8], value: &[u8]) -> Argument
     ensures { result ≡ named_value name.now value.now }
 {
-    match valued_option(name) {
-        Some(option) => valued_argument(option, value),
-        None if flag_argument(name).is_some() => Argument::Rejected(Rejection::UnexpectedValue),
-        None => Argument::Rejected(Rejection::UnknownOption),
-    }
-}
-
-/// Parses the value of an option: the name of a family, of a state or of a group of states, or a
-/// condition on the port or the address of an end. Any other text is rejected.
-fn valued_argument(option: Valued, value: &[u8]) -> Argument
-    ensures { result ≡ valued_argument option value.now }
-{
-    match option {
-        Valued::Family => family_argument(Rejection::UnknownFamilyValue, value),
-        Valued::State => match states_named(value) {
-            Some(states) => Argument::States(states),
-            None => Argument::Rejected(Rejection::UnknownStateValue),
-        },
-        Valued::Port(end) => match port_condition(value) {
-            Some(condition) => Argument::Port(end, condition),
-            None => Argument::Rejected(Rejection::InvalidPortValue),
-        },
-        Valued::Address(end) => match address_condition(value) {
-            Some(condition) => Argument::Address(end, condition),
-            None => Argument::Rejected(Rejection::InvalidAddressValue),
-        },
+    if name == FAMILY {
+        family_argument(Rejection::UnknownFamilyValue, value)
+    } else if flag_argument(name).is_some() {
+        Argument::Rejected(Rejection::UnexpectedValue)
+    } else {
+        Argument::Rejected(Rejection::UnknownOption)
     }
 }
 
@@ -351,20 +285,27 @@ impl Argument {
         matches!(self, Argument::File)
     }
 
+    /// Returns whether an argument is a word of the filter.
+    pub(crate) fn is_word(self) -> bool
+        ensures { result ≡ is_word self }
+    {
+        matches!(self, Argument::Word)
+    }
+
     /// Returns the place of the next argument, after this one at `place`: the name of a family
-    /// after letters that end in `f`, the name of a file after `--` and from then on.
+    /// after letters that end in `f`, a word of the filter after `--` and from then on.
     pub(crate) fn next_place(self, place: Place) -> Place
         ensures { result ≡ next_place place self }
     {
         match (place, self) {
-            (Place::File, _) | (_, Argument::EndOfOptions) => Place::File,
+            (Place::Word, _) | (_, Argument::EndOfOptions) => Place::Word,
             (_, Argument::Letters { needs_family: true }) => Place::Family,
             _ => Place::Any,
         }
     }
 }
 
-impl Options {
+impl Options<'_> {
     /// Sets the options of an argument, if it has any. `parsed` is what [`argument_at`] returned
     /// for it.
     pub(crate) fn add_argument(&mut self, parsed: Argument, argument: &[u8])
@@ -375,9 +316,6 @@ impl Options {
             Argument::Requests => self.requests = true,
             Argument::Json => self.json = true,
             Argument::Sockets(family) => self.add_family(family),
-            Argument::States(states) => self.filter.states |= states,
-            Argument::Port(end, condition) => self.filter.set_port(end, condition),
-            Argument::Address(end, condition) => self.filter.set_address(end, condition),
             // The letters follow a hyphen, so the argument is never empty.
             Argument::Letters { .. } if !argument.is_empty() => self.add_letters(&argument[1..]),
             Argument::Letter(letter) => self.add_letters(&[letter]),
@@ -433,28 +371,6 @@ impl Options {
         self.inet |= letters.contains(&b'4');
         self.inet6 |= letters.contains(&b'6');
         self.listening = listening_after(self.listening, letters);
-    }
-}
-
-impl SocketFilter {
-    /// Sets the condition on the port of an end, local or remote.
-    fn set_port(&mut self, end: End, condition: PortCondition)
-        ensures { self.new ≡ with_end_port end condition self.old }
-    {
-        match end {
-            End::Local => self.source_port = Some(condition),
-            End::Remote => self.destination_port = Some(condition),
-        }
-    }
-
-    /// Sets the condition on the address of an end, local or remote.
-    fn set_address(&mut self, end: End, condition: AddressCondition)
-        ensures { self.new ≡ with_end_address end condition self.old }
-    {
-        match end {
-            End::Local => self.source_address = Some(condition),
-            End::Remote => self.destination_address = Some(condition),
-        }
     }
 }
 

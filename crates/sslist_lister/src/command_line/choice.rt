@@ -16,8 +16,7 @@ pub enum Rejection {
     /// It is a hyphen and letters. The first of them that is not an option at its place is here: an
     /// `f` that is not the last letter, or an `h` or `V` that is not the only one.
     MisplacedLetter(u8),
-    /// It is `--family`, `--state`, `--sport`, `--dport`, `--src` or `--dst` without an equals sign
-    /// and a value.
+    /// It is `--family` without an equals sign and a value.
     MissingValue,
     /// It is a long option that takes no value, with an equals sign and a value.
     UnexpectedValue,
@@ -25,13 +24,6 @@ pub enum Rejection {
     UnknownFamily,
     /// It is `--family=` with a value that is not the name of a family.
     UnknownFamilyValue,
-    /// It is `--state=` with a value that is not the name of a state or of a group of states.
-    UnknownStateValue,
-    /// It is `--sport=` or `--dport=` with a value that is not a port or a range of ports.
-    InvalidPortValue,
-    /// It is `--src=` or `--dst=` with a value that is not an IPv4 or IPv6 address, without or with
-    /// a slash and a number of its bits.
-    InvalidAddressValue,
 }
 
 /// The request of a command line.
@@ -45,14 +37,16 @@ pub enum Choice<'a> {
     Reject(Rejection, &'a str),
     /// Reject the command line: it ends in `-f`, without the name of a family.
     MissingFamily,
-    /// List captures with these options.
-    Captures(Options),
+    /// List captures with these options, and the filter that [`filter_text`] returns.
+    ///
+    /// [`filter_text`]: crate::filter_text
+    Captures(Options<'a>),
 }
 
 /// Returns what the arguments after the program's name request. The first one that requests the
 /// help text or the version, or is rejected ([`Rejection`]), decides. If there is none, captures
 /// are listed with the options of all arguments; but if the last one is letters that end in `f`,
-/// the name of a family is missing. Names of files are not considered.
+/// the name of a family is missing. Names of files and words of the filter are not considered.
 pub fn choose(arguments: &[String]) -> Choice<'_>
     ensures { IsChoice (map string_bytes arguments.entry.now) result }
 {
@@ -70,6 +64,6 @@ pub fn choose(arguments: &[String]) -> Choice<'_>
     }
     match place {
         Place::Family => Choice::MissingFamily,
-        Place::Any | Place::File => Choice::Captures(options),
+        Place::Any | Place::Word => Choice::Captures(options),
     }
 }

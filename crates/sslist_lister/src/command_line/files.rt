@@ -1,12 +1,15 @@
-//! Listing of the captures that a command line names.
+//! Listing of the captures that a command line names, and the text of its filter.
 
-ghost use Rattle.std.specs.Prelude.{◌≡◌, ◌↔◌, ◌<◌, [], IsTrue, List, length, map, option_map};
+ghost use Rattle.std.specs.Prelude.{◌≡◌, ◌↔◌, ◌<◌, [], IfOk, IsTrue, List, length, map};
+ghost use Rattle.std.specs.Prelude.{option_map};
 ghost use Rattle.std.specs.Prelude.{string_bytes};
 ghost use Rattle.std.specs.Process.{exit_status};
 ghost use Rattle.sslist_lister.specs.command_line.Files.{AddsListing, Listing, ListsAll};
-ghost use Rattle.sslist_lister.specs.command_line.Files.{capture_named, captures_in, later_failure};
+ghost use Rattle.sslist_lister.specs.command_line.Files.{capture_named, captures_in, filter_text};
+ghost use Rattle.sslist_lister.specs.command_line.Files.{later_failure};
 
 use crate::command_line::arguments::{Place, argument_at};
+use std::alloc::{AllocError, Global};
 use std::process::ExitCode;
 
 /// What lists a capture. `list_captures` is generic over it, so that its contract can name the
@@ -67,6 +70,23 @@ pub fn names_several(arguments: &[String]) -> bool
         place = parsed.next_place(place);
     }
     false
+}
+
+/// Returns the text of the filter: the arguments after `--`, each with a space after it.
+pub fn filter_text(alloc: Global, arguments: &[String]) -> Result<Vec<u8>, AllocError>
+    ensures { IfOk result (λ text. text.items ≡ filter_text (map string_bytes arguments.now)) }
+{
+    let mut text = Vec::new(alloc);
+    let mut place = Place::Any;
+    for argument in arguments {
+        let parsed = argument_at(place, argument.as_bytes());
+        if parsed.is_word() {
+            text.extend_from_slice(argument.as_bytes())?;
+            text.push(b' ')?;
+        }
+        place = parsed.next_place(place);
+    }
+    Ok(text)
 }
 
 /// Returns the name of the file, or `None` for `-`, which is standard input.

@@ -1,6 +1,7 @@
 //! Selection of the sockets that are listed, and of the details that are shown for each.
 
-ghost use Rattle.std.specs.Prelude.{◌≡◌};
+ghost use Rattle.std.specs.Prelude.{◌≡◌, Some};
+ghost use Rattle.sslist_lister.specs.command_line.Options.{has_conditions, selects_state};
 ghost use Rattle.sslist_lister.specs.command_line.Options.{selects_family, selects_detail};
 ghost use Rattle.sslist_lister.specs.command_line.Options.{lists_family, lists_state};
 ghost use Rattle.sslist_lister.specs.command_line.Options.{lists_protocol, lists_unix};
@@ -8,7 +9,7 @@ ghost use Rattle.sslist_lister.specs.command_line.Options.{lists_version, select
 ghost use Rattle.sslist_lister.specs.command_line.Options.{selects_other_family, selects_protocol};
 ghost use Rattle.sslist_lister.specs.command_line.Options.{selects_sockets, shows_detail};
 
-use crate::command_line::filter::SocketFilter;
+use sock_diag_filters::ParsedFilter;
 use sock_diag_records::constants::{TCP_CLOSE, TCP_LISTEN};
 
 /// The number of TCP in a request, `IPPROTO_TCP` of linux/in.h.
@@ -26,8 +27,8 @@ pub(crate) const IPPROTO_MPTCP: u32 = 262;
 /// If none of `timer`, `extended`, `memory` and `connection` is set, all details are shown. If none
 /// of `tcp`, `udp`, `mptcp`, `unix`, `netlink`, `packet`, `vsock`, `xdp`, `inet` and `inet6` is
 /// set, sockets of all families are listed.
-#[derive(Clone, Copy, Debug, Default, PartialEq, Eq)]
-pub struct Options {
+#[derive(Clone, Copy, Debug, Default)]
+pub struct Options<'a> {
     /// `-o`: show the timer.
     pub timer: bool,
     /// `-e`: show the cookie, and all details that `-o`, `-m` and `-i` do not show.
@@ -69,8 +70,8 @@ pub struct Options {
     pub requests: bool,
     /// `--json`: write a JSON object for each socket, and neither a heading nor a caption.
     pub json: bool,
-    /// `--state`, `--sport`, `--dport`, `--src`, `--dst`: conditions that a listed socket meets.
-    pub filter: SocketFilter,
+    /// The words after `--`: the filter that selects the sockets, if there is one.
+    pub filter: Option<&'a ParsedFilter>,
 }
 
 /// A group of details that an option selects.
@@ -112,11 +113,40 @@ pub(crate) enum AnyFamily {
     Xdp,
 }
 
-impl Options {
+impl Options<'_> {
+    /// Returns the same options with this filter.
+    pub fn with_filter<'b>(self, filter: &'b ParsedFilter) -> Options<'b>
+        ensures { result ≡ record self.entry { filter = Some filter.entry } }
+    {
+        Options {
+            timer: self.timer,
+            extended: self.extended,
+            memory: self.memory,
+            connection: self.connection,
+            one_line: self.one_line,
+            tcp: self.tcp,
+            udp: self.udp,
+            mptcp: self.mptcp,
+            unix: self.unix,
+            netlink: self.netlink,
+            packet: self.packet,
+            vsock: self.vsock,
+            xdp: self.xdp,
+            inet: self.inet,
+            inet6: self.inet6,
+            listening: self.listening,
+            no_heading: self.no_heading,
+            utf8: self.utf8,
+            requests: self.requests,
+            json: self.json,
+            filter: Some(filter),
+        }
+    }
+
     /// Returns whether a group of details is shown: if its option is set, or if none of `timer`,
     /// `extended`, `memory` and `connection` is set.
     pub fn shows(self, detail: Detail) -> bool
-        ensures { result ≡ shows_detail self detail }
+        ensures { result ≡ shows_detail self.entry detail }
     {
         self.selects_detail(detail)
             || !(self.timer || self.extended || self.memory || self.connection)
@@ -124,7 +154,7 @@ impl Options {
 
     /// Returns whether the option of a group of details is set.
     fn selects_detail(self, detail: Detail) -> bool
-        ensures { result ≡ selects_detail self detail }
+        ensures { result ≡ selects_detail self.entry detail }
     {
         match detail {
             Detail::Timer => self.timer,
@@ -135,14 +165,12 @@ impl Options {
     }
 
     /// Returns whether a UNIX socket in this state is listed. Three conditions must hold: `-x` is
-    /// set, or no option that selects sockets is; sockets in this state are listed; and there is no
-    /// condition on a port or an address of an IPv4 or IPv6 socket.
+    /// set, or no option that selects sockets is; sockets in this state are listed; and the filter
+    /// has no conditions, which only IPv4 and IPv6 sockets meet.
     pub fn lists_unix(self, state: u8) -> bool
-        ensures { result ≡ lists_unix self state }
+        ensures { result ≡ lists_unix self.entry state }
     {
-        (self.unix || !self.selects_sockets())
-            && self.lists_state(state)
-            && !self.filter.has_endpoint_condition()
+        (self.unix || !self.selects_sockets()) && self.lists_state(state) && !self.has_conditions()
     }
 
     /// Returns whether no IPv4 or IPv6 socket is left out because of its protocol, a number
@@ -150,7 +178,7 @@ impl Options {
     /// or `-6` is set, or the option of no other family is. If the protocol is not known (`None`),
     /// any of the options of TCP, UDP and MPTCP counts.
     pub fn lists_protocol(self, protocol: Option<u32>) -> bool
-        ensures { result ≡ lists_protocol self protocol }
+        ensures { result ≡ lists_protocol self.entry protocol }
     {
         self.selects_protocol(protocol)
             || (!self.selects_inet_protocol()
@@ -160,7 +188,7 @@ impl Options {
     /// Returns whether the option of a protocol is set, or, if the protocol is not known (`None`),
     /// any of the options of TCP, UDP and MPTCP.
     fn selects_protocol(self, protocol: Option<u32>) -> bool
-        ensures { result ≡ selects_protocol self protocol }
+        ensures { result ≡ selects_protocol self.entry protocol }
     {
         match protocol {
             Some(IPPROTO_TCP) => self.tcp,
@@ -174,7 +202,7 @@ impl Options {
     /// Returns whether no IPv6 socket, or no IPv4 socket if `is_ipv6` is false, is left out because
     /// of its version: the option of this version is set, or that of the other one is not.
     pub fn lists_version(self, is_ipv6: bool) -> bool
-        ensures { result ≡ lists_version self is_ipv6 }
+        ensures { result ≡ lists_version self.entry is_ipv6 }
     {
         if is_ipv6 {
             self.inet6 || !self.inet
@@ -183,32 +211,48 @@ impl Options {
         }
     }
 
-    /// Returns whether no socket is left out because of its state. If there is an option `--state`,
-    /// the state has to be one of its states; else with `-l` `TCP_LISTEN` or `TCP_CLOSE`
-    /// (`UNCONN`).
+    /// Returns whether no socket is left out because of its state. If the filter names states, the
+    /// state has to be one of these; else with `-l` `TCP_LISTEN` or `TCP_CLOSE` (`UNCONN`).
     pub fn lists_state(self, state: u8) -> bool
-        ensures { result ≡ lists_state self state }
+        ensures { result ≡ lists_state self.entry state }
     {
-        if self.filter.states != 0 {
-            return self.filter.has_state(state);
+        match self.selects_state(state) {
+            Some(is_selected) => is_selected,
+            None => !self.listening || state == TCP_LISTEN || state == TCP_CLOSE,
         }
-        !self.listening || state == TCP_LISTEN || state == TCP_CLOSE
     }
 
     /// Returns whether a socket of a family in this state is listed. Three conditions must hold:
     /// the option of the family is set, or no option that selects sockets is; sockets in this state
-    /// are listed; and there is no condition on a port or an address of an IPv4 or IPv6 socket.
+    /// are listed; and the filter has no conditions, which only IPv4 and IPv6 sockets meet.
     pub fn lists_family(self, family: Family, state: u8) -> bool
-        ensures { result ≡ lists_family self family state }
+        ensures { result ≡ lists_family self.entry family state }
     {
         (self.selects_family(family) || !self.selects_sockets())
             && self.lists_state(state)
-            && !self.filter.has_endpoint_condition()
+            && !self.has_conditions()
+    }
+
+    /// Returns whether the filter has conditions.
+    fn has_conditions(self) -> bool
+        ensures { result ≡ has_conditions self.entry }
+    {
+        match self.filter {
+            Some(filter) => !filter.parts.is_empty(),
+            None => false,
+        }
+    }
+
+    /// Returns whether the filter selects sockets in a state, or `None` if it names no state.
+    fn selects_state(self, state: u8) -> Option<bool>
+        ensures { result ≡ selects_state self.entry state }
+    {
+        self.filter?.selects_state(state)
     }
 
     /// Returns whether the option of a family is set.
     fn selects_family(self, family: Family) -> bool
-        ensures { result ≡ selects_family self family }
+        ensures { result ≡ selects_family self.entry family }
     {
         match family {
             Family::Netlink => self.netlink,
@@ -220,7 +264,7 @@ impl Options {
 
     /// Returns whether an option that selects sockets is set, by protocol or by family.
     fn selects_sockets(self) -> bool
-        ensures { result ≡ selects_sockets self }
+        ensures { result ≡ selects_sockets self.entry }
     {
         self.selects_inet_protocol() || self.inet || self.inet6 || self.selects_other_family()
     }
@@ -228,14 +272,14 @@ impl Options {
     /// Returns whether the option of a protocol of IPv4 and IPv6 sockets is set: `-t`, `-u` or
     /// `-M`.
     fn selects_inet_protocol(self) -> bool
-        ensures { result ≡ selects_inet_protocol self }
+        ensures { result ≡ selects_inet_protocol self.entry }
     {
         self.tcp || self.udp || self.mptcp
     }
 
     /// Returns whether the option of a family other than IPv4 and IPv6 is set.
     fn selects_other_family(self) -> bool
-        ensures { result ≡ selects_other_family self }
+        ensures { result ≡ selects_other_family self.entry }
     {
         self.unix || self.netlink || self.packet || self.vsock || self.xdp
     }

@@ -82,12 +82,9 @@ pub(crate) fn end_column(text: &mut Vec<u8>, start: usize, width: usize) -> Resu
     ensures { OnOk result (text.new.items
         ≡ text.old.items ++ column_padding width (vec_len text.old - start)) }
 {
-    let Some(end) = start.checked_add(width) else {
-        // A text of such a length cannot be allocated.
-        return Err(AllocError);
-    };
-    text.resize(end.max(text.len()), b' ')?;
-    Ok(text.push(b' ')?)
+    // A text of a length that saturates cannot be allocated.
+    let end = start.saturating_add(width).max(text.len());
+    Ok(text.resize(end.saturating_add(1), b' ')?)
 }
 
 /// Appends a column: a text, spaces until it has `width` bytes, and one more space. A longer text

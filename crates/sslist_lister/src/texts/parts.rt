@@ -27,8 +27,8 @@ pub(crate) const NO_TIMER: RawTimer = RawTimer {
 
 /// Returns what separates the columns from the details: nothing with `-O`, or else a line feed and
 /// a tab.
-pub(crate) fn separator(options: Options) -> &'static [u8]
-    ensures { result.now ≡ separator options }
+pub(crate) fn separator(options: Options<'_>) -> &'static [u8]
+    ensures { result.now ≡ separator options.entry }
 {
     if options.one_line { b"" } else { b"\n\t" }
 }
@@ -38,10 +38,11 @@ pub(crate) fn separator(options: Options) -> &'static [u8]
 /// retransmits.
 pub(crate) fn push_shown_timer(
     text: &mut Vec<u8>,
-    options: Options,
+    options: Options<'_>,
     timer: &RawTimer,
 ) -> Result<(), AllocError>
-    ensures { OnOk result (text.new.items ≡ text.old.items ++ timer_if_shown options timer.now) }
+    ensures { OnOk result (text.new.items
+        ≡ text.old.items ++ timer_if_shown options.entry timer.now) }
 {
     if !options.shows(Detail::Timer) {
         return Ok(());
@@ -85,10 +86,11 @@ fn name_of_timer(kind: u8) -> &'static [u8]
 /// details `Extended` is shown.
 pub(crate) fn push_shown_cookie(
     text: &mut Vec<u8>,
-    options: Options,
+    options: Options<'_>,
     cookie: &[u8; 8],
 ) -> Result<(), AllocError>
-    ensures { OnOk result (text.new.items ≡ text.old.items ++ cookie_if_shown options cookie.now) }
+    ensures { OnOk result (text.new.items
+        ≡ text.old.items ++ cookie_if_shown options.entry cookie.now) }
 {
     if !options.shows(Detail::Extended) {
         return Ok(());
