@@ -1,8 +1,9 @@
 /*
  * Parses and serializes messages of sock_diag(7) with the headers of netlink(7), in the caller's
  * memory. To list sockets:
- * 1. Write a request, by sockdiag_write_inet_request and its siblings, and send it to a socket of
- *    NETLINK_SOCK_DIAG.
+ * 1. Open a socket of NETLINK_SOCK_DIAG, and connect it to port id 0, the kernel. getsockname(2)
+ *    then returns its port id, which each answer contains. Write a request, by
+ *    sockdiag_write_inet_request and its siblings, and send it.
  * 2. Receive datagrams. recv(2) with MSG_TRUNC returns the length of a datagram that exceeds the
  *    buffer, and fails with ENOBUFS if datagrams were lost: request the dump again.
  * 3. Iterate over the messages of each by sockdiag_next_any_message. Skip a message for which
@@ -15,19 +16,22 @@
  * Each call returns 0 (SOCKDIAG_OK) if it has succeeded, or a positive code, which
  * sockdiag_error_text takes. Calls with _next_ in their names iterate: they return SOCKDIAG_ITEM,
  * SOCKDIAG_END, or the code of an error. Calls with _write_ or _rewrite_ store the number of bytes
- * that they wrote, and with SOCKDIAG_NO_SPACE the number that the buffer has to have. Four calls
- * return no code: sockdiag_version, and the tests sockdiag_is_answer, sockdiag_is_interrupted and
- * sockdiag_ends_answer, which return 1 or 0.
+ * that they wrote, and with SOCKDIAG_NO_SPACE the number that the buffer has to have. Five calls
+ * return no code: sockdiag_version and sockdiag_error_text, and the tests sockdiag_is_answer,
+ * sockdiag_is_interrupted and sockdiag_ends_answer, which return 1 or 0.
  *
  * The structs named sockdiag_.._details, and struct sockdiag_vsock_header, sockdiag_tcp_info and
- * sockdiag_mptcp_info, may get more fields at their end in a later
- * version; no others do. A call that fills one takes its size, sizeof *details. It fills at most
- * this number of bytes, and sets fields that the library does not know to 0. So a program runs with
- * older and newer libraries.
+ * sockdiag_mptcp_info, may get more fields at their end in a later version; no others do. A call
+ * that fills one takes its size, sizeof *details. It fills at most this number of bytes, and sets
+ * fields that the library does not know to 0. So a program runs with older and newer libraries. A
+ * size below that of version 1.0 is SOCKDIAG_INVALID_ARGUMENT, except that of a struct
+ * sockdiag_tcp_info or sockdiag_mptcp_info, which may have any size.
  *
  * The library does not allocate, opens no files or sockets, and has no state between calls. So any
  * thread may call it at any time, with memory that meets the requirements below. It needs at most
- * memcpy, memmove and memset of the system (libc).
+ * memcpy, memmove, memset, bcmp and abort of the system (libc). Only the library that cargo builds
+ * needs the last two, and no call reaches abort. The host has to be little-endian, with pointers of
+ * 64 bits.
  *
  * The caller has to ensure the following, and nothing checks it:
  * - A pointer to bytes is valid for the length in bytes that the parameter next to it gives. The
@@ -46,9 +50,9 @@
  *
  * Messages have the byte order of the kernel's processor, which has to be little-endian. Numbers in
  * structs are in the byte order of the host, ports included. Addresses are in network byte order,
- * as inet_ntop expects them. A cookie of eight bytes is a copy of the bytes in the message. The
- * cookie of a netlink, packet, vsock or XDP socket is a number. Offsets in comments are those in
- * the kernel's structs.
+ * as inet_ntop expects them, except segments of struct sockdiag_stored_address. A cookie of eight
+ * bytes is a copy of the bytes in the message. The cookie of a netlink, packet, vsock or XDP socket
+ * is a number. Offsets in comments are those in the kernel's structs.
  *
  * The kind of an attribute is its type without the two flag bits, as SOCKDIAG_UNIX_DIAG_NAME; the
  * field kind of the header of a reply is the type of the socket, SOCK_STREAM and so on. A port id
@@ -68,6 +72,10 @@
 
 #include <stddef.h>
 #include <stdint.h>
+
+#if defined(__SIZEOF_POINTER__) && __SIZEOF_POINTER__ != 8
+#error "sockdiag.h is for hosts with pointers of 64 bits"
+#endif
 
 /*
  * The version of this header and of the library that it is shipped with, as a text and as a number:
@@ -124,13 +132,19 @@ enum sockdiag_code {
                                                of bytes. */
     SOCKDIAG_ITEM = 100,                    /* An iterator has stored an item. */
     SOCKDIAG_END = 101,                     /* An iterator is at the end, or the reply lacks the
-                                               value that the call copies. */
+                                               value that the call copies, or has one of length
+                                               0. */
     SOCKDIAG_NO_SPACE = 102,                /* The buffer is shorter than the message, whose
                                                length is stored. */
     SOCKDIAG_TOO_LONG = 103,                /* A message or an attribute is too long for its
                                                length field. */
-    SOCKDIAG_INVALID_ARGUMENT = 104         /* The size of a struct is below that of version 1.0,
-                                               or what is unknown. */
+    SOCKDIAG_INVALID_ARGUMENT = 104,        /* The size of a struct is below that of version 1.0,
+                                               or the argument what is unknown. */
+    SOCKDIAG_FILTER_UNEXPECTED = 105,       /* No filter begins with the text up to and including
+                                               a word, and one begins with the words before it. */
+    SOCKDIAG_FILTER_INCOMPLETE = 106,       /* The text ends before the end of the filter. */
+    SOCKDIAG_FILTER_TOO_LONG = 107          /* With a word the filter has more than 256
+                                               conditions, operators and open groups. */
 };
 
 /*
@@ -145,7 +159,7 @@ static inline const char *sockdiag_error_text(uint32_t error)
     case SOCKDIAG_ITEM:
         return "an item";
     case SOCKDIAG_END:
-        return "no more items";
+        return "no more items, or no such value";
     case SOCKDIAG_NO_SPACE:
         return "buffer is shorter than the message";
     case SOCKDIAG_TOO_LONG:
@@ -186,6 +200,12 @@ static inline const char *sockdiag_error_text(uint32_t error)
         return "message length is under 16";
     case SOCKDIAG_ENVELOPE_LENGTH_PAST:
         return "message length is past the bytes given";
+    case SOCKDIAG_FILTER_UNEXPECTED:
+        return "unexpected word";
+    case SOCKDIAG_FILTER_INCOMPLETE:
+        return "the filter is not complete";
+    case SOCKDIAG_FILTER_TOO_LONG:
+        return "more than 256 conditions and operators";
     default:
         return "unknown error code";
     }
@@ -206,7 +226,8 @@ enum sockdiag_netlink_protocol {
 /*
  * Groups of NETLINK_SOCK_DIAG: the kernel sends a reply for each socket of the group that it
  * destroys, as ss -E prints. Join a group by the option NETLINK_ADD_MEMBERSHIP of netlink(7). Such
- * a reply has the protocol, INET_DIAG_PROTOCOL.
+ * a reply has the protocol, INET_DIAG_PROTOCOL. The header of its message has sequence number 0 and
+ * port id 0.
  */
 enum sockdiag_group {
     SOCKDIAG_SKNLGRP_NONE = 0,              /* No group. */
@@ -550,7 +571,8 @@ enum sockdiag_xdp_attribute {
  * - Of several attributes of a kind the first valid one counts.
  * - An attribute without a field is not an error: sockdiag_next_attribute returns it.
  * - Bytes after the last field of a record are ignored, since newer kernels send more. A shorter
- *   record is SOCKDIAG_BUFFER_TOO_SMALL, and a number of another length SOCKDIAG_WRONG_LENGTH.
+ *   record is SOCKDIAG_BUFFER_TOO_SMALL, and a number of another length SOCKDIAG_WRONG_LENGTH,
+ *   unless the comment of its field says that it is not set then.
  * - Texts point into the payload, and are valid as long as it is.
  * - The family is not checked, except that it is AF_INET or AF_INET6.
  */
@@ -617,8 +639,9 @@ struct sockdiag_memory {
 struct sockdiag_unix_header {
     uint8_t kind;      /* Type of the socket, one of SOCK_.. (udiag_type, at 1). */
     uint8_t state;     /* State (udiag_state, at 2): TCP_LISTEN (10) if the socket listens,
-                          TCP_ESTABLISHED (1) if it was connected, whether or not it has a peer
-                          now, else TCP_CLOSE (7), as of most datagram sockets. */
+                          TCP_ESTABLISHED (1) if it was connected, also if the peer has closed
+                          since, else TCP_CLOSE (7), as of most datagram sockets. A datagram
+                          socket is in state 7 again after a connect(2) to AF_UNSPEC. */
     uint32_t inode;    /* Inode of the socket (udiag_ino, at 4). */
     uint8_t cookie[8]; /* Cookie that distinguishes sockets with the same inode (udiag_cookie, at
                           8). */
@@ -640,7 +663,9 @@ struct sockdiag_unix_details {
     struct sockdiag_number peer;        /* Inode of the peer (UNIX_DIAG_PEER). */
     struct sockdiag_number recv_queue;  /* Number of connections that wait to be accepted on a
                                            listening socket, else number of bytes that have not
-                                           been read (udiag_rqueue of UNIX_DIAG_RQLEN). */
+                                           been read (udiag_rqueue of UNIX_DIAG_RQLEN). For a
+                                           datagram socket, it is the length of the first
+                                           datagram in the queue. */
     struct sockdiag_number send_queue;  /* Limit of these connections for a listening socket,
                                            else bytes of memory in use by data that was sent and
                                            has not been read (udiag_wqueue of UNIX_DIAG_RQLEN). */
@@ -694,11 +719,16 @@ struct sockdiag_inet_header {
                                         (idiag_if, at 40). */
     uint8_t cookie[8];               /* Cookie that distinguishes sockets with the same addresses
                                         and ports (idiag_cookie, at 44). */
-    uint32_t recv_queue;             /* Number of pending connections of a listening TCP socket,
-                                        else bytes that have not been read (idiag_rqueue, at 56). */
+    uint32_t recv_queue;             /* Number of pending connections of a listening TCP socket
+                                        (idiag_rqueue, at 56). For other TCP sockets, number of
+                                        bytes that have not been read; a FIN counts as one. For
+                                        UDP and raw sockets, memory in use by the receive queue
+                                        in bytes, which exceeds the data. */
     uint32_t send_queue;             /* Limit of pending connections (backlog) of a listening TCP
-                                        socket, else bytes in the send queue: for TCP, those that
-                                        are not yet acknowledged (idiag_wqueue, at 60). */
+                                        socket (idiag_wqueue, at 60). For other TCP sockets,
+                                        number of bytes that are not yet acknowledged; a SYN and
+                                        a FIN count as one each. For UDP and raw sockets, memory
+                                        in use by packets that are being sent, in bytes. */
     uint32_t uid;                    /* User id of the owner (idiag_uid, at 64). */
     uint32_t inode;                  /* Inode of the socket (idiag_inode, at 68). */
 };
@@ -738,8 +768,9 @@ enum sockdiag_socket_option {
 };
 
 /*
- * Everything that a reply contains about an IPv4 or IPv6 socket, except its connection
- * (INET_DIAG_INFO), which sockdiag_inet_get_tcp_info and sockdiag_inet_get_mptcp_info return.
+ * What a reply contains about an IPv4 or IPv6 socket. sockdiag_inet_get_tcp_info and
+ * sockdiag_inet_get_mptcp_info return its connection (INET_DIAG_INFO), and sockdiag_next_attribute
+ * all other attributes without a field.
  */
 struct sockdiag_inet_details {
     struct sockdiag_inet_header header;          /* The header. */
@@ -969,10 +1000,10 @@ struct sockdiag_tcp_info {
  * Copies the TCP connection of a reply about an IPv4 or IPv6 socket: the value of the first
  * INET_DIAG_INFO. info_size is sizeof *info: at most as many bytes are copied, and the remaining
  * ones are set to 0. Stores the length of the value in bytes. Returns SOCKDIAG_END if the reply has
- * no value; then nothing is stored.
+ * no value, or one of length 0; then nothing is stored.
  *
  * Each kernel sends the struct in its own length, which may also be longer: SOCKDIAG_HAS tests
- * whether the value contains a field. A value of any length is accepted, also one that
+ * whether the value contains a field. A value of any length above 0 is accepted, also one that
  * sockdiag_inet_get_details rejects. Attributes after a framing error are not found.
  *
  * A time that the kernel has not measured has its first value: rtt of a socket that listens is 0,
@@ -1165,7 +1196,7 @@ struct sockdiag_packet_details {
     uint32_t has_info;                        /* 1 if info is set, else 0. */
     struct sockdiag_packet_info info;         /* Settings of the socket (PACKET_DIAG_INFO, type
                                                  0). */
-    struct sockdiag_text addresses;           /* Memberships of the socket
+    struct sockdiag_text memberships;         /* Memberships of the socket
                                                  (PACKET_ADD_MEMBERSHIP, packet(7);
                                                  PACKET_DIAG_MCLIST, type 1), 44 bytes each,
                                                  which sockdiag_next_membership reads: addresses
@@ -1408,7 +1439,7 @@ uint32_t sockdiag_inet_fill_lenient_details(const uint8_t *payload, size_t lengt
 /*
  * Parses a reply about an IPv4 or IPv6 socket leniently. An INET_DIAG_INFO of fewer than 232 bytes,
  * as of MPTCP, is in the rejections: sockdiag_inet_get_tcp_info and sockdiag_inet_get_mptcp_info
- * return a value of any length.
+ * return a value of any length above 0.
  */
 static inline uint32_t sockdiag_inet_get_lenient_details(const uint8_t *payload, size_t length,
                                                          struct sockdiag_inet_details *details,
@@ -1683,11 +1714,11 @@ uint32_t sockdiag_ends_answer(const struct sockdiag_message *message);
 
 /* ---- values of single attributes
  *
- * These attributes are not in the details of a reply. sockdiag_next_attribute returns them: pass
- * the bytes of its value, which are payload + attribute.offset and attribute.length. The caller
- * chooses the call by the kind, attribute.type_word & SOCKDIAG_NLA_TYPE_MASK. A value that is
- * longer than the struct is accepted, since newer kernels may append fields. A shorter one is
- * SOCKDIAG_WRONG_LENGTH.
+ * These attributes are not in the details of a reply, or only as bytes: PACKET_DIAG_MCLIST and
+ * PACKET_DIAG_FILTER. sockdiag_next_attribute returns them: pass the bytes of its value, which are
+ * payload + attribute.offset and attribute.length. The caller chooses the call by the kind,
+ * attribute.type_word & SOCKDIAG_NLA_TYPE_MASK. A value that is longer than the struct is accepted,
+ * since newer kernels may append fields. A shorter one is SOCKDIAG_WRONG_LENGTH.
  *
  * A value that is an array is read from a cursor with the offset 0, while the call returns
  * SOCKDIAG_ITEM. If the rest of the value is shorter than an item, the call returns
@@ -1860,7 +1891,7 @@ struct sockdiag_packet_membership {
 
 /*
  * Iterates over the memberships of a packet socket, of 44 bytes each, in the value of
- * PACKET_DIAG_MCLIST, the field addresses of its details.
+ * PACKET_DIAG_MCLIST, the field memberships of its details.
  */
 uint32_t sockdiag_next_membership(const uint8_t *value, size_t length,
                                   struct sockdiag_cursor *cursor,
@@ -1890,9 +1921,8 @@ uint32_t sockdiag_next_instruction(const uint8_t *value, size_t length,
 /* ---- errors with their fields
  *
  * All other calls return the code of an error. sockdiag_explain checks bytes that they rejected
- * again, and returns the error with the lengths, kinds and numbers that belong to it. It does not
- * return where the error is: of an attribute of a UNIX, IPv4 or IPv6 socket that is explained by
- * itself, the caller of sockdiag_next_attribute knows the offset.
+ * again, and returns the error with the lengths, kinds and numbers that belong to it, and its
+ * offset.
  */
 
 /* Records that can have too few bytes: the numbers of the field record_name. */
@@ -1937,8 +1967,11 @@ struct sockdiag_error_details {
     size_t length;               /* Length field of the attribute or of the message. */
     size_t index;                /* Index of the first NUL in a pathname
                                     (SOCKDIAG_NAME_INNER_ZERO). */
+    size_t offset;               /* Offset of the error in the bytes: that of the attribute whose
+                                    framing or value is wrong. 0 if the header is wrong, and for
+                                    a datagram or a single attribute. */
 };
-#define SOCKDIAG_ERROR_DETAILS_SIZE_1_0 56
+#define SOCKDIAG_ERROR_DETAILS_SIZE_1_0 64
 
 #define SOCKDIAG_EXPLAIN_MESSAGE 256        /* what of sockdiag_explain: the payload of a
                                                message. */
@@ -1991,9 +2024,11 @@ static inline uint32_t sockdiag_explain(uint32_t what, const uint8_t *bytes, siz
  */
 struct sockdiag_request_header {
     uint16_t flags;           /* NLM_F_REQUEST, and NLM_F_DUMP to request all sockets
-                                 (nlmsg_flags). Without NLM_F_DUMP the answer is one message
-                                 without an end, and inode or addresses, ports and cookie select
-                                 the socket. */
+                                 (nlmsg_flags). Without NLM_F_DUMP the answer is one message, and
+                                 an NLMSG_ERROR with the number 0 follows it only with NLM_F_ACK;
+                                 inode or addresses, ports and cookie select the socket, and
+                                 states do not. Without NLM_F_REQUEST the kernel does not answer,
+                                 except that it acknowledges the message with NLM_F_ACK. */
     uint32_t sequence_number; /* Sequence number, which the answer repeats (nlmsg_seq). If each
                                  request has another one, sockdiag_is_answer recognizes its
                                  answer. */
@@ -2009,8 +2044,9 @@ struct sockdiag_unix_request {
                                               TCP_LISTEN (udiag_states). UINT32_MAX includes all.
                                               A UNIX socket is in state 1, 7 or 10: without the
                                               bit 1 << TCP_CLOSE, sockets that neither listen nor
-                                              were ever connected are missing, as most datagram
-                                              sockets are. */
+                                              were connected are missing, as most datagram
+                                              sockets are. Only a request with NLM_F_DUMP selects
+                                              by states. */
     uint32_t inode;                        /* Inode, to request a single socket (udiag_ino). With
                                               NLM_F_DUMP the kernel ignores it. */
     uint32_t show;                         /* Attributes that the replies shall have, a set of
@@ -2021,7 +2057,12 @@ struct sockdiag_unix_request {
                                               bytes 0xff match any socket. */
 };
 
-/* A request for IPv4 or IPv6 sockets: struct inet_diag_req_v2 of sock_diag(7). */
+/*
+ * A request for IPv4 or IPv6 sockets: struct inet_diag_req_v2 of sock_diag(7). With NLM_F_DUMP the
+ * kernel selects sockets by family, protocol, states and ports, and a port 0 means all ports; it
+ * ignores addresses, interface and cookie. Without NLM_F_DUMP it selects one socket by family,
+ * protocol, addresses, ports, interface and cookie, and ignores states.
+ */
 struct sockdiag_inet_request {
     struct sockdiag_request_header header; /* Fields of the netlink header. */
     uint8_t family;                        /* AF_INET or AF_INET6 (sdiag_family). */
@@ -2078,9 +2119,12 @@ uint32_t sockdiag_write_inet_request(const struct sockdiag_inet_request *request
                                      size_t length, size_t *written);
 
 /*
- * Writes a request for the kernel to close the selected IPv4 or IPv6 sockets, of type SOCK_DESTROY,
- * and else as sockdiag_write_inet_request. The flags are NLM_F_REQUEST, and NLM_F_ACK to have
- * success acknowledged. Linux closes TCP, UDP and raw sockets if the caller has CAP_NET_ADMIN.
+ * Writes a request for the kernel to close one IPv4 or IPv6 socket, of type SOCK_DESTROY, and else
+ * as sockdiag_write_inet_request. The flags are NLM_F_REQUEST, and NLM_F_ACK to have success
+ * acknowledged. Addresses, ports, interface and cookie select the socket, and states do not. If no
+ * TCP connection has these addresses and ports, Linux takes the socket that listens on the local
+ * port: pass the cookie of the reply, so that it closes no other socket. Linux closes TCP, UDP and
+ * raw sockets if the caller has CAP_NET_ADMIN.
  */
 uint32_t sockdiag_write_inet_destroy(const struct sockdiag_inet_request *request, uint8_t *buffer,
                                      size_t length, size_t *written);
@@ -2148,12 +2192,85 @@ uint32_t sockdiag_write_inet_request_with_attributes(const struct sockdiag_inet_
                                                      uint8_t *buffer, size_t buffer_length,
                                                      size_t *written);
 
+/* ---- filters
+ *
+ * A filter selects IPv4 and IPv6 sockets. Its text has the words of ss(8), which ASCII white space
+ * separates:
+ *
+ * - state STATE and exclude STATE, any number of them, and then an expression or nothing;
+ * - conditions: sport and dport with a port, as :443 or 443; src and dst with an address, which a
+ *   slash and a number of bits, and a colon and a port may follow, as 10.0.0.0/8:53, [::1]:53 or
+ *   *:53; dev with the index of an interface; fwmark with a mark, as 1 or 0x1/0x3; cgroup with an
+ *   id; and autobound;
+ * - the operators of ports =, !=, <, >, <= and >=, also as words such as eq or geq; of dev, fwmark
+ *   and cgroup only = and !=, of addresses only =. Without an operator = is meant;
+ * - not and !, and, & and &&, or, | and ||, and parentheses. not applies to the operand that
+ *   follows it. and and or group from the left with the same precedence, as ss(8) parses them,
+ *   though its manual page says otherwise. Two operands without an operator are combined by and.
+ *
+ * An IPv6 address without a number of bits is in brackets. Numbers are in decimal, or in
+ * hexadecimal after 0x. Names of hosts, services, interfaces and paths are not known.
+ *
+ * To request the sockets of a filter, pass its program to
+ * sockdiag_write_inet_request_with_attributes as an attribute: the four bytes of its header, which
+ * are the length of the program plus 4 and the kind INET_DIAG_REQ_BYTECODE, each in two bytes,
+ * little-endian, and then the program. write_filter of the example list_sockets.c writes it. A
+ * program of no bytes needs no attribute. Pass the states of the filter, if it has some, as those
+ * of the request.
+ */
+
+/* What sockdiag_parse_filter stores about a filter. */
+struct sockdiag_filter_details {
+    struct sockdiag_number states; /* States of the sockets, as a request has them in states. Not
+                                      set if the text names none. */
+    size_t program_length;         /* Length of the program in bytes. 0 if the text has no
+                                      conditions: then a request has no INET_DIAG_REQ_BYTECODE. */
+    size_t error_offset;           /* Offset of the word of the error in the text, in bytes.
+                                      After SOCKDIAG_FILTER_INCOMPLETE it is the length of the
+                                      text, and without an error 0. */
+};
+#define SOCKDIAG_FILTER_DETAILS_SIZE_1_0 24
+
+#define SOCKDIAG_FILTER_PROGRAM_LENGTH 7168 /* Maximum length of the program of a filter, in
+                                               bytes. */
+
+uint32_t sockdiag_fill_parse_filter(const uint8_t *text, size_t length, uint8_t *program,
+                                    size_t program_length, struct sockdiag_filter_details *filter,
+                                    uint8_t *later, size_t later_length);
+
+/*
+ * Parses the text of a filter, and writes its program, the value of an attribute
+ * INET_DIAG_REQ_BYTECODE, at the start of the buffer. If the buffer is shorter, the call returns
+ * SOCKDIAG_NO_SPACE, and stores the length that it needs in program_length;
+ * SOCKDIAG_FILTER_PROGRAM_LENGTH bytes suffice. A text that is no filter is
+ * SOCKDIAG_FILTER_UNEXPECTED, SOCKDIAG_FILTER_INCOMPLETE or SOCKDIAG_FILTER_TOO_LONG. Bytes of the
+ * buffer that are not written are unchanged. All fields of the struct are set, also if the call
+ * returns one of these codes.
+ *
+ * The kernel runs the program on each socket that the request selects otherwise, and lists those
+ * that meet the conditions. It accepts each program whose conditions it knows, except that fwmark
+ * needs CAP_NET_ADMIN, and cgroup a kernel with control groups.
+ */
+static inline uint32_t sockdiag_parse_filter(const uint8_t *text, size_t length, uint8_t *program,
+                                             size_t program_length,
+                                             struct sockdiag_filter_details *filter, size_t size)
+{
+    if (size < SOCKDIAG_FILTER_DETAILS_SIZE_1_0)
+        return SOCKDIAG_INVALID_ARGUMENT;
+    return sockdiag_fill_parse_filter(
+        text, length, program, program_length, filter,
+        (uint8_t *)filter + SOCKDIAG_FILTER_DETAILS_SIZE_1_0,
+        size - SOCKDIAG_FILTER_DETAILS_SIZE_1_0);
+}
+
 /* ---- the canonical form
  *
- * All replies that differ only in ignored bits have the same canonical form. Ignored bits are
- * undefined flags, pad fields, padding, and bytes that no parser reads, for example; of a timer the
- * time if it is 3 (TIME_WAIT), and the number of retransmissions if it is not 1. The form is
- * written at the start of the buffer, and its length is stored, as those of a request.
+ * All replies that differ only in ignored bits have the same canonical form, which serves to
+ * compare them. Ignored bits are undefined flags, pad fields, padding, and bytes that no parser
+ * reads, for example. So the form lacks some values that other calls return: the time of timer 3
+ * (TIME_WAIT), the number of retransmissions of a timer other than 1, all of timer 5, and
+ * INET_DIAG_INFO from byte 232 on. The form is written at the start of the buffer, and its length
+ * is stored, as those of a request.
  */
 
 /*

@@ -2,6 +2,7 @@
 """Compares the C header with the source, and compiles it without the C library.
 
 - The header has the doc comments of the source, whole.
+- The number of a version has the weights that the header states.
 - With a C compiler, `$CC` or `cc`, it compiles the examples, one of which includes the header, as
   C99 and as C++.
 
@@ -11,6 +12,7 @@ tests/api/c_api.sh runs the calls.
 
 import os
 import re
+import runpy
 import shutil
 import subprocess
 import sys
@@ -20,7 +22,7 @@ TOP = Path(__file__).resolve().parent.parent
 # Do not create tools/__pycache__.
 sys.dont_write_bytecode = True
 sys.path.append(str(TOP / "tools"))
-from declarations import Library, summary
+from declarations import Library, filter_grammar, summary
 
 
 def comment_errors():
@@ -29,11 +31,17 @@ def comment_errors():
     shown = [re.sub(r"(?m)^ *\*", "", it) for it in re.findall(r"(?s)/\*(.*?)\*/", header)]
     text = " ".join(" ".join(shown).split())
     library = Library()
-    docs = [it.doc for it in library.functions.values()]
+    docs = [it.doc for it in library.functions.values()] + [filter_grammar()]
     for it in library.structs.values():
         docs += [summary(it.doc), *(field.doc for field in it.fields)]
     words = [" ".join(" ".join(doc).replace("`", "").split()) for doc in docs]
     return [f"the header lacks the comment: {it}" for it in words if it not in text]
+
+
+def version_errors():
+    """Returns the errors of the number that tools/bindings makes of a version, as lines."""
+    number = runpy.run_path(str(TOP / "tools/bindings"))["number_of"]("12.34.56")
+    return [] if number == 12034056 else [f"the number of version 12.34.56 is {number}"]
 
 
 def compile_c(compiler):
@@ -42,28 +50,36 @@ def compile_c(compiler):
     # This fails if the compiler does not support C++.
     plus = [compiler, "-fsyntax-only", "-x", "c++", os.devnull]
     has_plus = subprocess.run(plus, stderr=subprocess.DEVNULL).returncode == 0
-    for language, standard, file in [
+    for language, standard, *files in [
         ("c", "c99", "examples/list_sockets.c"),
         ("c++", "c++11", "examples/list_sockets.c"),
         ("c", "c99", "examples/list_rtt.c"),
         ("c++", "c++11", "examples/list_rtt.c"),
         ("c", "c99", "examples/sockdump.c"),
         ("c++", "c++11", "examples/sockdump.c"),
+        ("c", "c99", "-DWITH_FILTERS", "examples/sockdump.c"),
+        ("c++", "c++11", "-DWITH_FILTERS", "examples/sockdump.c"),
         ("c", "c99", "examples/socklist.c"),
         ("c++", "c++11", "examples/socklist.c"),
     ]:
         if language == "c++" and not has_plus:
             print(f"skipped: the header as C++: {compiler} does not support C++")
             continue
-        words = [compiler, f"-std={standard}", *strict, language, file]
+        words = [compiler, f"-std={standard}", *strict, language, *files]
         status = subprocess.run(words, cwd=TOP).returncode
         if status != 0:
             return status
+    narrow = ["-U__SIZEOF_POINTER__", "-D__SIZEOF_POINTER__=4", "include/sockdiag.h"]
+    done = subprocess.run([compiler, "-Wno-builtin-macro-redefined", *strict, "c", *narrow],
+                          cwd=TOP, stderr=subprocess.PIPE, text=True)
+    if "#error" not in done.stderr:
+        print(f"the header compiles for pointers of 32 bits: {done.stderr}")
+        return 1
     return 0
 
 
 def main():
-    if errors := comment_errors():
+    if errors := comment_errors() + version_errors():
         print(*errors, "tests/bindings.py: failed", sep="\n")
         return 1
     compiler = os.environ.get("CC", "cc")

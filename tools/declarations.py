@@ -46,6 +46,7 @@ WITHOUT_VALUES = {
     ": {left} bytes left": "",
     ": {got} bytes": "",
     " at {index}": "",
+    " at byte {offset}": "",
 }
 DOC = r"((?:^ *///[^\n]*\n)*)"
 STRUCT = re.compile(DOC + r"((?:^#\[.*\]\n)*)^pub struct (\w+)(?:<'a>)? \{\n((?s:.*?))^\}", re.M)
@@ -62,6 +63,7 @@ BITS = re.compile(r"\w+Field::(\w+) => Some\(\((\d+), (\w+)\)\),")
 BIT = re.compile(r"SocketOption::(\w+) => (\d+),")
 SIZE = re.compile(r"prove!\(std::mem::size_of::<(\w+)(?:<'static>)?>\(\) == (\d+)\)")
 CODE = re.compile(r"DecodeError::(\w+)(?: \{ \.\. \})? => (\d+),")
+FILTER_CODE = re.compile(r"FilterTextError::(\w+)(?: \{.*\})? => \((\w+),")
 RECORD = re.compile(r"RecordName::(\w+)(?: \{.*\})? => \((\d+),")
 
 
@@ -113,8 +115,8 @@ class Variant(NamedTuple):
     doc: list
 
 
-class DecodeError(NamedTuple):
-    """A decode error, with its code and its text without values."""
+class Error(NamedTuple):
+    """An error, with its code and its text without values."""
 
     name: str
     code: str
@@ -197,7 +199,23 @@ def decode_errors():
     for comment, shown, name in VARIANT.findall(text):
         if name not in NOT_RETURNED:
             doc = summary(doc_of(comment))
-            yield DecodeError(name, codes[name], without_values(shown), doc)
+            yield Error(name, codes[name], without_values(shown), doc)
+
+
+def filter_errors():
+    """Yields each error of the text of a filter."""
+    text = text_of(CRATES / "sock_diag_filters/src/text/parsed.rt")
+    codes = dict(FILTER_CODE.findall(text_of(CRATES / "sockdiag_c/src/parsed_filters.rt")))
+    parts = {"{MAX_PARTS}": constants_in(text)["MAX_PARTS"].value}
+    for comment, shown, name in VARIANT.findall(text):
+        yield Error(codes[name], "", without_values(shown, parts), doc_of(comment))
+
+
+def filter_grammar():
+    """Returns the documentation of the texts of filters, without its first and last paragraph."""
+    text = text_of(CRATES / "sock_diag_filters/src/text/parsed.rt")
+    doc = re.search(DOC + r"^    pub fn parse\(", text, re.M)[1]
+    return "\n".join(doc_of(doc)).split("\n\n")[1:-1]
 
 
 def enum_in(text, name):
@@ -236,10 +254,10 @@ def struct_fields(enum):
         yield Field(snake(name), TYPES[width], doc_of(comment), bits.get(name, ())), offset
 
 
-def without_values(text):
-    """Returns an `#[error]` text without its values: the parts in WITHOUT_VALUES are replaced, then
-    each placeholder that is left is dropped with the space before it."""
-    for part, other in WITHOUT_VALUES.items():
+def without_values(text, parts={}):
+    """Returns an `#[error]` text without its values: the parts and those in WITHOUT_VALUES are
+    replaced, then each placeholder that is left is dropped with the space before it."""
+    for part, other in (WITHOUT_VALUES | parts).items():
         text = text.replace(part, other)
     return re.sub(r" \{\w+\}", "", text)
 

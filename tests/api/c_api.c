@@ -508,6 +508,49 @@ static void writes_filtered_request(void) {
           "a family");
 }
 
+/* Parses a text in the words of ss(8), into a buffer of this length. */
+static uint32_t parse(const char *text, uint8_t *program, size_t length,
+                      struct sockdiag_filter_details *filter) {
+    memset(filter, UNTOUCHED, sizeof *filter);
+    return sockdiag_parse_filter((const uint8_t *)text, strlen(text), program, length, filter,
+                                 sizeof *filter);
+}
+
+static void parses_filters(void) {
+    /* sport >= :443: if not, a jump past the end. */
+    static const uint8_t at_least[8] = {INET_DIAG_BC_S_GE, 8, 12, 0, 0, 0, 0xbb, 1};
+    struct sockdiag_filter_details filter;
+    uint8_t program[SOCKDIAG_FILTER_PROGRAM_LENGTH];
+    char text[2 * 257 + 1];
+    size_t index;
+    memset(program, UNTOUCHED, sizeof program);
+    check(parse("state listening sport >= :443", program, 7, &filter) == SOCKDIAG_NO_SPACE &&
+          is(filter.states, 1u << SOCKDIAG_TCP_LISTEN) && filter.program_length == 8 &&
+          filter.error_offset == 0 && is_untouched(program, sizeof program),
+          "a short buffer for a program");
+    check(parse("state listening sport >= :443", program, 8, &filter) == SOCKDIAG_OK &&
+          is(filter.states, 1u << SOCKDIAG_TCP_LISTEN) && filter.program_length == 8 &&
+          filter.error_offset == 0, "a filter");
+    check(memcmp(program, at_least, 8) == 0 && is_untouched(program + 8, sizeof program - 8),
+          "its program");
+    memset(program, UNTOUCHED, sizeof program);
+    check(parse("", NULL, 0, &filter) == SOCKDIAG_OK && filter.states.is_set == 0 &&
+          filter.states.value == 0 && filter.program_length == 0, "an empty text");
+    check(parse("dst 10.0.0.0/8 frob", program, sizeof program, &filter) ==
+          SOCKDIAG_FILTER_UNEXPECTED &&
+          filter.error_offset == 15 && filter.program_length == 0 && filter.states.is_set == 0,
+          "a word that is unknown");
+    check(parse("( sport = :1 ", program, sizeof program, &filter) == SOCKDIAG_FILTER_INCOMPLETE &&
+          filter.error_offset == 13 && filter.program_length == 0, "an open group");
+    for (index = 0; index < 257; index++)
+        memcpy(text + 2 * index, "! ", 3);
+    check(parse(text, program, sizeof program, &filter) == SOCKDIAG_FILTER_TOO_LONG &&
+          filter.error_offset == 512, "a word too many");
+    check(sockdiag_parse_filter((const uint8_t *)text, 1, program, 0, &filter, 23) ==
+          SOCKDIAG_INVALID_ARGUMENT, "a struct that is too small");
+    check(is_untouched(program, sizeof program), "the program of a text that is no filter");
+}
+
 static void rewrites_unix_reply(void) {
     uint8_t want[36], buffer[40];
     size_t written;
@@ -684,8 +727,9 @@ static void has_numbers(void) {
           SOCKDIAG_SOCK_DIAG_BY_FAMILY == SOCK_DIAG_BY_FAMILY &&
           SOCKDIAG_NLMSG_DONE == NLMSG_DONE && SOCKDIAG_NLM_F_DUMP_INTR == NLM_F_DUMP_INTR,
           "constants of netlink");
-    check(SOCKDIAG_TCP_ESTABLISHED == 1 && SOCKDIAG_TCP_CLOSE == 7 && SOCKDIAG_TCP_LISTEN == 10,
-          "states");
+    check(SOCKDIAG_NLA_TYPE_MASK == (uint16_t)NLA_TYPE_MASK, "the bits of a kind");
+    check(SOCKDIAG_TCP_ESTABLISHED == 1 && SOCKDIAG_TCP_CLOSE == 7 && SOCKDIAG_TCP_LISTEN == 10 &&
+          SOCKDIAG_TCP_BOUND_INACTIVE == 13, "states");
     check((int)SOCKDIAG_UDIAG_SHOW_ICONS == UDIAG_SHOW_ICONS &&
           (int)SOCKDIAG_UNIX_DIAG_ICONS == UNIX_DIAG_ICONS, "constants of UNIX sockets");
     check((int)SOCKDIAG_INET_DIAG_CONG == INET_DIAG_CONG &&
@@ -714,6 +758,7 @@ int main(void) {
     writes_inet_request();
     writes_family_requests();
     writes_filtered_request();
+    parses_filters();
     rewrites_unix_reply();
     rewrites_inet_reply();
     reads_each_field_of_inet_headers();

@@ -9,8 +9,8 @@
 # compiler and Python. The gate runs this script.
 #
 # With SOCKDIAG_LIBRARY, the path of a libsockdiag_c.a, it tests this library instead, which may
-# also call abort(3), and installs nothing: erased.sh does so. With SSLIST_PROGRAM, the path of
-# sslist, socklist runs it in place of the one that is built here.
+# also call bcmp(3) and abort(3), and installs nothing: erased.sh does so. With SSLIST_PROGRAM, the
+# path of sslist, socklist runs it in place of the one that is built here.
 set -eu
 top=$(CDPATH='' cd -- "$(dirname -- "$0")/../.." && pwd)
 work=$(mktemp -d)
@@ -18,7 +18,7 @@ trap '[ $? = 0 ] || echo "$0: failed" >&2; rm -rf "$work"' EXIT
 
 library=$top/crates/sockdiag_c/out/libsockdiag_c.a calls='memcpy|memmove|memset'
 if [ -n "${SOCKDIAG_LIBRARY-}" ]; then
-    library=$SOCKDIAG_LIBRARY calls="$calls|abort"
+    library=$SOCKDIAG_LIBRARY calls="$calls|bcmp|abort"
 else
     echo "c_api: proving and building the library, if it is older than a source"
     "$top/tests/api/library.sh" >"$work/log" 2>&1 || { cat "$work/log" >&2; exit 1; }
@@ -70,8 +70,8 @@ done
 mkdir "$work/later"
 sed '/^struct sockdiag_\([a-z]*_details\|vsock_header\) {/,/^};/s/^};/    uint32_t more[4];\n};/' \
     "$top/include/sockdiag.h" >"$work/later/sockdiag.h"
-[ "$(grep -c 'uint32_t more' "$work/later/sockdiag.h")" = 7 ]
-wrapped=-Wl,--wrap=sockdiag_fill_explain
+[ "$(grep -c 'uint32_t more' "$work/later/sockdiag.h")" = 8 ]
+wrapped='-Wl,--wrap=sockdiag_fill_explain -Wl,--wrap=sockdiag_fill_parse_filter'
 for family in unix inet netlink packet vsock xdp; do
     wrapped="$wrapped -Wl,--wrap=sockdiag_${family}_fill_details"
 done
@@ -160,12 +160,12 @@ if [ -z "${SOCKDIAG_LIBRARY-}" ] && command -v pkg-config >/dev/null &&
     PKG_CONFIG_PATH="$work/prefix/lib/pkgconfig" make -s -C "$work"
 else
     for name in list_sockets list_rtt sockdump socklist; do
-        build "$name" "$top/examples/$name.c"
+        build "$name" "$top/examples/$name.c" -DWITH_FILTERS
     done
 fi
 # With the replies of old and new kernels, made by hand.
 LD_LIBRARY_PATH="$work/prefix/lib" "$top/tests/api/kernels.py" "$work/list_sockets" "$work/list_rtt"
-"$top/tests/api/sockdump.py" "$work/sockdump"
+LD_LIBRARY_PATH="$work/prefix/lib" "$top/tests/api/sockdump.py" "$work/sockdump"
 sslist=${SSLIST_PROGRAM-$top/crates/sslist/out/sslist}
 if [ -x "$sslist" ]; then
     LD_LIBRARY_PATH="$work/prefix/lib" \

@@ -71,7 +71,7 @@ static void each_text_of_an_error(void) {
     for (code = 1; code <= UINT16_MAX; code++) {
         const char *text = sockdiag_error_text(code);
         const int is_known = (code >= least && code <= most) ||
-            (code >= SOCKDIAG_ITEM && code <= SOCKDIAG_INVALID_ARGUMENT);
+            (code >= SOCKDIAG_ITEM && code <= SOCKDIAG_FILTER_TOO_LONG);
         if (text == NULL || (strcmp(text, unknown) != 0) != is_known)
             check(0, "the text of a number");
     }

@@ -536,6 +536,51 @@ static void explains_attributes(void) {
     EXPLAINS(of_inet, mark + 5, 8, LENGTHS(SOCKDIAG_ATTRIBUTE_LENGTH_UNDER_4, 0, 0));
 }
 
+/* Returns the offset of the error of the bytes. */
+static size_t offset_of(uint32_t what, const uint8_t *bytes, size_t length) {
+    struct sockdiag_error_details error;
+    memset(&error, UNTOUCHED, sizeof error);
+    check(sockdiag_explain(what, bytes, length, &error, sizeof error) != SOCKDIAG_OK, "an error");
+    return error.offset;
+}
+
+/* The offset of the first attribute with an error, after one with 3 bytes of padding. The padding
+ * of the last attribute may be missing. */
+static void has_offsets(void) {
+    /* A family, the length of its header, and a kind whose value has to have 4 bytes, or 99. */
+    static const struct {
+        uint8_t family, size;
+        uint16_t kind;
+    } rows[] = {{1, 16, 2}, {2, 72, 15}, {10, 72, 15}, {16, 28, 4}, {17, 16, 4}, {44, 16, 2},
+                {40, 32, 99}};
+    uint8_t bytes[128] = {0};
+    size_t row, end;
+    for (row = 0; row < sizeof rows / sizeof *rows; row++) {
+        const uint8_t family = rows[row].family, size = rows[row].size;
+        bytes[0] = family;
+        end = put(bytes, size, 98, "12345", 5);
+        check(end == size + 12u, "a padded attribute");
+        end = put(bytes, end, rows[row].kind, "12345", 5);
+        end = put(bytes, end, rows[row].kind, "1", 1);
+        if (rows[row].kind != 99)
+            check(offset_of(family, bytes, end) == size + 12u, "the first error of two");
+        check(offset_of(family, bytes, size + 12u + 8) == size + 12u, "a truncated attribute");
+        check(offset_of(family, bytes, size + 12u + 3) == size + 12u, "a truncated header");
+        bytes[size + 12] = 3;
+        check(offset_of(family, bytes, end) == size + 12u, "a length below 4");
+        check(offset_of(family, bytes, size - 1u) == 0, "a truncated header of a reply");
+        check(offset_of(SOCKDIAG_EXPLAIN_MESSAGE, bytes, end) ==
+              (family == 1 || family == 2 || family == 10 ? size + 12u : 0), "a message");
+    }
+    bytes[0] = 43;
+    check(offset_of(43, bytes, 16) == 0 && offset_of(SOCKDIAG_EXPLAIN_MESSAGE, bytes, 16) == 0 &&
+          offset_of(SOCKDIAG_EXPLAIN_MESSAGE, bytes, 0) == 0, "a family that is unknown");
+    bytes[0] = 1;
+    check(offset_of(SOCKDIAG_EXPLAIN_DATAGRAM, bytes, 20) == 0 &&
+          offset_of(SOCKDIAG_EXPLAIN_UNIX_ATTRIBUTE, bytes, 20) == 0 &&
+          offset_of(SOCKDIAG_EXPLAIN_INET_ATTRIBUTE, bytes, 20) == 0, "an item by itself");
+}
+
 /* Bits of the options, as struct inet_diag_sockopt of linux/inet_diag.h has them. */
 static void has_numbers(void) {
     check(SOCKDIAG_OPTION_RECV_ERR == 1 && SOCKDIAG_OPTION_IS_ICSK == 2 &&
@@ -569,6 +614,7 @@ int main(void) {
     explains_messages();
     explains_framing();
     explains_attributes();
+    has_offsets();
     has_numbers();
     return end_of_tests("c_values");
 }

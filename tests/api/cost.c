@@ -93,6 +93,10 @@ static void value(uint8_t *bytes, size_t length) {
     memset(bytes, 1, length);
 }
 
+static void spaces(uint8_t *bytes, size_t length) {
+    memset(bytes, ' ', length);
+}
+
 /* ---- calls */
 
 typedef void run(const uint8_t *bytes, size_t length);
@@ -162,6 +166,11 @@ static void write_requests(const uint8_t *bytes, size_t length) {
     sink += sockdiag_version();
 }
 
+static void parse_filter(const uint8_t *bytes, size_t length) {
+    struct sockdiag_filter_details filter;
+    sink += sockdiag_parse_filter(bytes, length, output, sizeof output, &filter, sizeof filter);
+}
+
 /* Each row has a call, the type of what it stores, which is not read, and forms of inputs. */
 #define ROWS(STRUCT, DETAILS, LENIENT, WALK, REWRITE, OTHER)                                    \
     STRUCT(sockdiag_check_unix_reply, struct sockdiag_unix_header, unix_empty, unix_peers,      \
@@ -218,6 +227,7 @@ static void write_requests(const uint8_t *bytes, size_t length) {
     WALK(sockdiag_next_instruction, struct sockdiag_filter_instruction, value)                  \
     REWRITE(sockdiag_rewrite_unix_reply, , unix_empty, unix_peers, unix_path, unix_pending)     \
     REWRITE(sockdiag_rewrite_inet_reply, , inet_empty, inet_marks, inet_text)                   \
+    OTHER(parse_filter, , spaces, value)                                                        \
     OTHER(write_request, , attributes)                                                          \
     OTHER(write_requests, , value)
 
@@ -299,7 +309,7 @@ int main(int count, char **arguments) {
     for (row = 0; row < sizeof rows / sizeof *rows; row++) {
         for (form = 0; form < 6 && rows[row].forms[form] != NULL; form++) {
             fill *fill = rows[row].forms[form];
-            const uint64_t few = measure(rows[row].call, fill, SHORT, arguments[1]);
+            const uint64_t few = measure(rows[row].call, fill, SHORT - 4, arguments[1]);
             const uint64_t many = measure(rows[row].call, fill, LONG - 4, arguments[1]);
             const double factor = few == 0 ? MOST_FACTOR + 1.0 : (double)many / (double)few;
             if (factor > worst)

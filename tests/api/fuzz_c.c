@@ -173,7 +173,7 @@ static void try_explaining(explain *call, const uint8_t *bytes, size_t length, u
         expect(is_untouched(it, sizeof *it), "an error that is not there");
         return;
     }
-    expect(it->code == code && it->got <= length && it->index <= length &&
+    expect(it->code == code && it->got <= length && it->index <= length && it->offset <= length &&
            it->record_name <= SOCKDIAG_RECORD_FAMILY_ATTRIBUTE && it->kind.is_set <= 1,
            "an explained error");
     expect((it->record_name != 0) == (code == SOCKDIAG_BUFFER_TOO_SMALL), "the record of an error");
@@ -278,7 +278,7 @@ static void try_families(const uint8_t *payload, size_t length) {
         CALL(it, struct sockdiag_packet_details, sockdiag_packet_get_details(payload, length, it,
                                                                              sizeof *it));
         if (it_fault == SOCKDIAG_OK) {
-            expect_text(&it->addresses, payload, length);
+            expect_text(&it->memberships, payload, length);
             expect_text(&it->filter, payload, length);
         }
         try_explaining(explain_packet, payload, length, it_fault);
@@ -444,6 +444,50 @@ static void try_error_attributes(const uint8_t *bytes, size_t length) {
            "the offset of the attributes of an error");
 }
 
+/* Parses a text, into a buffer that may be too short. */
+static void try_filter(const uint8_t *text, size_t length) {
+    const size_t capacity = random_below(64);
+    uint8_t *program = bytes_in(buffer_area, capacity);
+    struct sockdiag_filter_details *it =
+        (struct sockdiag_filter_details *)(void *)bytes_in(output_area, sizeof *it);
+    const uint32_t code =
+        sockdiag_parse_filter(text, length, program, capacity, it, sizeof *it);
+    const int is_filter = code == SOCKDIAG_OK || code == SOCKDIAG_NO_SPACE;
+    expect(is_filter || (code >= SOCKDIAG_FILTER_UNEXPECTED && code <= SOCKDIAG_FILTER_TOO_LONG),
+           "the code of a filter");
+    expect(it->error_offset <= length && (!is_filter || it->error_offset == 0) &&
+               (it->error_offset == length) >= (code == SOCKDIAG_FILTER_INCOMPLETE),
+           "the offset of an error");
+    expect(it->program_length % 4 == 0 && it->program_length <= SOCKDIAG_FILTER_PROGRAM_LENGTH &&
+               (it->program_length > capacity) == (code == SOCKDIAG_NO_SPACE) &&
+               (is_filter || (it->program_length == 0 && it->states.is_set == 0)),
+           "the length of a program");
+    if (code != SOCKDIAG_OK)
+        expect(is_untouched(program, capacity), "the program of an error");
+    else
+        expect(is_untouched(program + it->program_length, capacity - it->program_length),
+               "the bytes after a program");
+}
+
+/* Parses up to eight random words. */
+static void try_words(void) {
+    static const char *const words[] = {
+        "state ", "exclude ", "listening ", "all ", "sport ", "dport ", "src ", "dst ", "dev ",
+        "= ", ">= ", "!= ", "( ", ") ", "! ", "and ", "or ", ":443 ", "1 ", "10.0.0.0/8:53 ",
+        "[::1]:0 ", "autobound ", "fwmark ", "0x1/0x3 ", "cgroup ", "x ", "\n",
+    };
+    char text[8 * 16] = "";
+    uint32_t count = random_below(9);
+    size_t length;
+    uint8_t *copy;
+    while (count-- > 0)
+        strcat(text, words[random_below(sizeof words / sizeof *words)]);
+    length = strlen(text);
+    copy = bytes_in(input_area, length);
+    memcpy(copy, text, length);
+    try_filter(copy, length);
+}
+
 static void try_all(const uint8_t *bytes, size_t length) {
     int32_t *number = (int32_t *)(void *)bytes_in(output_area, sizeof *number);
     const uint16_t type = random_below(8) ? SOCKDIAG_SOCK_DIAG_BY_FAMILY : (uint16_t)length;
@@ -466,6 +510,8 @@ static void try_all(const uint8_t *bytes, size_t length) {
     try_error_attributes(bytes, length);
     try_requests(bytes, length);
     try_attributes_of_request(bytes, length);
+    try_filter(bytes, length);
+    try_words();
 }
 
 int main(int argc, char **argv) {

@@ -47,6 +47,22 @@ uint32_t __wrap_sockdiag_fill_explain(uint32_t what, const uint8_t *bytes, size_
     fill_later(code != SOCKDIAG_OK && code != SOCKDIAG_INVALID_ARGUMENT, later, later_length);
     return code;
 }
+
+uint32_t __real_sockdiag_fill_parse_filter(const uint8_t *, size_t, uint8_t *, size_t,
+                                           struct sockdiag_filter_details *, uint8_t *, size_t);
+uint32_t __wrap_sockdiag_fill_parse_filter(const uint8_t *text, size_t length, uint8_t *program,
+                                           size_t program_length,
+                                           struct sockdiag_filter_details *filter, uint8_t *later,
+                                           size_t later_length);
+uint32_t __wrap_sockdiag_fill_parse_filter(const uint8_t *text, size_t length, uint8_t *program,
+                                           size_t program_length,
+                                           struct sockdiag_filter_details *filter, uint8_t *later,
+                                           size_t later_length) {
+    const uint32_t code = __real_sockdiag_fill_parse_filter(text, length, program, program_length,
+                                                            filter, later, later_length);
+    fill_later(1, later, later_length);
+    return code;
+}
 #else
 #define WRAP(family, it)
 #endif
@@ -134,9 +150,25 @@ static void try_explaining(void) {
               sockdiag_explain(1, numbered, 16, error, sizeof *error) == SOCKDIAG_OK &&
               is_untouched(error, sizeof *error), "nothing to explain");
     check(sockdiag_explain(1, numbered, 3, error, sizeof *error) == SOCKDIAG_BUFFER_TOO_SMALL &&
-              error->got == 3 && error->index == 0, "an explained error");
+              error->got == 3 && error->offset == 0, "an explained error");
     EXPECT_LATER(error);
     free(error);
+}
+
+static void try_filter(const char *text, uint32_t code, size_t error_offset) {
+    struct sockdiag_filter_details *filter =
+        (struct sockdiag_filter_details *)malloc(sizeof *filter);
+    if (filter == NULL)
+        exit(1);
+    memset(filter, UNTOUCHED, sizeof *filter);
+    check(sockdiag_parse_filter((const uint8_t *)text, strlen(text), NULL, 0, filter, 8) ==
+              SOCKDIAG_INVALID_ARGUMENT && is_untouched(filter, sizeof *filter),
+          "a struct of a filter that is too small");
+    check(sockdiag_parse_filter((const uint8_t *)text, strlen(text), NULL, 0, filter,
+                                sizeof *filter) == code && filter->error_offset == error_offset,
+          "a filter");
+    EXPECT_LATER(filter);
+    free(filter);
 }
 
 int main(void) {
@@ -150,5 +182,8 @@ int main(void) {
     try_vsock();
     try_xdp();
     try_explaining();
+    try_filter("state listening", SOCKDIAG_OK, 0);
+    try_filter("sport = :1", SOCKDIAG_NO_SPACE, 0);
+    try_filter("state frob", SOCKDIAG_FILTER_UNEXPECTED, 6);
     return end_of_tests("later_fields");
 }

@@ -202,7 +202,7 @@ static void add_packet(struct words *words, const struct sockdiag_packet_details
     add(words, "kind=%u protocol=%u inode=%lu cookie=%llu ", it->header.kind, it->header.protocol,
         (unsigned long)it->header.inode, (unsigned long long)it->header.cookie);
     add_record(words, "info", it->has_info, numbers, 6);
-    add_text(words, "addresses", &it->addresses);
+    add_text(words, "memberships", &it->memberships);
     add_ring(words, "receive_ring", it->has_receive_ring, &it->receive_ring);
     add_ring(words, "send_ring", it->has_send_ring, &it->send_ring);
     add_number(words, "fanout", it->fanout);
@@ -275,10 +275,12 @@ static void add_rejections(struct words *words, uint32_t first) {
     size_t kind;
     expect(rejections->first == first, "the code of the first error");
     add(words, "first=");
-    if (first == SOCKDIAG_OK)
-        add(words, "0");
-    else
+    if (first == SOCKDIAG_OK) {
+        add(words, "0 offset=-");
+    } else {
         add_error(words);
+        add(words, " offset=%lu", (unsigned long)error->offset);
+    }
     add(words, " framing=%lu errors=", (unsigned long)rejections->framing);
     for (kind = 0; kind < sizeof rejections->errors; kind++)
         if (rejections->errors[kind] != 0) {
@@ -322,6 +324,7 @@ static void add_each_error(struct words *words, explain *call, size_t offset) {
 
 static void print_header_error(struct words *words) {
     expect(is_untouched(rejections, sizeof *rejections), "unchanged rejections");
+    expect(error->offset == 0, "the offset of the error of a header");
     add(words, "error ");
     add_error(words);
     puts(words->text);

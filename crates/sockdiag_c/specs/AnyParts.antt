@@ -62,20 +62,10 @@ abbrev pub v6_only_of : AnyValue → Option ℕ
 v6_only_of (any.v6_only only) = Some (if only then 1 else 0)
 v6_only_of other = None
 
--- the mark of the socket
-abbrev pub mark_of : AnyValue → Option ℕ
-mark_of (any.mark n) = Some n
-mark_of other = None
-
 -- the traffic control class
 abbrev pub class_id_of : AnyValue → Option ℕ
 class_id_of (any.class_id n) = Some n
 class_id_of other = None
-
--- the id of the control group of an internet socket
-abbrev pub cgroup_id_of : AnyValue → Option ℕ
-cgroup_id_of (any.cgroup_id id) = Some id
-cgroup_id_of other = None
 
 -- the options of an internet socket, as bits
 abbrev pub options_of : AnyValue → Option ℕ

@@ -53,13 +53,14 @@ no_error_details = record {
   need = 0;
   length = 0;
   index = 0;
+  offset = 0;
 }
 
 -- `error_fields e`: the struct with the fields of the error `e`, each in the member with its name.
 -- All other members are 0, also `code`. Two fields of errors have other members: `left`, the number
 -- of bytes left, is in `got`; and `which`, the record, is in `record_name`, `family` and `kind`.
 -- The last line is for all errors without fields, and for UnknownMessageType, whose field is in the
--- header of the message.
+-- header of the message. `offset` is not a field of an error (HasOffset).
 abbrev pub error_fields : DecodeError → ErrorDetails
 error_fields (error.BufferTooSmall which got need) = record no_error_details {
   record_name = record_code which;

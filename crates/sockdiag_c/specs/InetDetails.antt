@@ -8,10 +8,9 @@ use Rattle.sock_diag_extras.specs.AnyHeader.{timer_at}
 use Rattle.sock_diag_extras.specs.AnyNla.{AnyValue}
 use Rattle.sock_diag_extras.specs.declared.any.nla.InfoFormat.TheVariants.{Unknown}
 use Rattle.sock_diag_extras.specs.declared.any.nla.Sockets.TheVariants.{Inet}
-use Rattle.sock_diag_extras.specs.AnyParts.{memory_of, socket_protocol_of}
-use Rattle.sockdiag_c.specs.AnyParts.{cgroup_id_of, class_id_of, congestion_of, legacy_memory_of}
-use Rattle.sockdiag_c.specs.AnyParts.{mark_of, options_of, shutdown_of, tos_of, traffic_class_of}
-use Rattle.sockdiag_c.specs.AnyParts.{v6_only_of}
+use Rattle.sock_diag_extras.specs.AnyParts.{cgroup_id_of, mark_of, memory_of, socket_protocol_of}
+use Rattle.sockdiag_c.specs.AnyParts.{class_id_of, congestion_of, legacy_memory_of, options_of}
+use Rattle.sockdiag_c.specs.AnyParts.{shutdown_of, tos_of, traffic_class_of, v6_only_of}
 use Rattle.sockdiag_c.specs.declared.headers.InetHeader.{InetHeader}
 use Rattle.sockdiag_c.specs.declared.inet_details.InetDetails.{InetDetails}
 use Rattle.sockdiag_c.specs.declared.inet_details.LegacyMemory.{LegacyMemory}

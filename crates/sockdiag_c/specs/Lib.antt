@@ -18,5 +18,7 @@ pub mod VsockDetails
 pub mod XdpDetails
 pub mod FamilyRequests
 pub mod ExplainedReplies
+pub mod ErrorOffsets
+pub mod ParsedFilters
 pub mod laws
 pub mod private

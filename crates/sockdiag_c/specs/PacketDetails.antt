@@ -50,7 +50,7 @@ packet_family = record {
   read = read_any Packet;
   rows =
       record_row packet_info_of zero_packet_info (λ d. (d.has_info, d.info))
-      ∷ bytes_row memberships_of (λ d. d.addresses)
+      ∷ bytes_row memberships_of (λ d. d.memberships)
       ∷ record_row receive_frames_of zero_packet_ring (λ d. (d.has_receive_ring, d.receive_ring))
       ∷ record_row send_frames_of zero_packet_ring (λ d. (d.has_send_ring, d.send_ring))
       ∷ number_row fanout_of (λ d. d.fanout)

@@ -150,7 +150,7 @@ pub extern "C" fn sockdiag_next_pending(value: &[u8], cursor: &mut Cursor, inode
 }
 
 /// Iterates over the memberships of a packet socket, of 44 bytes each, in the value of
-/// `PACKET_DIAG_MCLIST`, the field `addresses` of its details.
+/// `PACKET_DIAG_MCLIST`, the field `memberships` of its details.
 #[unsafe(no_mangle)]
 pub extern "C" fn sockdiag_next_membership(
     value: &[u8],

@@ -11,11 +11,14 @@ ghost use Rattle.sock_diag_attributes.specs.InetAttributes.{inet_attribute_set};
 ghost use Rattle.sock_diag_attributes.specs.UnixAttributes.{unix_attribute_set};
 ghost use Rattle.sockdiag_c.specs.Answers.{padded_or_truncated};
 ghost use Rattle.sockdiag_c.specs.ErrorDetails.{IsExplained, IsItemExplained, error_details_of};
+ghost use Rattle.sockdiag_c.specs.ErrorOffsets.{HasOffset};
+ghost use Rattle.sockdiag_c.specs.declared.error_details.ErrorDetails.{ErrorDetails};
 ghost use Rattle.sockdiag_c.specs.ExplainedReplies.{IsErrorExplained, IsReplyExplained};
 ghost use Rattle.sockdiag_c.specs.ErrorDetails.{record_code, record_family, record_kind};
 ghost use Rattle.sockdiag_c.specs.Family.{AreDetailsOf, IsFirstError};
 
 use crate::details::{Number, ReplyDetails, strict_details};
+use crate::error_offsets::error_offset;
 use crate::netlink_details::NetlinkDetails;
 use crate::packet_details::PacketDetails;
 use crate::results::{INVALID_ARGUMENT, OK, copy_padded};
@@ -69,9 +72,12 @@ pub struct ErrorDetails {
     pub length: usize,
     /// Index of the first NUL in a pathname (`SOCKDIAG_NAME_INNER_ZERO`).
     pub index: usize,
+    /// Offset of the error in the bytes: that of the attribute whose framing or value is wrong. 0
+    /// if the header is wrong, and for a datagram or a single attribute.
+    pub offset: usize,
 }
 
-const _: () = prove!(std::mem::size_of::<ErrorDetails>() == 56);
+const _: () = prove!(std::mem::size_of::<ErrorDetails>() == 64);
 
 // Returns the number `SOCKDIAG_RECORD_..` of the record with this name, the family that the name
 // has, or 0, and the kind of attribute that it has, or `None`. `tools/bindings` writes the numbers
@@ -176,14 +182,18 @@ pub extern "C" fn sockdiag_fill_explain(
     error: &mut ErrorDetails,
     later: &mut [u8],
 ) -> u32
-    ensures error { IsErrorExplained what bytes.now
-        record { old = error.old; new = error.new; returned = result } }
+    // `details`: the struct without the offset.
+    ensures error { (details : ErrorDetails) × IsErrorExplained what bytes.now
+        record { old = error.old; new = details; returned = result }
+        × HasOffset what bytes.now
+        record { old = details; new = error.new; returned = result } }
     ensures later { result ≢ 0 → result ≢ INVALID_ARGUMENT
         → later.new ≡ padded_or_truncated (length later.old) [] }
     ensures unchanged { (result ≡ 0) ⊎ (result ≡ INVALID_ARGUMENT) → later.new ≡ later.old }
 {
     let code = explain_bytes(what, bytes, error);
     if code != OK && code != INVALID_ARGUMENT {
+        error.offset = error_offset(what, bytes);
         copy_padded(&[], later);
     }
     code

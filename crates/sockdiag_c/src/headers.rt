@@ -17,8 +17,8 @@ pub struct UnixHeader {
     /// Type of the socket, one of `SOCK_..` (`udiag_type`, at 1).
     pub kind: u8,
     /// State (`udiag_state`, at 2): `TCP_LISTEN` (10) if the socket listens, `TCP_ESTABLISHED` (1)
-    /// if it was connected, whether or not it has a peer now, else `TCP_CLOSE` (7), as of most
-    /// datagram sockets.
+    /// if it was connected, also if the peer has closed since, else `TCP_CLOSE` (7), as of most
+    /// datagram sockets. A datagram socket is in state 7 again after a connect(2) to `AF_UNSPEC`.
     pub state: u8,
     /// Inode of the socket (`udiag_ino`, at 4).
     pub inode: u32,
@@ -58,11 +58,14 @@ pub struct InetHeader {
     pub interface_id: u32,
     /// Cookie that distinguishes sockets with the same addresses and ports (`idiag_cookie`, at 44).
     pub cookie: [u8; 8],
-    /// Number of pending connections of a listening TCP socket, else bytes that have not been read
-    /// (`idiag_rqueue`, at 56).
+    /// Number of pending connections of a listening TCP socket (`idiag_rqueue`, at 56). For other
+    /// TCP sockets, number of bytes that have not been read; a FIN counts as one. For UDP and raw
+    /// sockets, memory in use by the receive queue in bytes, which exceeds the data.
     pub recv_queue: u32,
-    /// Limit of pending connections (backlog) of a listening TCP socket, else bytes in the send
-    /// queue: for TCP, those that are not yet acknowledged (`idiag_wqueue`, at 60).
+    /// Limit of pending connections (backlog) of a listening TCP socket (`idiag_wqueue`, at 60).
+    /// For other TCP sockets, number of bytes that are not yet acknowledged; a SYN and a FIN count
+    /// as one each. For UDP and raw sockets, memory in use by packets that are being sent, in
+    /// bytes.
     pub send_queue: u32,
     /// User id of the owner (`idiag_uid`, at 64).
     pub uid: u32,

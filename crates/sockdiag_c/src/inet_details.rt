@@ -38,9 +38,9 @@ pub struct LegacyMemory {
 
 const _: () = prove!(std::mem::size_of::<LegacyMemory>() == 16);
 
-/// Everything that a reply contains about an IPv4 or IPv6 socket, except its connection
-/// (`INET_DIAG_INFO`), which `sockdiag_inet_get_tcp_info` and `sockdiag_inet_get_mptcp_info`
-/// return.
+/// What a reply contains about an IPv4 or IPv6 socket. `sockdiag_inet_get_tcp_info` and
+/// `sockdiag_inet_get_mptcp_info` return its connection (`INET_DIAG_INFO`), and
+/// `sockdiag_next_attribute` all other attributes without a field.
 #[repr(C)]
 #[derive(Clone, Copy, Default)]
 pub struct InetDetails<'a> {

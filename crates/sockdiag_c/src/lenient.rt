@@ -126,7 +126,7 @@ pub extern "C" fn sockdiag_unix_fill_lenient_details<'a>(
 
 /// Parses a reply about an IPv4 or IPv6 socket leniently. An `INET_DIAG_INFO` of fewer than 232
 /// bytes, as of MPTCP, is in the rejections: `sockdiag_inet_get_tcp_info` and
-/// `sockdiag_inet_get_mptcp_info` return a value of any length.
+/// `sockdiag_inet_get_mptcp_info` return a value of any length above 0.
 #[unsafe(no_mangle)]
 pub extern "C" fn sockdiag_inet_fill_lenient_details<'a>(
     payload: &'a [u8],

@@ -32,7 +32,7 @@ pub struct PacketDetails<'a> {
     /// 1), 44 bytes each, which `sockdiag_next_membership` reads: addresses that it also receives,
     /// and promiscuous or all-multicast mode, which have no address. The kind of the text is
     /// `SOCKDIAG_BYTES`.
-    pub addresses: Text<'a>,
+    pub memberships: Text<'a>,
     /// 1 if `receive_ring` is set, else 0.
     pub has_receive_ring: u32,
     /// Receive ring (`PACKET_DIAG_RX_RING`, type 2).
@@ -94,7 +94,7 @@ impl<'a> ReplyDetails<'a> for PacketDetails<'a> {
     fn set(&mut self, nla: AnyNla<'a>) {
         match nla {
             AnyNla::PacketInfo(info) => set_record(info, &mut self.has_info, &mut self.info),
-            AnyNla::Memberships(records) => self.addresses.set(BYTES, records),
+            AnyNla::Memberships(records) => self.memberships.set(BYTES, records),
             AnyNla::ReceiveFrames(ring) => {
                 set_record(ring, &mut self.has_receive_ring, &mut self.receive_ring);
             }

@@ -27,8 +27,10 @@ use std::net::{IpAddr, Ipv4Addr, Ipv6Addr};
 #[derive(Clone, Copy)]
 pub struct RequestHeader {
     /// `NLM_F_REQUEST`, and `NLM_F_DUMP` to request all sockets (`nlmsg_flags`). Without
-    /// `NLM_F_DUMP` the answer is one message without an end, and inode or addresses, ports and
-    /// cookie select the socket.
+    /// `NLM_F_DUMP` the answer is one message, and an `NLMSG_ERROR` with the number 0 follows it
+    /// only with `NLM_F_ACK`; inode or addresses, ports and cookie select the socket, and states do
+    /// not. Without `NLM_F_REQUEST` the kernel does not answer, except that it acknowledges the
+    /// message with `NLM_F_ACK`.
     pub flags: u16,
     /// Sequence number, which the answer repeats (`nlmsg_seq`). If each request has another one,
     /// `sockdiag_is_answer` recognizes its answer.
@@ -48,8 +50,8 @@ pub struct UnixRequest {
     pub header: RequestHeader,
     /// States to include, with the bit `1 << TCP_LISTEN` for `TCP_LISTEN` (`udiag_states`).
     /// `UINT32_MAX` includes all. A UNIX socket is in state 1, 7 or 10: without the bit `1 <<
-    /// TCP_CLOSE`, sockets that neither listen nor were ever connected are missing, as most
-    /// datagram sockets are.
+    /// TCP_CLOSE`, sockets that neither listen nor were connected are missing, as most datagram
+    /// sockets are. Only a request with `NLM_F_DUMP` selects by states.
     pub states: u32,
     /// Inode, to request a single socket (`udiag_ino`). With `NLM_F_DUMP` the kernel ignores it.
     pub inode: u32,
@@ -63,7 +65,10 @@ pub struct UnixRequest {
 
 const _: () = prove!(std::mem::size_of::<UnixRequest>() == 32);
 
-/// A request for IPv4 or IPv6 sockets: `struct inet_diag_req_v2` of sock_diag(7).
+/// A request for IPv4 or IPv6 sockets: `struct inet_diag_req_v2` of sock_diag(7). With
+/// `NLM_F_DUMP` the kernel selects sockets by family, protocol, states and ports, and a port 0
+/// means all ports; it ignores addresses, interface and cookie. Without `NLM_F_DUMP` it selects one
+/// socket by family, protocol, addresses, ports, interface and cookie, and ignores states.
 #[repr(C)]
 #[derive(Clone, Copy)]
 pub struct InetRequest {
@@ -152,10 +157,12 @@ pub extern "C" fn sockdiag_write_inet_request(
     write_inet(SOCK_DIAG_BY_FAMILY, request, buffer, written)
 }
 
-/// Writes a request for the kernel to close the selected IPv4 or IPv6 sockets, of type
-/// `SOCK_DESTROY`, and else as `sockdiag_write_inet_request`. The flags are `NLM_F_REQUEST`, and
-/// `NLM_F_ACK` to have success acknowledged. Linux closes TCP, UDP and raw sockets if the caller
-/// has `CAP_NET_ADMIN`.
+/// Writes a request for the kernel to close one IPv4 or IPv6 socket, of type `SOCK_DESTROY`, and
+/// else as `sockdiag_write_inet_request`. The flags are `NLM_F_REQUEST`, and `NLM_F_ACK` to have
+/// success acknowledged. Addresses, ports, interface and cookie select the socket, and states do
+/// not. If no TCP connection has these addresses and ports, Linux takes the socket that listens on
+/// the local port: pass the cookie of the reply, so that it closes no other socket. Linux closes
+/// TCP, UDP and raw sockets if the caller has `CAP_NET_ADMIN`.
 #[unsafe(no_mangle)]
 pub extern "C" fn sockdiag_write_inet_destroy(
     request: &InetRequest,

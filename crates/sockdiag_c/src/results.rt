@@ -13,7 +13,8 @@ pub(crate) const OK: u32 = 0;
 /// An iterator has stored an item.
 pub(crate) const ITEM: u32 = 100;
 
-/// An iterator is at the end, or the reply lacks the value that the call copies.
+/// An iterator is at the end, or the reply lacks the value that the call copies, or has one of
+/// length 0.
 pub(crate) const END: u32 = 101;
 
 /// The buffer is shorter than the message, whose length is stored.
@@ -22,8 +23,18 @@ pub(crate) const NO_SPACE: u32 = 102;
 /// A message or an attribute is too long for its length field.
 pub(crate) const TOO_LONG: u32 = 103;
 
-/// The size of a struct is below that of version 1.0, or `what` is unknown.
+/// The size of a struct is below that of version 1.0, or the argument `what` is unknown.
 pub(crate) const INVALID_ARGUMENT: u32 = 104;
+
+/// No filter begins with the text up to and including a word, and one begins with the words before
+/// it.
+pub(crate) const FILTER_UNEXPECTED: u32 = 105;
+
+/// The text ends before the end of the filter.
+pub(crate) const FILTER_INCOMPLETE: u32 = 106;
+
+/// With a word the filter has more than 256 conditions, operators and open groups.
+pub(crate) const FILTER_TOO_LONG: u32 = 107;
 
 /// Stores the parsed value in the target, and returns 0. If it was rejected, returns the code of
 /// the error; then the target is unchanged.

@@ -16,10 +16,10 @@ use netlink_packet_sock_diag::inet::INET_RESPONSE_HEADER_LEN;
 /// Copies the TCP connection of a reply about an IPv4 or IPv6 socket: the value of the first
 /// `INET_DIAG_INFO`. `info_size` is `sizeof *info`: at most as many bytes are copied, and the
 /// remaining ones are set to 0. Stores the length of the value in bytes. Returns `SOCKDIAG_END` if
-/// the reply has no value; then nothing is stored.
+/// the reply has no value, or one of length 0; then nothing is stored.
 ///
 /// Each kernel sends the struct in its own length, which may also be longer: `SOCKDIAG_HAS` tests
-/// whether the value contains a field. A value of any length is accepted, also one that
+/// whether the value contains a field. A value of any length above 0 is accepted, also one that
 /// `sockdiag_inet_get_details` rejects. Attributes after a framing error are not found.
 ///
 /// A time that the kernel has not measured has its first value: `rtt` of a socket that listens is

@@ -37,7 +37,8 @@ pub struct UnixDetails<'a> {
     /// Inode of the peer (`UNIX_DIAG_PEER`).
     pub peer: Number,
     /// Number of connections that wait to be accepted on a listening socket, else number of bytes
-    /// that have not been read (`udiag_rqueue` of `UNIX_DIAG_RQLEN`).
+    /// that have not been read (`udiag_rqueue` of `UNIX_DIAG_RQLEN`). For a datagram socket, it is
+    /// the length of the first datagram in the queue.
     pub recv_queue: Number,
     /// Limit of these connections for a listening socket, else bytes of memory in use by data that
     /// was sent and has not been read (`udiag_wqueue` of `UNIX_DIAG_RQLEN`).
