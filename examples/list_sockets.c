@@ -14,7 +14,6 @@
 #include "dump.h"
 
 #include <arpa/inet.h>
-#include <linux/inet_diag.h>
 #include <netinet/in.h>
 #include <stdio.h>
 
@@ -230,29 +229,30 @@ static int list_unix(const struct selection *selection) {
     return list("unix", code, bytes, length);
 }
 
-/* A filter, INET_DIAG_REQ_BYTECODE: two operations, each followed by its operand. */
-struct port_filter {
-    struct nlattr head;
-    struct inet_diag_bc_op steps[4];
-};
-
-/* Returns the filter for a local port. An operation has the offset of the next operation if its
- * test holds, and the offset if not, which is past the end. */
-static struct port_filter filter_of(uint16_t port) {
-    const struct port_filter filter = {
-        {sizeof(struct port_filter), SOCKDIAG_INET_DIAG_REQ_BYTECODE},
-        {{INET_DIAG_BC_S_GE, 8, 20}, {0, 0, port}, {INET_DIAG_BC_S_LE, 8, 12}, {0, 0, port}},
-    };
-    return filter;
+/* Writes the filter for a local port, or for all if it is 0: an attribute INET_DIAG_REQ_BYTECODE.
+ * Returns its length, or 0 if there is no filter. */
+static size_t write_filter(uint16_t port, uint8_t *attribute, size_t size) {
+    char text[40] = "";
+    struct nlattr head = {0, SOCKDIAG_INET_DIAG_REQ_BYTECODE};
+    struct sockdiag_filter_details filter;
+    if (port != 0)
+        sprintf(text, "sport >= :%u and sport <= :%u", (unsigned)port, (unsigned)port);
+    if (sockdiag_parse_filter((const uint8_t *)text, strlen(text), attribute + sizeof head,
+                              size - sizeof head, &filter, sizeof filter)
+            != SOCKDIAG_OK
+        || filter.program_length == 0)
+        return 0;
+    head.nla_len = (uint16_t)(sizeof head + filter.program_length);
+    memcpy(attribute, &head, sizeof head);
+    return head.nla_len;
 }
 
 /* Lists the sockets of a protocol in the given states. */
 static int list_inet(const char *name, uint32_t protocol, uint8_t extensions, uint32_t states,
                      uint16_t port) {
     static const uint8_t families[2] = {AF_INET, AF_INET6};
-    const struct port_filter filter = filter_of(port);
-    const size_t filter_length = port != 0 ? sizeof filter : 0;
-    uint8_t bytes[SOCKDIAG_INET_REQUEST_LENGTH + sizeof filter];
+    uint8_t filter[64], bytes[SOCKDIAG_INET_REQUEST_LENGTH + sizeof filter];
+    const size_t filter_length = write_filter(port, filter, sizeof filter);
     struct sockdiag_inet_request request;
     size_t length;
     uint32_t code;
@@ -264,9 +264,8 @@ static int list_inet(const char *name, uint32_t protocol, uint8_t extensions, ui
     request.states = states;
     for (index = 0; index < 2; index++) {
         request.family = families[index];
-        code = sockdiag_write_inet_request_with_attributes(&request, (const uint8_t *)&filter,
-                                                           filter_length, bytes, sizeof bytes,
-                                                           &length);
+        code = sockdiag_write_inet_request_with_attributes(&request, filter, filter_length, bytes,
+                                                           sizeof bytes, &length);
         failed |= list(name, code, bytes, length);
     }
     return failed;

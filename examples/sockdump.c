@@ -1,12 +1,18 @@
 /*
- * sockdump [--netns=FILE] [--every=SECONDS] [KIND ..]: requests the sockets of this machine from
- * the kernel, and writes the requests and the answers as a capture to standard output, for sslist:
+ * sockdump [--netns=FILE] [--every=SECONDS] [KIND ..] [-- FILTER]: requests the sockets of this
+ * machine from the kernel, and writes the requests and the answers as a capture to standard output,
+ * for sslist:
  *
  *     sockdump | sslist
  *
- * It needs no privileges, no module and no library. With KIND, only sockets of these kinds are
- * requested: unix, tcp, udp, mptcp, raw, netlink, packet, vsock and xdp. A kernel without a kind
- * answers ENOENT or EINVAL. Such an answer is written only if KIND names the kind.
+ * It needs no privileges and no module. With KIND, only sockets of these kinds are requested: unix,
+ * tcp, udp, mptcp, raw, netlink, packet, vsock and xdp. A kernel without a kind answers ENOENT or
+ * EINVAL. Such an answer is written only if KIND names the kind.
+ *
+ * With FILTER, in the words of ss(8) that sockdiag.h describes, the kernel sends only the sockets
+ * in its states, and of internet sockets only those that meet its conditions. If it has conditions,
+ * other sockets are requested only if KIND names them. It needs the C library: compile with
+ * -DWITH_FILTERS, and link with -lsockdiag. Without the library the program takes no FILTER.
  *
  * With --every, the sockets are requested every SECONDS seconds, 1 to 86400, in one capture. It is
  * flushed after each round. The program ends by a signal, at an error, or when the readers of the
@@ -32,6 +38,10 @@
 #define PROGRAM "sockdump"
 
 #include "kernel.h"
+
+#ifdef WITH_FILTERS
+#include "sockdiag.h"
+#endif
 
 #include <linux/inet_diag.h>
 #include <linux/netlink_diag.h>
@@ -85,12 +95,19 @@ struct request {
 };
 
 /* A kind of socket: its name as an argument, its family and protocol, and the function that fills
- * the body of its request and returns the length of the body. */
+ * the body of its request for sockets in these states, and returns the length of the body. */
 struct kind {
     const char *name;
     uint8_t family;
     uint16_t protocol;
-    size_t (*fill)(struct request *request, const struct kind *kind);
+    size_t (*fill)(struct request *request, const struct kind *kind, uint32_t states);
+};
+
+/* What the kernel selects: states, and an attribute INET_DIAG_REQ_BYTECODE for internet sockets. */
+struct filter {
+    uint32_t states;
+    size_t length; /* Length of the attribute in bytes, or 0. */
+    uint8_t attribute[8192];
 };
 
 /* A datagram that was sent or received. */
@@ -107,20 +124,20 @@ static size_t stored_length(const struct datagram *it) {
     return it->length < sizeof it->data ? it->length : sizeof it->data;
 }
 
-static size_t fill_unix(struct request *request, const struct kind *kind) {
+static size_t fill_unix(struct request *request, const struct kind *kind, uint32_t states) {
     request->body.unix_sockets.sdiag_family = kind->family;
-    request->body.unix_sockets.udiag_states = UINT32_MAX;
+    request->body.unix_sockets.udiag_states = states;
     request->body.unix_sockets.udiag_show = UDIAG_SHOW_NAME | UDIAG_SHOW_VFS | UDIAG_SHOW_PEER
                                           | UDIAG_SHOW_ICONS | UDIAG_SHOW_RQLEN
                                           | UDIAG_SHOW_MEMINFO | UDIAG_SHOW_UID;
     return sizeof request->body.unix_sockets;
 }
 
-static size_t fill_inet(struct request *request, const struct kind *kind) {
+static size_t fill_inet(struct request *request, const struct kind *kind, uint32_t states) {
     request->body.inet.fixed.sdiag_family = kind->family;
     request->body.inet.fixed.sdiag_protocol = (uint8_t)kind->protocol;
     request->body.inet.fixed.idiag_ext = UINT8_MAX;
-    request->body.inet.fixed.idiag_states = UINT32_MAX;
+    request->body.inet.fixed.idiag_states = states;
     if (kind->protocol <= UINT8_MAX)
         return sizeof request->body.inet.fixed;
     /* Kernels without MPTCP ignore the attribute. By the low byte of the protocol, IPPROTO_TCP,
@@ -133,14 +150,16 @@ static size_t fill_inet(struct request *request, const struct kind *kind) {
     return sizeof request->body.inet;
 }
 
-static size_t fill_netlink(struct request *request, const struct kind *kind) {
+static size_t fill_netlink(struct request *request, const struct kind *kind, uint32_t states) {
+    (void)states;
     request->body.netlink.sdiag_family = kind->family;
     request->body.netlink.sdiag_protocol = NDIAG_PROTO_ALL;
     request->body.netlink.ndiag_show = NDIAG_SHOW_MEMINFO | NDIAG_SHOW_GROUPS | NDIAG_SHOW_FLAGS;
     return sizeof request->body.netlink;
 }
 
-static size_t fill_packet(struct request *request, const struct kind *kind) {
+static size_t fill_packet(struct request *request, const struct kind *kind, uint32_t states) {
+    (void)states;
     request->body.packet.sdiag_family = kind->family;
     request->body.packet.pdiag_show = PACKET_SHOW_INFO | PACKET_SHOW_MCLIST | PACKET_SHOW_RING_CFG
                                     | PACKET_SHOW_FANOUT | PACKET_SHOW_MEMINFO
@@ -148,13 +167,14 @@ static size_t fill_packet(struct request *request, const struct kind *kind) {
     return sizeof request->body.packet;
 }
 
-static size_t fill_vsock(struct request *request, const struct kind *kind) {
+static size_t fill_vsock(struct request *request, const struct kind *kind, uint32_t states) {
     request->body.vsock.sdiag_family = kind->family;
-    request->body.vsock.vdiag_states = UINT32_MAX;
+    request->body.vsock.vdiag_states = states;
     return sizeof request->body.vsock;
 }
 
-static size_t fill_xdp(struct request *request, const struct kind *kind) {
+static size_t fill_xdp(struct request *request, const struct kind *kind, uint32_t states) {
+    (void)states;
     request->body.xdp.sdiag_family = kind->family;
     request->body.xdp.xdiag_show = XDP_SHOW_INFO | XDP_SHOW_RING_CFG | XDP_SHOW_UMEM
                                  | XDP_SHOW_MEMINFO | XDP_SHOW_STATS;
@@ -204,6 +224,7 @@ struct selection {
     uint8_t is_joined[GROUPS];
     int has_events;         /* Whether a group is joined. Then nothing is requested. */
     const char *name_space; /* The file of a network namespace to enter, or NULL. */
+    struct filter filter;
 };
 
 /* The exit status after the readers of the pipe have closed it. */
@@ -236,17 +257,27 @@ static int write_packet(const struct datagram *it) {
     return write_bytes(it->data.bytes, stored_length(it));
 }
 
+/* Returns whether a kind has internet sockets, to which the conditions of a filter apply. */
+static int is_inet(const struct kind *kind) {
+    return kind->fill == fill_inet;
+}
+
 /* Sends the request for a kind, and stores it in a datagram. */
-static int send_request(int kernel, const struct kind *kind, struct datagram *sent) {
+static int send_request(int kernel, const struct kind *kind, const struct filter *filter,
+                        struct datagram *sent) {
     struct request request;
+    const size_t program_length = is_inet(kind) ? filter->length : 0;
+    size_t start;
     ssize_t length;
     memset(&request, 0, sizeof request);
-    sent->length = sizeof request.header + kind->fill(&request, kind);
+    start = sizeof request.header + kind->fill(&request, kind, filter->states);
+    sent->length = start + program_length;
     request.header.nlmsg_len = (uint32_t)sent->length;
     request.header.nlmsg_type = SOCK_DIAG_BY_FAMILY;
     request.header.nlmsg_flags = NLM_F_REQUEST | NLM_F_DUMP;
     request.header.nlmsg_seq = (uint32_t)(kind - kinds) + 1;
-    memcpy(sent->data.bytes, &request, sent->length);
+    memcpy(sent->data.bytes, &request, start);
+    memcpy(sent->data.bytes + start, filter->attribute, program_length);
     clock_gettime(CLOCK_REALTIME, &sent->time);
     do
         length = send(kernel, sent->data.bytes, sent->length, 0);
@@ -300,10 +331,10 @@ static int is_unknown_kind(const struct datagram *it) {
 
 /* Requests a kind, and writes the request and its answer, unless the kernel does not have the kind
  * and no argument names it. */
-static int dump(int kernel, const struct kind *kind, int is_named) {
+static int dump(int kernel, const struct kind *kind, const struct filter *filter, int is_named) {
     static struct datagram sent, received;
     int is_truncated = 0;
-    if (send_request(kernel, kind, &sent) != 0 || receive(kernel, &received) != 0)
+    if (send_request(kernel, kind, filter, &sent) != 0 || receive(kernel, &received) != 0)
         return -1;
     if (!is_named && is_unknown_kind(&received))
         return 0;
@@ -324,10 +355,12 @@ static int dump(int kernel, const struct kind *kind, int is_named) {
 
 /* Requests the selected kinds, and writes what is received of their answers. */
 static int dump_round(int kernel, const struct selection *selection) {
+    const struct filter *filter = &selection->filter;
     int index, failed = 0;
     for (index = 0; index < KINDS && failed == 0; index++)
-        if (!selection->has_names || selection->is_named[index])
-            failed = dump(kernel, &kinds[index], selection->is_named[index]);
+        if (selection->has_names ? selection->is_named[index]
+                                 : filter->length == 0 || is_inet(&kinds[index]))
+            failed = dump(kernel, &kinds[index], filter, selection->is_named[index]);
     /* A write that failed is reported already. */
     if (!ferror(stdout) && fflush(stdout) != 0)
         failed = fail("standard output");
@@ -423,13 +456,16 @@ static int write_events(int kernel) {
 }
 
 static const char usage[] =
-    "usage: sockdump [--netns=FILE] [--every=SECONDS] [KIND ..]\n"
+    "usage: sockdump [--netns=FILE] [--every=SECONDS] [KIND ..] [-- FILTER]\n"
     "       sockdump [--netns=FILE] --events[=tcp,udp]\n"
     "       sockdump --help | --version\n\n"
     "Requests the sockets of this machine from the kernel, and writes the answers as\n"
     "a capture to standard output: sockdump | sslist\n\n"
     "KIND is unix, tcp, udp, mptcp, raw, netlink, packet, vsock or xdp. Without KIND\n"
     "all are requested.\n\n"
+    "FILTER, in the words of ss(8), is what the kernel selects: states, such as\n"
+    "-- state listening, and conditions on internet sockets, such as -- dport = :443.\n"
+    "With conditions, other sockets are requested only if KIND names them.\n\n"
     "With --every they are requested every SECONDS seconds, 1 to 86400, until the\n"
     "output is closed or a signal ends the program.\n\n"
     "With --events nothing is requested: each TCP and UDP socket is written as it is\n"
@@ -469,14 +505,62 @@ static int read_seconds(const char *text, int *seconds) {
     return -1;
 }
 
-/* Reports an argument that is no kind. A byte that could control a terminal is shown as a question
+/* Reports a wrong word of this length. A byte that could control a terminal is shown as a question
  * mark. Returns -1. */
-static int reject(const char *argument) {
-    fputs("sockdump: unknown kind ", stderr);
-    for (; *argument; argument++)
-        fputc(*argument > ' ' && *argument <= '~' ? *argument : '?', stderr);
+static int reject(const char *word, size_t length) {
+    for (; length > 0; word++, length--)
+        fputc(*word > ' ' && *word <= '~' ? *word : '?', stderr);
     return fputs("; try sockdump -h\n", stderr), -1;
 }
+
+#ifdef WITH_FILTERS
+/* Joins the words of a filter by spaces. Returns the text, which free(3) frees, or NULL. */
+static char *join(char **words) {
+    size_t length = 1, count;
+    char *text;
+    for (count = 0; words[count] != NULL; count++)
+        length += strlen(words[count]) + 1;
+    text = (char *)calloc(length, 1);
+    for (length = 0; text != NULL && *words != NULL; words++)
+        length += (size_t)sprintf(text + length, "%s%s", length > 0 ? " " : "", *words);
+    return text;
+}
+
+/* Reads the text of a filter. */
+static int parse_filter(const char *text, struct filter *filter) {
+    struct sockdiag_filter_details found = {{0, 0}, 0, 0};
+    struct nlattr head = {0, INET_DIAG_REQ_BYTECODE};
+    const uint32_t code = sockdiag_parse_filter(
+        (const uint8_t *)text, strlen(text), filter->attribute + sizeof head,
+        sizeof filter->attribute - sizeof head, &found, sizeof found);
+    if (code != SOCKDIAG_OK) {
+        const char *word = text + found.error_offset;
+        fprintf(stderr, "sockdump: filter: %s at byte %lu%s", sockdiag_error_text(code),
+                (unsigned long)found.error_offset, *word == '\0' ? "" : ": ");
+        return reject(word, strcspn(word, " \t\n\f\r"));
+    }
+    if (found.states.is_set)
+        filter->states = found.states.value;
+    head.nla_len = (uint16_t)(sizeof head + found.program_length);
+    memcpy(filter->attribute, &head, sizeof head);
+    filter->length = found.program_length > 0 ? head.nla_len : 0;
+    return 0;
+}
+
+/* Reads the words of a filter, up to NULL. */
+static int read_filter(char **words, struct filter *filter) {
+    char *text = join(words);
+    const int failed = text == NULL ? fail("filter") : parse_filter(text, filter);
+    free(text);
+    return failed;
+}
+#else
+static int read_filter(char **words, struct filter *filter) {
+    (void)words;
+    (void)filter;
+    return fputs("sockdump: filter: this program was built without the C library\n", stderr), -1;
+}
+#endif
 
 /* Selects the groups of a protocol, whose name has this length. Returns how many there are. */
 static int select_groups(const char *name, size_t length, struct selection *selection) {
@@ -520,18 +604,26 @@ static int read_argument(const char *argument, struct selection *selection) {
         return read_events(text, selection);
     if ((text = after_name(argument, "--netns=")) != NULL)
         return selection->name_space = text, 0;
-    return select_kinds(argument, selection) > 0 ? 0 : reject(argument);
+    if (select_kinds(argument, selection) > 0)
+        return 0;
+    fputs("sockdump: unknown kind ", stderr);
+    return reject(argument, strlen(argument));
 }
 
 /* Reads the arguments. Returns 0, or -1 if one is wrong. */
-static int read_arguments(int count, char **arguments, struct selection *selection) {
-    int index;
-    for (index = 1; index < count; index++)
-        if (read_argument(arguments[index], selection) != 0)
+static int read_arguments(char **arguments, struct selection *selection) {
+    int has_filter;
+    selection->filter.states = UINT32_MAX;
+    while (*++arguments != NULL && strcmp(*arguments, "--") != 0)
+        if (read_argument(*arguments, selection) != 0)
             return -1;
-    if (!selection->has_events || (!selection->has_names && selection->seconds == 0))
+    has_filter = *arguments != NULL;
+    if (has_filter && read_filter(arguments + 1, &selection->filter) != 0)
+        return -1;
+    if (!selection->has_events
+        || (!selection->has_names && selection->seconds == 0 && !has_filter))
         return 0;
-    return fputs("sockdump: --events takes no KIND and no --every\n", stderr), -1;
+    return fputs("sockdump: --events takes no KIND, no --every and no FILTER\n", stderr), -1;
 }
 
 /* Writes the capture. Returns the exit status. */
@@ -546,14 +638,13 @@ static int capture(int kernel, const struct selection *selection) {
 }
 
 int main(int argc, char **argv) {
-    struct selection selection;
+    static struct selection selection;
     int kernel, status;
-    memset(&selection, 0, sizeof selection);
     if (argc > 1 && (strcmp(argv[1], "-h") == 0 || strcmp(argv[1], "--help") == 0))
         return print(usage);
     if (argc > 1 && (strcmp(argv[1], "-V") == 0 || strcmp(argv[1], "--version") == 0))
         return print("sockdump " VERSION "\n");
-    if (read_arguments(argc, argv, &selection) != 0)
+    if (read_arguments(argv, &selection) != 0)
         return 2;
     if (isatty(STDOUT_FILENO))
         return fputs("sockdump: standard output is a terminal; try sockdump | sslist\n", stderr), 1;

@@ -1,9 +1,9 @@
 /*
  * socklist [OPTION ..] [FILTER ..]: lists the sockets of this machine, as ss(8) does. It runs
  * sockdump, which requests them from the kernel, and sslist, which lists them, and accepts the
- * options of both. To what sslist writes it adds the names of interfaces and services, which only
- * the running system has, and with -p the processes that have the sockets open. With -K it has the
- * kernel close the sockets that it has listed.
+ * options of both. In place of numbers that sslist writes it has names of interfaces, services and
+ * protocols, and with -r of hosts. It adds the processes that have the sockets open with -p, counts
+ * the sockets with -s, and has the kernel close the sockets that it has listed with -K.
  *
  * Both programs are looked for in the folder of this one, and then on PATH. The exit status is 0 if
  * all was listed and closed, 1 if not, and 2 for wrong arguments. It needs the library. The program
@@ -18,34 +18,38 @@
 #include "sockdiag.h"
 #include "socklist_close.h"
 #include "socklist_options.h"
+#include "socklist_summary.h"
 
 #include <sys/mman.h>
-
-/* Exit status for wrong arguments, as of sockdump and sslist. */
-#define USAGE_ERROR 2
 
 /* A listing: what is done with each line of sslist. */
 struct listing {
     const struct options *options;
+    struct names names;
     struct processes processes;
+    struct summary summary;
     struct text line;
 };
 
-/* Prints a line of sslist with the names and the processes. */
+/* Prints a line of sslist with the names and the processes, or only counts the socket. */
 static int print_line(void *context, const char *line) {
     struct listing *it = (struct listing *)context;
     const struct processes *processes = it->options->has_processes ? &it->processes : NULL;
+    if (it->options->is_summary)
+        return count_line(&it->summary, line), 0;
     if (processes != NULL && find_processes(&it->processes) != 0)
         return -1;
     it->line.length = 0;
     if (it->options->is_json)
         add_object(&it->line, processes, line);
-    else if (!add_line(&it->line, &it->options->format, processes, line))
+    else if (!add_line(&it->line, it->options->has_details, &it->names, processes, line))
         return 0;
     add_byte(&it->line, '\n');
     if (fwrite(it->line.bytes, 1, it->line.length, stdout) != it->line.length)
         return fail("standard output");
-    return it->options->is_repeated && fflush(stdout) != 0 ? fail("standard output") : 0;
+    if (it->options->is_repeated && fflush(stdout) != 0)
+        return fail("standard output");
+    return it->names.failed;
 }
 
 /* Returns the exit status for those of both programs. */
@@ -68,7 +72,7 @@ static int list_recorded(const struct arguments *recorder, const struct argument
         close(ends[0]);
         return EXIT_FAILURE;
     }
-    status = list(lister, ends[0], print_line, listing);
+    status = take_output(lister, ends[0], print_line, listing);
     return joined_status(status, wait_for(process, recorder));
 }
 
@@ -97,7 +101,7 @@ static int list_file(const struct arguments *lister, int file,
             close(copy);
         return fail("capture"), EXIT_FAILURE;
     }
-    return list(lister, copy, take, context);
+    return take_output(lister, copy, take, context);
 }
 
 /* Records the sockets, lists them, asks, and closes them. Nothing is closed if not all were listed.
@@ -129,11 +133,17 @@ static int list_sockets(const struct options *options) {
     const struct arguments lister = lister_arguments(options, NULL);
     const struct arguments objects = lister_arguments(options, "--json");
     struct listing listing;
-    int status;
+    int status = EXIT_FAILURE;
     memset(&listing, 0, sizeof listing);
     listing.options = options;
-    status = options->has_kill ? close_listed(&options->recorder, &lister, &objects, &listing)
-                               : list_recorded(&options->recorder, &lister, &listing);
+    listing.names.is_numeric = options->is_numeric;
+    listing.names.has_hosts = options->has_hosts;
+    if (options->is_numeric || options->is_json || options->is_summary
+        || load_services(&listing.names) == 0)
+        status = options->has_kill ? close_listed(&options->recorder, &lister, &objects, &listing)
+                                   : list_recorded(&options->recorder, &lister, &listing);
+    if (options->is_summary && status == 0 && print_summary(&listing.summary) != 0)
+        status = EXIT_FAILURE;
     free(listing.line.bytes);
     free(listing.processes.items);
     free(listing.processes.names.bytes);
@@ -152,6 +162,7 @@ static int has_option(char **arguments, const char *letter, const char *name) {
 
 int main(int argc, char **argv) {
     static struct options options;
+    int status;
     if (has_option(argv, "-h", "--help"))
         return print(usage);
     if (has_option(argv, "-V", "--version"))
@@ -160,13 +171,14 @@ int main(int argc, char **argv) {
     options.space = 2 * ((size_t)argc + KINDS) + 16;
     options.recorder = make_arguments("sockdump", options.space);
     options.lister = make_arguments("sslist", options.space);
-    options.words = make_arguments("", options.space);
-    options.lister.count = options.words.count = 0;
+    options.lister.count = 0;
     if (read_arguments(&options, argc, argv) != 0 || check(&options) != 0)
         return USAGE_ERROR;
     if (!has_streams() || (options.name_space != NULL && enter(options.name_space) != 0))
         return EXIT_FAILURE;
     select_closed(&options);
-    append_kinds(&options);
+    if ((status = make_filter(&options)) != 0)
+        return status;
+    append_requests(&options);
     return list_sockets(&options);
 }

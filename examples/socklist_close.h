@@ -151,16 +151,18 @@ static void report(const struct sockdiag_inet_request *target, int error) {
             destination, target->destination_port, strerror(error));
 }
 
-/* Closes the sockets. Returns the exit status. */
+/* Closes the sockets. One that the kernel does not find was closed meanwhile, for example with the
+ * other end of its connection. Returns the exit status. */
 static int close_sockets(const struct targets *targets) {
     const int kernel = open_kernel();
     size_t index;
     int failed = kernel < 0;
     for (index = 0; kernel >= 0 && index < targets->count; index++) {
         const int error = close_socket(kernel, &targets->items[index]);
-        if (error != 0)
-            report(&targets->items[index], error);
-        failed |= error != 0;
+        if (error == 0 || error == ENOENT)
+            continue;
+        report(&targets->items[index], error);
+        failed = 1;
     }
     if (kernel >= 0)
         close(kernel);

@@ -5,10 +5,7 @@
 #ifndef SOCKLIST_OPTIONS_H
 #define SOCKLIST_OPTIONS_H
 
-#include "socklist_programs.h"
-#include "socklist_table.h"
-
-#include <limits.h>
+#include "socklist_words.h"
 
 /* A kind of socket: its letter, or 0; the name of its option, which is that of sockdump for it; and
  * whether its sockets are of IPv4 and IPv6. */
@@ -30,17 +27,20 @@ struct options {
     size_t space;              /* For how many arguments each array has space. */
     struct arguments recorder; /* Of sockdump. */
     struct arguments lister;   /* The options for sslist. */
-    struct arguments words;    /* The words of a filter. */
+    struct text words;         /* The words of a filter, as they were read. */
+    const char *states;        /* Words for the states that -a or -l selects, or NULL. */
+    const char *filter;        /* The filter for both programs. */
     const char *name_space;    /* The file of a network namespace, or NULL. */
-    struct format format;      /* The services: without -n. The details: with -o, -m, -i or -e. */
     int is_selected[KINDS];
     int has_version; /* -4 or -6. */
-    int has_states;  /* -a, -l, --state or -E, or a filter that begins with states. */
-    int has_filter;
-    int has_words; /* -- was read. */
+    int has_words;   /* -- was read. */
     int has_events;
     int is_repeated; /* --every or --events. */
     int is_json;
+    int is_summary;
+    int is_numeric;
+    int has_hosts;   /* Names of hosts. */
+    int has_details; /* -o, -m, -i or -e. */
     int has_processes;
     int has_kill;
     int is_confirmed; /* --yes. */
@@ -49,25 +49,27 @@ struct options {
 static const char usage[] =
     "usage: socklist [OPTION ..] [FILTER ..]\n"
     "       socklist --help | --version\n\n"
-    "Lists the sockets of this machine: runs sockdump and sslist. Options as in ss(8):\n\n"
+    "Lists the sockets of this machine, by sockdump and sslist. Options as in ss(8):\n\n"
     "  -t, -u, -M, -w, -x, -0  TCP, UDP, MPTCP, raw, UNIX and packet sockets; also\n"
     "                          --vsock, --xdp and -f FAMILY; without these all\n"
     "  -A KIND,..              these kinds, with the names that sockdump has\n"
     "  -4, -6                  only those of IPv4, of IPv6\n"
-    "  -a                      in all states; -l only listening; without these and\n"
-    "                          --state only connections, as in ss(8)\n"
+    "  -a                      in all states; -l only listening; without these only\n"
+    "                          connections, unless the filter names states\n"
     "  -p, --processes         the processes that have the socket open\n"
-    "  -n, --numeric           ports as numbers, not as services\n"
+    "  -n, --numeric           numbers, not names, of ports and protocols\n"
+    "  -r, --resolve           names of hosts\n"
+    "  -s, --summary           only the numbers of the selected sockets\n"
     "  -E, --events            TCP and UDP sockets as they are destroyed\n"
     "  -N, --net NAME          the network namespace /run/netns/NAME\n"
     "      --netns=FILE        the network namespace of a file\n"
     "      --every=SECONDS     a list every SECONDS seconds\n"
     "  -K, --kill              close the TCP and UDP sockets that are listed, which\n"
-    "                          needs a filter, such as --dport=443\n"
+    "                          needs a filter, such as dport = :443\n"
     "      --yes               with -K, do not ask\n\n"
-    "All other options are those of sslist, such as -l, -a, -o, -m, -i, -e, -H, -O,\n"
-    "--json, --state=STATE, --sport=PORT and --dst=ADDRESS: see sslist --help. Words\n"
-    "that are no options are passed to it after --.\n";
+    "All other options are those of sslist, such as -o, -m, -i, -e, -H, -O, --json:\n"
+    "see sslist --help. Words that are no options, and all after --, are a filter as\n"
+    "in ss(8): state established '( dport = :https or dst 10.0.0.0/8 )'.\n";
 
 /* Prints a text. Returns the exit status. */
 static int print(const char *text) {
@@ -91,12 +93,24 @@ static int select_kind(struct options *options, const char *name, size_t length)
     return 0;
 }
 
+/* Selects the kinds of a group: all, or those of IPv4 and IPv6 except MPTCP, as in ss(8). Returns
+ * whether there is one with a name of this length. */
+static int select_group(struct options *options, const char *name, size_t length) {
+    const int is_all = length == 3 && strncmp(name, "all", length) == 0;
+    const int is_inet = length == 4 && strncmp(name, "inet", length) == 0;
+    size_t index;
+    for (index = 0; index < KINDS; index++)
+        if (is_all || (is_inet && kinds[index].is_inet && index != MPTCP))
+            options->is_selected[index] = 1;
+    return is_all || is_inet;
+}
+
 /* Selects the kinds of a list of names, which commas separate. */
 static int select_kinds(struct options *options, const char *names) {
     size_t length;
     do {
         length = strcspn(names, ",");
-        if (!select_kind(options, names, length))
+        if (!select_kind(options, names, length) && !select_group(options, names, length))
             return reject("unknown kind in a list; kinds are those of sockdump, such as tcp,unix");
         names += length;
     } while (*names++ == ',');
@@ -141,33 +155,35 @@ static int read_letter(struct options *options, char letter) {
         if (kinds[index].letter == letter)
             return options->is_selected[index] = 1;
     options->has_version |= letter == '4' || letter == '6';
-    options->format.has_details |= strchr("omie", letter) != NULL;
-    options->has_states |= strchr("alE", letter) != NULL;
+    options->has_details |= strchr("omie", letter) != NULL;
+    if (letter == 'a' || letter == 'l')
+        options->states = letter == 'a' ? "" : "state listening state closed";
     options->has_processes |= letter == 'p';
-    options->format.is_numeric |= letter == 'n';
+    options->is_numeric |= letter == 'n';
+    options->has_hosts |= letter == 'r';
+    options->is_summary |= letter == 's';
     options->has_events |= letter == 'E';
     options->is_repeated |= letter == 'E';
     options->has_kill |= letter == 'K';
-    return strchr("pnEK", letter) != NULL;
+    return strchr("alpnrsEK", letter) != NULL;
 }
 
-/* Reads joined letters. Those for sslist stay in the argument. The last one may have a value, which
- * is the next argument. Returns how many arguments were read, or -1. */
+/* Reads joined letters. Those for sslist stay in the argument. If a letter has a value, it is the
+ * rest of the argument or the next one. Returns how many arguments were read, or -1. */
 static int read_letters(struct options *options, char *argument, const char *next) {
     char *letter = argument + 1, *end = argument + 1;
-    const char last = argument[strlen(argument) - 1];
-    const int has_value = strchr("AfN", last) != NULL;
-    for (; letter[has_value] != '\0'; letter++) {
-        if (strchr("AfN", *letter) != NULL)
-            return reject("-A, -f and -N have to be the last letter");
+    char last;
+    for (; *letter != '\0' && strchr("AfN", *letter) == NULL; letter++)
         if (!read_letter(options, *letter))
             *end++ = *letter;
-    }
+    last = *letter;
     *end = '\0';
     if (end > argument + 1)
         append(&options->lister, argument);
-    if (!has_value)
+    if (last == '\0')
         return 1;
+    if (letter[1] != '\0')
+        return read_value(options, last, letter + 1) == 0 ? 1 : -1;
     return read_value(options, last, next) == 0 ? 2 : -1;
 }
 
@@ -180,9 +196,10 @@ static const char *after_name(const char *argument, const char *name) {
 
 /* Long options that are the same as a letter. */
 static const struct { const char *name; char letter; } names[] = {
-    {"--processes", 'p'}, {"--numeric", 'n'}, {"--events", 'E'}, {"--kill", 'K'},
-    {"--options", 'o'},   {"--memory", 'm'},  {"--info", 'i'},   {"--extended", 'e'},
-    {"--ipv4", '4'},      {"--ipv6", '6'},    {"--all", 'a'},  {"--listening", 'l'},
+    {"--processes", 'p'}, {"--numeric", 'n'}, {"--resolve", 'r'}, {"--summary", 's'},
+    {"--events", 'E'},    {"--kill", 'K'},    {"--options", 'o'}, {"--memory", 'm'},
+    {"--info", 'i'},      {"--extended", 'e'}, {"--ipv4", '4'},   {"--ipv6", '6'},
+    {"--all", 'a'},       {"--listening", 'l'},
 };
 
 /* Reads a long option that is not passed to sslist. Returns whether it is one. */
@@ -201,35 +218,36 @@ static int read_own(struct options *options, const char *argument) {
     return options->is_repeated = 1;
 }
 
-/* Reads a long option. Returns how many arguments were read, or -1. */
-static int read_long(struct options *options, const char *argument, const char *next) {
-    static const char *const filters[] = {"--state=", "--sport=", "--dport=", "--src=", "--dst="};
-    const char *value;
+/* Reads a long option that has a value, after an equals sign or as the next argument. Returns how
+ * many arguments were read, or -1, or 0 if it is another option. */
+static int read_valued(struct options *options, const char *argument, const char *next) {
+    static const struct { const char *name; char letter; } valued[] = {
+        {"--family", 'f'}, {"--net", 'N'}, {"--query", 'A'}, {"--socket", 'A'},
+    };
     size_t index;
-    if (read_own(options, argument))
-        return 1;
-    if (strcmp(argument, "--net") == 0)
-        return read_value(options, 'N', next) == 0 ? 2 : -1;
-    if ((value = after_name(argument, "--family=")) != NULL)
-        return read_family(options, value) == 0 ? 1 : -1;
-    if ((value = after_name(argument, "--events=")) != NULL)
-        read_letter(options, 'E');
-    if (value != NULL || (value = after_name(argument, "--query=")) != NULL)
-        return select_kinds(options, value) == 0 ? 1 : -1;
-    for (index = 0; index < sizeof filters / sizeof *filters; index++)
-        options->has_filter |= after_name(argument, filters[index]) != NULL;
-    options->is_json |= strcmp(argument, "--json") == 0;
-    options->has_states |= after_name(argument, "--state=") != NULL;
-    append(&options->lister, argument);
-    return 1;
+    for (index = 0; index < sizeof valued / sizeof *valued; index++) {
+        const char *rest = after_name(argument, valued[index].name);
+        if (rest != NULL && *rest == '=')
+            return read_value(options, valued[index].letter, rest + 1) == 0 ? 1 : -1;
+        if (rest != NULL && *rest == '\0')
+            return read_value(options, valued[index].letter, next) == 0 ? 2 : -1;
+    }
+    return 0;
 }
 
-/* Appends a word of a filter. One for states is the first word. */
-static void append_word(struct options *options, const char *word) {
-    if (options->words.count == 0)
-        options->has_states |=
-            after_name(word, "state") != NULL || after_name(word, "excl") != NULL;
-    append(&options->words, word);
+/* Reads a long option. Returns how many arguments were read, or -1. */
+static int read_long(struct options *options, const char *argument, const char *next) {
+    const char *protocols = after_name(argument, "--events=");
+    const int step = read_valued(options, argument, next);
+    if (step != 0 || read_own(options, argument))
+        return step != 0 ? step : 1;
+    if (protocols != NULL) {
+        read_letter(options, 'E');
+        return select_kinds(options, protocols) == 0 ? 1 : -1;
+    }
+    options->is_json |= strcmp(argument, "--json") == 0;
+    append(&options->lister, argument);
+    return 1;
 }
 
 /* Reads the arguments. Returns 0, or -1 if one is wrong. */
@@ -240,7 +258,7 @@ static int read_arguments(struct options *options, int count, char **arguments) 
         const char *next = index + 1 < count ? arguments[index + 1] : NULL;
         step = 1;
         if (options->has_words || argument[0] != '-' || argument[1] == '\0')
-            append_word(options, argument);
+            add_word(&options->words, argument);
         else if (strcmp(argument, "--") == 0)
             options->has_words = 1;
         else if (argument[1] == '-')
@@ -248,6 +266,7 @@ static int read_arguments(struct options *options, int count, char **arguments) 
         else
             step = read_letters(options, argument, next);
     }
+    add_byte(&options->words, '\0');
     return step > 0 ? 0 : -1;
 }
 
@@ -266,16 +285,16 @@ static int check(const struct options *options) {
                                   && !options->is_selected[RAW];
     if (options->has_events && !has_only_tcp_and_udp)
         return reject("-E lists TCP and UDP sockets: -t and -u");
+    if (options->is_summary && (options->is_repeated || options->is_json || options->has_kill))
+        return reject("-s takes no --every, --json, -E and -K");
     if (options->is_confirmed && !options->has_kill)
         return reject("--yes needs -K");
     if (!options->has_kill)
         return 0;
     if (!has_only_tcp_and_udp)
         return reject("-K closes TCP and UDP sockets: -t and -u");
-    if (!options->has_filter)
-        return reject("-K needs a filter, such as --dport=443");
-    if (options->words.count > 0)
-        return reject("-K takes no words; write a filter such as --dport=443");
+    if (options->words.bytes[strspn(options->words.bytes, spaces)] == '\0')
+        return reject("-K needs a filter, such as dport = :443");
     return options->is_repeated ? reject("-K takes no --every and no -E") : 0;
 }
 
@@ -285,35 +304,68 @@ static void select_closed(struct options *options) {
         options->is_selected[TCP] = options->is_selected[UDP] = 1;
 }
 
+/* Returns whether a filter begins with words that select states. */
+static int has_states(const char *words) {
+    static const char *const names[] = {"state", "exclude", "excl"};
+    const char *word = words + strspn(words, spaces);
+    const size_t length = strcspn(word, spaces);
+    size_t index = 0;
+    while (index < sizeof names / sizeof *names
+           && (strlen(names[index]) != length || strncmp(names[index], word, length) != 0))
+        index++;
+    return index < sizeof names / sizeof *names;
+}
+
+/* Returns words that select the states which ss(8) lists without an option: of connections, without
+ * TIME-WAIT and SYN-RECV, and of the kinds that have no other state, if one is selected. */
+static const char *default_states(const struct options *options) {
+    if (options->is_selected[PACKET] || options->is_selected[NETLINK] || options->is_selected[XDP])
+        return "exclude listening exclude bucket";
+    return "exclude listening exclude bucket exclude closed";
+}
+
+/* Makes the filter for both programs: states, and the words with numbers in place of names. Returns
+ * 0, or the exit status after an error. */
+static int make_filter(struct options *options) {
+    const int has_tcp = options->is_selected[TCP] || options->is_selected[MPTCP];
+    const int has_all = !has_tcp && !options->is_selected[UDP];
+    const char *states = options->states;
+    struct words words;
+    int status;
+    memset(&words, 0, sizeof words);
+    words.has_tcp = has_all || has_tcp;
+    words.has_udp = has_all || options->is_selected[UDP];
+    if (states == NULL && !options->is_summary && !options->has_events)
+        states = default_states(options);
+    if (states != NULL && *states != '\0' && !has_states(options->words.bytes))
+        add_word(&words.text, states);
+    status = read_words(&words, options->words.bytes);
+    options->filter = words.text.bytes;
+    return status;
+}
+
+/* Appends the filter, if there is one. */
+static void append_filter(const struct options *options, struct arguments *arguments) {
+    if (*options->filter == '\0')
+        return;
+    append(arguments, "--");
+    append(arguments, options->filter);
+}
+
 /* Appends what sockdump requests. If sslist selects by -4 or -6, and no kind of these is selected,
- * sockdump requests all. */
-static void append_kinds(struct options *options) {
+ * sockdump requests all. Of events sslist alone selects those that the filter means. */
+static void append_requests(struct options *options) {
     static const char *const events[] = {"--events", "--events=tcp", "--events=udp", "--events"};
     size_t index;
     if (options->has_events)
         append(&options->recorder,
                events[options->is_selected[TCP] + 2 * options->is_selected[UDP]]);
-    if (options->has_events || (options->has_version && !has_selected(options, 1)))
+    if (options->has_events)
         return;
     for (index = 0; index < KINDS; index++)
-        if (options->is_selected[index])
+        if (options->is_selected[index] && (!options->has_version || has_selected(options, 1)))
             append(&options->recorder, kinds[index].name);
-}
-
-/* Appends the states that ss(8) lists if none are selected: of connections, without TIME-WAIT and
- * SYN-RECV, and of the kinds that have no other state, if such a kind is selected. */
-static void append_states(const struct options *options, struct arguments *lister) {
-    static const char *const states[] = {
-        "--state=established", "--state=syn-sent", "--state=fin-wait-1", "--state=fin-wait-2",
-        "--state=close-wait",  "--state=last-ack", "--state=closing",
-    };
-    size_t index;
-    if (options->has_states)
-        return;
-    for (index = 0; index < sizeof states / sizeof *states; index++)
-        append(lister, states[index]);
-    if (options->is_selected[PACKET] || options->is_selected[NETLINK] || options->is_selected[XDP])
-        append(lister, "--state=closed");
+    append_filter(options, &options->recorder);
 }
 
 /* Appends the kinds that sslist has to select next to -4 and -6: those of other families. Without
@@ -333,13 +385,10 @@ static struct arguments lister_arguments(const struct options *options, const ch
     append_all(&made, &options->lister);
     if (option != NULL)
         append(&made, option);
-    if (!options->format.has_details)
+    if (!options->has_details)
         append(&made, "-o"); /* The fewest details, which are left out. */
-    append_states(options, &made);
     append_families(options, &made);
-    if (options->words.count > 0)
-        append(&made, "--");
-    append_all(&made, &options->words);
+    append_filter(options, &made);
     return made;
 }
 

@@ -71,6 +71,9 @@ static size_t add_descriptor(struct processes *processes, int folder, const char
     char target[64];
     unsigned long long inode;
     const ssize_t length = readlinkat(folder, number, target, sizeof target - 1);
+    /* EINVAL: the entry is a folder. */
+    if (length < 0 && errno != EINVAL && !is_out_of_reach())
+        processes->failed = fail("/proc");
     if (length < 0)
         return name;
     target[length] = '\0';
@@ -88,6 +91,16 @@ static size_t add_descriptor(struct processes *processes, int folder, const char
     return name;
 }
 
+/* Returns the next entry of a folder, or NULL after the last one and after an error. */
+static const struct dirent *next_entry(struct processes *processes, DIR *folder) {
+    const struct dirent *entry;
+    errno = 0;
+    entry = readdir(folder);
+    if (entry == NULL && errno != 0 && !is_out_of_reach())
+        processes->failed = fail("/proc");
+    return entry;
+}
+
 /* Stores the sockets of a process. */
 static void add_process(struct processes *processes, const char *process) {
     char path[64];
@@ -100,7 +113,7 @@ static void add_process(struct processes *processes, const char *process) {
         processes->failed = fail(path);
     if (folder == NULL)
         return;
-    while ((entry = readdir(folder)) != NULL)
+    while ((entry = next_entry(processes, folder)) != NULL)
         name = add_descriptor(processes, dirfd(folder), process, entry->d_name, name);
     closedir(folder);
 }
@@ -124,7 +137,7 @@ static int find_processes(struct processes *processes) {
     if (folder == NULL)
         return fail("/proc");
     processes->count = processes->names.length = 0;
-    while (processes->failed == 0 && (entry = readdir(folder)) != NULL)
+    while (processes->failed == 0 && (entry = next_entry(processes, folder)) != NULL)
         if (entry->d_name[0] >= '1' && entry->d_name[0] <= '9')
             add_process(processes, entry->d_name);
     closedir(folder);

@@ -1,5 +1,5 @@
 /*
- * socklist_programs.h: starts sockdump and sslist, and reads the lines of sslist. It is valid C99
+ * socklist_programs.h: starts other programs, and reads the lines of their output. It is valid C99
  * and C++.
  */
 #ifndef SOCKLIST_PROGRAMS_H
@@ -46,7 +46,7 @@ static struct arguments make_arguments(const char *program, size_t space) {
     return made;
 }
 
-/* Where the lines of sslist are read. */
+/* Where lines are read. */
 struct reader {
     int file;
     struct text text;
@@ -172,25 +172,25 @@ static int wait_for(pid_t process, const struct arguments *arguments) {
     return EXIT_FAILURE;
 }
 
-/* Lists a capture, which is closed here: calls a function for each line of sslist. Returns the exit
- * status. */
-static int list(const struct arguments *lister, int capture, int (*take)(void *, const char *),
-                void *context) {
+/* Runs a program with a standard input, which is closed here, and calls a function for each line of
+ * its output. Returns the exit status. */
+static int take_output(const struct arguments *program, int input,
+                       int (*take)(void *, const char *), void *context) {
     int ends[2], status, failed;
     pid_t process;
     if (pipe2(ends, O_CLOEXEC) != 0) {
-        close(capture);
+        close(input);
         return fail("pipe"), EXIT_FAILURE;
     }
-    process = start(lister, capture, ends[1]);
-    close(capture);
+    process = start(program, input, ends[1]);
+    close(input);
     close(ends[1]);
     failed = process < 0 ? -1 : take_lines(ends[0], take, context);
     close(ends[0]);
     if (process < 0)
         return EXIT_FAILURE;
     if (failed == 0)
-        return wait_for(process, lister);
+        return wait_for(process, program);
     kill(process, SIGKILL);
     while (waitpid(process, &status, 0) < 0 && errno == EINTR)
         ;

@@ -37,12 +37,18 @@
  * If FAKE_KERNEL_SIGNALS is set, a signal interrupts each second call that sends or receives,
  * beginning with the first one.
  *
- * A socket that joins the groups of destroyed sockets receives the replies of the file about TCP
- * and UDP sockets of these groups, as events. If FAKE_KERNEL_DROPS is set, an event was dropped
- * before the first one.
+ * A socket that joins the groups of destroyed sockets, and has requested a receive buffer of at
+ * least 1 MiB before, receives the replies of the file about TCP and UDP sockets of these groups,
+ * as events. If FAKE_KERNEL_DROPS is set, an event was dropped before the first one. With the text
+ * closed, this is received when the readers of the pipe at standard output have closed it.
  *
  * A request of type SOCK_DESTROY is appended to the file FAKE_KERNEL_CLOSED, as a line of
- * hexadecimal digits, and answered by the error number FAKE_KERNEL_DESTROY, or else by 0.
+ * hexadecimal digits, and answered by the error number FAKE_KERNEL_DESTROY, or else by 0. With
+ * FAKE_KERNEL_DESTROY_FIRST only the first one is answered so, and the others by 0. With
+ * FAKE_KERNEL_DESTROY_STALE the answer to another request precedes, and with
+ * FAKE_KERNEL_DESTROY_ENDS the answer is an NLMSG_DONE.
+ *
+ * If FAKE_KERNEL_DELAY is a number, each send takes so many milliseconds.
  *
  * If FAKE_KERNEL_TIME is a number of seconds with nine decimal places, it is always the time of
  * CLOCK_REALTIME.
@@ -51,6 +57,7 @@
  * exec(2) does not close it, or if the previous one is still open. A socket has to be connected to
  * the kernel before it sends and receives. If FAKE_KERNEL_REFUSES is set, connect fails. Requests
  * are answered all the same, as a kernel does, so a lister that ignores the failure lists sockets.
+ * If FAKE_KERNEL_DENIES is set, recv fails with EPERM.
  */
 #define _DEFAULT_SOURCE /* For syscall. */
 #include "sockdiag.h"
@@ -87,8 +94,9 @@ static FILE *replies;
 static int has_protocol, has_mptcp;
 /* Whether the answer from the file has ended. */
 static int has_ended;
-/* A bit for each group that the socket has joined. */
+/* A bit for each group that the socket has joined, and whether an event was dropped. */
 static unsigned joined;
+static int has_dropped, has_buffer;
 
 /* Returns the number in an environment variable, or 0. */
 static size_t variable(const char *name) {
@@ -143,9 +151,11 @@ int getsockname(int fd, struct sockaddr *address, socklen_t *length) {
 
 int setsockopt(int fd, int level, int name, const void *value, socklen_t length) {
     int number;
+    if (level == SOL_SOCKET && name == SO_RCVBUF)
+        has_buffer = *(const int *)value >= 1 << 20;
     if (level != SOL_NETLINK || name != NETLINK_ADD_MEMBERSHIP)
         return 0;
-    if (fd != kernel || length != sizeof number)
+    if (fd != kernel || length != sizeof number || !has_buffer)
         abort();
     memcpy(&number, value, sizeof number);
     joined |= 1u << number;
@@ -154,11 +164,17 @@ int setsockopt(int fd, int level, int name, const void *value, socklen_t length)
     return 0;
 }
 
-/* Reports that no event waits, if the program asks so, and else what is so. */
+/* Reports that no event waits, if the program asks so; the dropped event alone, if it is dropped
+ * when standard output is closed; and else what is so. */
 int poll(struct pollfd *waits, nfds_t count, int milliseconds) {
     const struct timespec time = {milliseconds / 1000, milliseconds % 1000 * 1000000L};
+    const char *drops = getenv("FAKE_KERNEL_DROPS");
     if (joined != 0 && milliseconds == 0)
         return 0;
+    if (joined != 0 && !has_dropped && drops != NULL && strcmp(drops, "closed") == 0) {
+        waits[0].revents = POLLIN;
+        return 1;
+    }
     return (int)syscall(SYS_ppoll, waits, count, milliseconds < 0 ? NULL : &time, NULL, 0);
 }
 
@@ -181,6 +197,7 @@ ssize_t send(int fd, const void *bytes, size_t length, int flags) {
     (void)flags;
     if (is_interrupted() || !has_connected())
         return -1;
+    poll(NULL, 0, (int)variable("FAKE_KERNEL_DELAY"));
     memcpy(previous, request, sizeof previous);
     memset(request, 0, sizeof request);
     request_length = length < sizeof request ? length : sizeof request;
@@ -443,7 +460,12 @@ static ssize_t put_datagram(uint8_t *bytes, uint32_t number, size_t capacity, in
 /* Stores a request to close a socket, and answers it. Returns the length of the answer. */
 static ssize_t put_closed(uint8_t *bytes, uint32_t number) {
     const char *path = getenv("FAKE_KERNEL_CLOSED"), *text = getenv("FAKE_KERNEL_DESTROY");
-    const int32_t result = text == NULL ? 0 : (int32_t)strtol(text, NULL, 10);
+    const int is_first = getenv("FAKE_KERNEL_DESTROY_FIRST") == NULL || requests == 1;
+    const int32_t result = text == NULL || !is_first ? 0 : (int32_t)strtol(text, NULL, 10);
+    const uint16_t type = getenv("FAKE_KERNEL_DESTROY_ENDS") == NULL ? NLMSG_ERROR : NLMSG_DONE;
+    static int stale;
+    if (getenv("FAKE_KERNEL_DESTROY_STALE") != NULL && stale++ % 2 == 0)
+        return (ssize_t)put(bytes, NLMSG_ERROR, 0, number - 1, &stale, 4);
     FILE *closed = path == NULL ? NULL : fopen(path, "a");
     size_t index;
     for (index = 0; closed != NULL && index < request_length; index++)
@@ -451,7 +473,7 @@ static ssize_t put_closed(uint8_t *bytes, uint32_t number) {
     if (closed != NULL && (fputc('\n', closed) == EOF || fclose(closed) != 0))
         abort();
     has_ended = 1;
-    return (ssize_t)put(bytes, NLMSG_ERROR, 0, number, &result, 4);
+    return (ssize_t)put(bytes, type, 0, number, &result, 4);
 }
 
 /* Answers a request for UDP sockets. The first answer of each family loses data. A request on the
@@ -482,10 +504,15 @@ static int group_of(const char *line, uint8_t family) {
 static ssize_t put_event(uint8_t *bytes) {
     static char line[2 * MOST_REPLY + 16];
     static uint8_t reply[MOST_REPLY];
-    static int dropped;
-    errno = ENOBUFS;
-    if (getenv("FAKE_KERNEL_DROPS") != NULL && dropped++ == 0)
+    const char *drops = getenv("FAKE_KERNEL_DROPS");
+    struct pollfd output = {STDOUT_FILENO, 0, 0};
+    if (drops != NULL && !has_dropped) {
+        has_dropped = 1;
+        if (strcmp(drops, "closed") == 0)
+            poll(&output, 1, -1);
+        errno = ENOBUFS;
         return -1;
+    }
     while (fgets(line, sizeof line, replies) != NULL) {
         const char *digits = strchr(line, ' ');
         const size_t length = digits == NULL ? 0 : put_digits(reply, digits + 1);
@@ -516,11 +543,16 @@ ssize_t recv(int fd, void *buffer, size_t capacity, int flags) {
     errno = ETIMEDOUT;
     if (has_ended)
         return -1;
+    errno = EPERM;
+    if (getenv("FAKE_KERNEL_DENIES") != NULL)
+        return -1;
     if (joined != 0)
         return put_event(bytes);
     memcpy(&number, request + 8, 4);
     if (request[4] == SOCKDIAG_SOCK_DESTROY)
         return put_closed(bytes, number);
+    if (capacity < 32768)
+        abort();
     if (replies != NULL)
         return put_datagram(bytes, number, capacity, flags);
     datagrams++;

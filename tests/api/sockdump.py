@@ -56,7 +56,7 @@ LIMIT = 60
 DUMP, BY_FAMILY, NOOP, ERROR, DONE, MULTI, ENOENT, EINVAL = 0x301, 20, 1, 2, 3, 2, 2, 22
 SECONDS = "sockdump: --every=SECONDS needs a whole number from 1 to 86400\n"
 EVENTS = "sockdump: --events takes tcp, udp or tcp,udp\n"
-NO_KIND = "sockdump: --events takes no KIND and no --every\n"
+NO_KIND = "sockdump: --events takes no KIND, no --every and no FILTER\n"
 # Arguments, variables of the kernel, the exit status, and standard error.
 FAILURES = [
     (["every"], {}, 2, "sockdump: unknown kind every; try sockdump -h\n"),
@@ -67,10 +67,18 @@ FAILURES = [
     *(([f"--events={it}"], {}, 2, EVENTS)
       for it in ("", ",", "tcp,", ",udp", "tc", "tcpx", "unix")),
     *((arguments, {}, 2, NO_KIND) for arguments in (
-        ["--events", "tcp"], ["udp", "--events=udp"], ["--every=1", "--events"])),
+        ["--events", "tcp"], ["udp", "--events=udp"], ["--every=1", "--events"],
+        ["--events", "--", "state", "all"])),
+    (["--", "dst", "10.0.0.1", "frob\033"], {}, 2,
+     "sockdump: filter: unexpected word at byte 13: frob?; try sockdump -h\n"),
+    (["tcp", "--", "( sport = :1", "or"], {}, 2,
+     "sockdump: filter: the filter is not complete at byte 15; try sockdump -h\n"),
+    (["--", 257 * "! "], {}, 2, "sockdump: filter: more than 256 conditions and operators at byte"
+     " 512: !; try sockdump -h\n"),
     (["--eventsx"], {}, 2, "sockdump: unknown kind --eventsx; try sockdump -h\n"),
     (["--netns=/none", "tcp"], {}, 1, "sockdump: --netns: No such file or directory\n"),
-    (["--netns=/dev/null", "tcp"], {}, 1, "sockdump: --netns: Invalid argument\n"),
+    *(([f"--netns={it}", "tcp"], {}, 1, "sockdump: --netns: Invalid argument\n")
+      for it in ("/dev/null", "/proc/self/ns/uts")),
     (["--events"], {"FAKE_KERNEL_REFUSES": "1"}, 1, "sockdump: connect: Operation not permitted\n"),
     *((arguments, *how) for arguments in (["unix"], ["--every=1", "unix"]) for how in (
         ({"FAKE_KERNEL_REFUSES": "1"}, 1, "sockdump: connect: Operation not permitted\n"),
@@ -89,14 +97,15 @@ def message(kind, flags, number, port, payload):
     return struct.pack("<IHHII", 16 + len(payload), kind, flags, number, port) + payload
 
 
-def answer(file, name, family, number):
-    """Returns the datagrams with which the kernel answers a request."""
+def answer(file, name, family, number, selects=lambda _: True):
+    """Returns the datagrams with which the kernel answers a request, which selects replies."""
     lines = [line.split() for line in file.read_text().splitlines()]
     replies = [bytes.fromhex(line[1]) for line in lines if line[:1] == [name]]
     if not replies:
         error = -ENOENT if family in (2, 10) else -EINVAL
         return [message(ERROR, 0, number, OWN_PORT, struct.pack("<i", error))]
-    found = [message(BY_FAMILY, MULTI, number, OWN_PORT, it) for it in replies if it[0] == family]
+    found = [message(BY_FAMILY, MULTI, number, OWN_PORT, it) for it in replies
+             if it[0] == family and selects(it)]
     return [*found, message(DONE, MULTI, number, OWN_PORT, bytes(4))]
 
 
@@ -239,6 +248,18 @@ def test_rounds(runs, files):
     assert len(times) >= 3 and 900000 < min(between) < 1900000, f"rounds at {times}"
 
 
+def test_slow_rounds(runs, files):
+    """The time between the starts of rounds does not grow by that of a round."""
+    expected = expected_round(files[0], ["unix"])
+    size = len(FILE_HEADER) + 3 * sum(32 + len(it) for it in expected)
+    with runs.start(["--every=1", "unix"], subprocess.PIPE, files[0],
+                    FAKE_KERNEL_DELAY="600") as running:
+        written = running.stdout.read(size)
+    times = [it for it, _ in packets(written)[:: len(expected)]]
+    between = [later - earlier for earlier, later in zip(times, times[1:])]
+    assert min(between) < 1300000, f"rounds at {times}"
+
+
 def test_clock(runs, files):
     """Writes rounds while the clock with the time of a packet stands still."""
     expected = 2 * expected_round(files[0])
@@ -277,6 +298,39 @@ def test_events(runs, files):
             (1, None, "sockdump: standard output: No space left on device\n"))
 
 
+def test_filters(runs, files):
+    """Requests sockets that a filter selects: by states of all kinds that have some, and by
+    conditions on internet sockets."""
+    # sport >= :22 and sport <= :8080, as the kernel runs it: a jump past the end rejects.
+    program = bytes.fromhex("1400 0100 0208 1400 0000 1600 0308 0c00 0000 901f")
+    listening = struct.pack("<I", 1 << 10)
+    for file, (words, kinds, states, attribute) in itertools.product(files, (
+            (["state listening", "sport", ">= :22 and sport <= :8080"], (), listening, program),
+            (["sport >= :22", "sport <= :8080"], ("unix", "tcp"), b"\xff" * 4, program),
+            (["state", "listening"], (), listening, b""), ([], ("tcp",), b"\xff" * 4, b""),
+            (["state listening"], ("netlink", "vsock"), listening, b""))):
+        expected = []
+        for number, (name, family, request) in enumerate(REQUESTS, 1):
+            is_inet = family in (2, 10)
+            if name not in kinds if kinds else attribute and not is_inet:
+                continue
+            if family in (1, 2, 10, 40):
+                request = request[:4] + states + request[8:]
+
+            def selects(it):
+                state, port = it[1 + (family == 1)], int.from_bytes(it[4:6], "big")
+                return (family not in (1, 2, 10) or states[state // 8] >> state % 8 & 1) and (
+                    not is_inet or not attribute or 22 <= port <= 8080)
+
+            datagrams = answer(file, name, family, number, selects)
+            if kinds or datagrams[0][4] != ERROR:
+                request += attribute if is_inet else b""
+                expected += [message(BY_FAMILY, DUMP, number, 0, request), *datagrams]
+        found = runs.end([*kinds, "--", *words], subprocess.PIPE, file)
+        compare(f"{kinds} {words}", (found[0], found[2]), (0, ""))
+        compare_datagrams(f"{file.name} {kinds} {words}", found[1], expected)
+
+
 def test_odd_length(runs, files):
     """Compares datagrams that begin with a message of 33 bytes, and its padding."""
     odd = message(NOOP, 0, 1, OWN_PORT, bytes([1, 1, 10, *bytes(14)])) + bytes(3)
@@ -313,12 +367,31 @@ def test_closed_pipe(runs, files):
         compare(f"{arguments}, closed before", found, (status, None, ""))
 
 
+def test_lost_and_closed(runs, _):
+    """Closes the pipe after the kernel dropped an event: while the program writes to the full pipe,
+    and while it waits."""
+    for drops in ("1", "closed"):
+        reader, writer = os.pipe()
+        with tempfile.NamedTemporaryFile("w") as file:
+            # More than the pipe takes.
+            file.write(100 * LONG.read_text())
+            file.flush()
+            with runs.start(["--events"], writer, file.name, FAKE_KERNEL_DROPS=drops) as running:
+                os.close(writer)
+                compare(drops, os.read(reader, len(FILE_HEADER)), FILE_HEADER)
+                errors = running.stderr.readline() if drops == "1" else b""
+                os.close(reader)
+                errors += running.stderr.read()
+                compare(drops, (running.wait(), errors), (1, b"sockdump: events were lost\n"))
+
+
 def main():
     files, failed = kernels.replies(), 0
     with tempfile.TemporaryDirectory() as folder:
         runs = Runs(sys.argv[1], kernels.build(folder))
         for test in (test_usage, test_kinds, test_failures, test_not_open, test_events,
-                     test_odd_length, test_terminal, test_rounds, test_clock, test_closed_pipe):
+                     test_filters, test_odd_length, test_terminal, test_rounds, test_slow_rounds,
+                     test_clock, test_closed_pipe, test_lost_and_closed):
             try:
                 test(runs, files)
             except AssertionError as error:

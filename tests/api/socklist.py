@@ -1,6 +1,7 @@
 #!/usr/bin/env python3
 """Runs socklist, and compares what it prints, how it ends, which arguments it gives to sockdump and
-sslist, and which sockets it has the kernel close. c_api.sh runs this script.
+sslist, and which sockets it has the kernel close. A run that takes longer than LIMIT is killed.
+c_api.sh runs this script.
 
     tests/api/socklist.py SOCKLIST SOCKDUMP SSLIST
 
@@ -10,13 +11,13 @@ status is 1 if one failed.
 """
 
 import contextlib
+import ctypes
 import itertools
 import json
 import os
 import pty
 import re
 import resource
-import select
 import shutil
 import signal
 import socket
@@ -24,6 +25,7 @@ import struct
 import subprocess
 import sys
 import tempfile
+import threading
 from pathlib import Path
 
 sys.dont_write_bytecode = True
@@ -32,64 +34,135 @@ import sockdump
 from sockdump import BY_FAMILY, DUMP, FILE_HEADER, COOKED_HEADER, LIMIT, compare, message
 
 TCP, UDP, MPTCP = 6, 17, 262
+RANGE = Path("/proc/sys/net/ipv4/ip_local_port_range")
 TRY = "; try socklist --help\n"
-CONNECTED = [f"--state={it}" for it in ("established", "syn-sent", "fin-wait-1", "fin-wait-2",
-                                        "close-wait", "last-ack", "closing")]
-# Arguments, and those that sockdump and sslist get.
+LISTENING = "state listening state closed"
+# The states of connections, and these with the state of sockets that are no connections.
+WAITING = "exclude listening exclude bucket"
+CONNECTED = f"{WAITING} exclude closed"
+# Arguments, those that sockdump and sslist get, and the filter that both get after --.
 ARGUMENTS = [
-    ([], [], ["-o", *CONNECTED]),
-    (["-a"], [], ["-a", "-o"]),
-    (["-tlnp"], ["tcp"], ["-l", "-o"]),
-    (["-tuna", "-e"], ["tcp", "udp"], ["-a", "-e"]),
-    (["--listening", "--processes", "--numeric", "--mptcp"], ["mptcp"], ["--listening", "-o"]),
-    *((["-a", *it], [], ["-a", *it]) for it in (
+    ([], [], ["-o"], CONNECTED),
+    (["-a"], [], ["-o"], ""),
+    (["-tlnp"], ["tcp"], ["-o"], LISTENING),
+    (["-tuna", "-e"], ["tcp", "udp"], ["-e"], ""),
+    (["-tr"], ["tcp"], ["-o"], CONNECTED),
+    (["-s", "--resolve"], [], ["-o"], ""),
+    (["--summary", "-tl"], ["tcp"], ["-o"], LISTENING),
+    (["--listening", "--processes", "--numeric", "--mptcp"], ["mptcp"], ["-o"], LISTENING),
+    *((["-a", *it], [], it, "") for it in (
         ["--info"], ["--memory"], ["--options"], ["--extended"], ["-o", "-m"], ["-i"])),
-    (["--all"], [], ["--all", "-o"]),
-    (["-xH"], ["unix"], ["-H", "-o", *CONNECTED]),
-    (["-0"], ["packet"], ["-o", *CONNECTED, "--state=closed"]),
-    (["-t", "--vsock", "--xdp"], ["tcp", "vsock", "xdp"], ["-o", *CONNECTED, "--state=closed"]),
-    (["-wa"], ["raw"], ["-a", "-o"]),
-    (["-A", "unix,tcp", "--query=raw", "-a"], ["tcp", "raw", "unix"], ["-a", "-o"]),
-    (["-af", "link"], ["packet"], ["-a", "-o"]),
-    (["-f", "netlink", "-a"], ["netlink"], ["-a", "-o"]),
-    (["--family=unix", "-a"], ["unix"], ["-a", "-o"]),
-    (["-f", "inet", "-a"], [], ["-f", "inet", "-a", "-o"]),
-    (["-f", "none", "-a"], [], ["-f", "none", "-a", "-o"]),
-    (["-4a"], [], ["-4a", "-o"]),
-    (["-4ta"], ["tcp"], ["-4a", "-o"]),
-    (["--ipv6", "-xa"], [], ["--ipv6", "-a", "-o", "-f", "unix"]),
-    (["-6uxa"], ["udp", "unix"], ["-6a", "-o", "-f", "unix"]),
-    (["--json", "--state=closed", "--dport=1-2"], [],
-     ["--json", "--state=closed", "--dport=1-2", "-o"]),
-    (["--every=5", "-a"], ["--every=5"], ["-a", "-o"]),
+    (["--all"], [], ["-o"], ""),
+    (["-la"], [], ["-o"], ""),
+    (["-al"], [], ["-o"], LISTENING),
+    (["-xH"], ["unix"], ["-H", "-o"], CONNECTED),
+    (["-0"], ["packet"], ["-o"], WAITING),
+    (["-t", "--vsock", "--xdp"], ["tcp", "vsock", "xdp"], ["-o"], WAITING),
+    (["-wa"], ["raw"], ["-o"], ""),
+    (["-A", "unix,tcp", "--query=raw", "-a"], ["tcp", "raw", "unix"], ["-o"], ""),
+    (["-tAraw", "--socket", "xdp", "--query", "udp", "-a"], ["tcp", "udp", "raw", "xdp"], ["-o"],
+     ""),
+    (["-A", "inet"], ["tcp", "udp", "raw"], ["-o"], CONNECTED),
+    (["--socket=unix,all"], ["tcp", "udp", "mptcp", "raw", "unix", "packet", "netlink", "vsock",
+                             "xdp"], ["-o"], WAITING),
+    (["-af", "link"], ["packet"], ["-o"], ""),
+    (["-aHflink"], ["packet"], ["-H", "-o"], ""),
+    (["-a", "--family", "inet6"], [], ["-f", "inet6", "-o"], ""),
+    (["-f", "netlink", "-a"], ["netlink"], ["-o"], ""),
+    (["--family=unix", "-a"], ["unix"], ["-o"], ""),
+    (["-f", "inet", "-a"], [], ["-f", "inet", "-o"], ""),
+    (["-f", "none", "-a"], [], ["-f", "none", "-o"], ""),
+    (["-4a"], [], ["-4", "-o"], ""),
+    (["-4ta"], ["tcp"], ["-4", "-o"], ""),
+    (["--ipv6", "-xa"], [], ["--ipv6", "-o", "-f", "unix"], ""),
+    (["-6uxa"], ["udp", "unix"], ["-6", "-o", "-f", "unix"], ""),
+    (["--json", "-l"], [], ["--json", "-o"], LISTENING),
+    (["--every=5", "-a"], ["--every=5"], ["-o"], ""),
+    *(([*it, "-t"], ["tcp"], ["-o"], f"{CONNECTED} dport = :443") for it in (
+        ["dport", "=", ":443"], ["dport = :443"], ["dport", " =\t:443 "])),
+    (["-t", "state", "all", "-H"], ["tcp"], ["-H", "-o"], "state all"),
+    (["-l", "--", " excl closed"], [], ["-o"], "excl closed"),
+    (["-l", "not", "autobound"], [], ["-o"], f"{LISTENING} not autobound"),
+    (["-a", "( dport = :443 or", "! src 10.0.0.0/8 )"], [], ["-o"],
+     "( dport = :443 or ! src 10.0.0.0/8 )"),
+]
+# Arguments with events, and those that sockdump and sslist get.
+EVENTS = [
     (["-E"], ["--events"], ["-o"]),
     (["-Et"], ["--events=tcp"], ["-o"]),
     (["-u", "--events"], ["--events=udp"], ["-o"]),
     (["-tuE", "-i"], ["--events"], ["-i"]),
     (["--events=tcp,udp"], ["--events"], ["-o"]),
     (["--events=udp"], ["--events=udp"], ["-o"]),
-    (["dport", "=", ":443"], [], ["-o", *CONNECTED, "--", "dport", "=", ":443"]),
-    (["-t", "state", "all", "-H"], ["tcp"], ["-H", "-o", "--", "state", "all"]),
-    (["--", "exclude", "-t"], [], ["-o", "--", "exclude", "-t"]),
-    (["( dport = :443 or dport = :80 )"], [],
-     ["-o", *CONNECTED, "--", "( dport = :443 or dport = :80 )"]),
+    (["-E", "dport", "=", ":443"], ["--events"], ["-o", "--", "dport = :443"]),
+    (["-El"], ["--events"], ["-o", "--", LISTENING]),
+]
+# Words with names, and with numbers in their place. A name in braces is that of a service of TCP.
+WORDS = [
+    *((f"{field} {sign} {it}", f"{field} {sign} {it}") for field, sign in (
+        ("sport", "="), ("dport", ">="), ("sport", "neq")) for it in (":443", "443", "0x1bb")),
+    ("sport = :{http} or dport {https}", "sport = :80 or dport 443"),
+    ("sport != {www}", "sport != 80"),
+    ("src :{ssh} or src = *:{ssh}", "src :22 or src = *:22"),
+    ("dst 10.0.0.1:{http} dst [::1]:{ssh}", "dst 10.0.0.1:80 dst [::1]:22"),
+    *((f"dst {it}", f"dst {it}") for it in (
+        "[::1]", "10.0.0.0/8", "10.0.0.0/8:80", "[2001:db8::/32]", "[fe80::/64]:1", "*", "*:*")),
+    ("dev lo and dev = lo or dev != lo", "dev 1 and dev = 1 or dev != 1"),
+    ("dev 7 fwmark = 0x1/0x3 cgroup = 5", "dev 7 fwmark = 0x1/0x3 cgroup = 5"),
+    ("not src one.example", "not src [192.0.2.1]"),
+    ("src 1.example:22", "src [192.0.2.1]:22"),
+    ("src = one.example:{ssh} autobound", "src = [192.0.2.1]:22 autobound"),
+    ("autobound dst many.example", "autobound ( dst [192.0.2.1] or dst [2001:db8::1] )"),
+    ("( ! dst == many.example:80 )",
+     "( ! ( dst == [192.0.2.1]:80 or dst == [2001:db8::1]:80 ) )"),
+]
+NO_ADDRESS = "no address, such as 192.0.2.0/24, [::1] or *:80"
+# Words that are rejected, and the text.
+NO_WORDS = [
+    ("sport = :nope", "unknown service: nope"),
+    ("sport nope", "unknown service: nope"),
+    ("dst 10.0.0.1:no\x1b", r"unknown service: no\x1b"),
+    ("sport = = 5", "unknown service: ="),
+    ("dport ( sport = 5", "unknown service: ("),
+    ("sport = 443x", "unknown service: 443x"),
+    ("dst none.example", "unknown host: none.example"),
+    ("dst none.example:80", "unknown host: none.example"),
+    ("dev = none", "unknown interface: none"),
+    ("( dport = :443 and", "filter: the filter is not complete"),
+    ("state", "filter: the filter is not complete"),
+    ("dport = :443 a\x7f", r"filter: unexpected word: a\x7f"),
+    *((f"dport = :443 {it}", f"filter: unexpected word: {it.split()[0]}") for it in (
+        ")", "state established", "= 5")),
+    *((f"dst {it}", f"filter: {NO_ADDRESS}: {it}") for it in (
+        "::1", "10", "0x7f", "1.2.3", "a.1", "-n.example", "none.example/24")),
+    ("dst fe80::1%lo", "unknown service: 1%lo"),
+    ("dst != one.example", f"filter: {NO_ADDRESS}: !="),
+    ("src = 1.2.3.4/33", f"filter: {NO_ADDRESS}: 1.2.3.4/33"),
+    *((f"{it} :65536", "filter: no port from 0 to 65535: :65536") for it in (
+        "sport", "dport =", "( dport", "sport >=")),
+    ("state 7", "filter: unknown state: 7"), ("exclude up", "filter: unknown state: up"),
+    ("cgroup = /user.slice", "filter: unexpected word: /user.slice"),
+    ("state dst src", "unknown host: src"),
+    (" ".join(129 * ["sport = 1"]), "filter: more than 256 conditions and operators: 1"),
 ]
 # Arguments that are rejected before a program starts, and the text.
 REJECTED = [
     *((it, "unknown kind in a list; kinds are those of sockdump, such as tcp,unix") for it in (
-        ["-A", "tcp,nope"], ["-A", ""], ["--query=tcp,"], ["--events="], ["--events=none"])),
+        ["-A", "tcp,nope"], ["-A", ""], ["--query=tcp,"], ["-Aal"], ["-A", "inet6"],
+        ["--events="], ["--events=none"])),
     (["--events=unix"], "-E lists TCP and UDP sockets: -t and -u"),
-    *(([it], "-A, -f and -N need a value") for it in ("-f", "-tA", "-N", "--net")),
-    *(([it, "x"], "-A, -f and -N have to be the last letter") for it in ("-fH", "-Nx", "-Atcp")),
+    *(([it], "-A, -f and -N need a value") for it in (
+        "-f", "-tA", "-N", "--net", "--family", "--query", "--socket")),
     *((["-E", it], "-E lists TCP and UDP sockets: -t and -u") for it in ("-x", "-M", "-w")),
+    *((["-s", *it], "-s takes no --every, --json, -E and -K") for it in (
+        ["--json"], ["-E"], ["--every=1"], ["-K", "dport = 1"])),
     (["--yes"], "--yes needs -K"),
-    (["-K"], "-K needs a filter, such as --dport=443"),
-    (["--kill", "-tl"], "-K needs a filter, such as --dport=443"),
-    (["-K", "-x", "--state=established"], "-K closes TCP and UDP sockets: -t and -u"),
-    (["-KM", "--dport=1"], "-K closes TCP and UDP sockets: -t and -u"),
-    (["-K", "--dport=1", "dst", "::1"], "-K takes no words; write a filter such as --dport=443"),
-    (["-K", "--dport=1", "--every=1"], "-K takes no --every and no -E"),
-    (["-KE", "--dport=1"], "-K takes no --every and no -E"),
+    *((it, "-K needs a filter, such as dport = :443") for it in (
+        ["-K"], ["--kill", "-tl"], ["-Ka", "--yes", "--"], ["-K", "", " \t\n"])),
+    (["-K", "-x", "state", "established"], "-K closes TCP and UDP sockets: -t and -u"),
+    (["-KM", "dport = 1"], "-K closes TCP and UDP sockets: -t and -u"),
+    (["-K", "--every=1", "dport = 1"], "-K takes no --every and no -E"),
+    (["-KE", "dport = 1"], "-K takes no --every and no -E"),
     (["-N", 5000 * "x"], "the name of the namespace is too long"),
 ]
 SSLIST_ERROR = "sslist: unknown option --nope; try sslist --help\n"
@@ -125,11 +198,22 @@ def dump(name, *replies):
 
 def service(port, protocol):
     """Returns how a port is shown: by its service, unless the kernel chooses such ports."""
-    low, high = map(int, Path("/proc/sys/net/ipv4/ip_local_port_range").read_text().split())
+    low, high = map(int, RANGE.read_text().split())
     with contextlib.suppress(OSError):
         if not low <= port <= high:
             return socket.getservbyport(port, protocol)
     return str(port)
+
+
+@contextlib.contextmanager
+def killing(process):
+    """Kills a process after LIMIT, unless the block ends before."""
+    limit = threading.Timer(LIMIT, os.kill, (process, signal.SIGKILL))
+    limit.start()
+    try:
+        yield
+    finally:
+        limit.cancel()
 
 
 class Runs:
@@ -163,6 +247,16 @@ class Runs:
         self.use()
         return kernels.environment(self.library, file, FAKE_KERNEL_ALONE="1", **variables)
 
+    @contextlib.contextmanager
+    def start(self, *arguments, **how):
+        """Starts socklist, and ends it with the block, or after LIMIT."""
+        how = {"stdout": subprocess.PIPE} | how
+        with subprocess.Popen([self.program, *arguments], **how) as running, killing(running.pid):
+            try:
+                yield running
+            finally:
+                running.kill()
+
     def end(self, *arguments, **how):
         """Runs socklist. Returns its exit status, standard output and standard error."""
         how = {"stdout": subprocess.PIPE, "stderr": subprocess.PIPE, "timeout": LIMIT} | how
@@ -182,17 +276,120 @@ def test_usage(runs):
         compare(argument, (status, usage[:16], errors), (0, "usage: socklist ", ""))
 
 
+def passed(runs, *arguments, **how):
+    """Returns how socklist ends, its standard error, and the arguments that both programs get."""
+    names = ("sockdump", "sslist")
+    runs.use(**{it: f'printf "%s\\n" "$@" >{runs.folder}/{it}.arguments' for it in names})
+    files = [runs.folder / f"{it}.arguments" for it in names]
+    for file in files:
+        file.write_text("")
+    status, _, errors = runs.end(*arguments, **how)
+    return status, errors, *(list(filter(None, it.read_text().split("\n"))) for it in files)
+
+
 def test_arguments(runs):
     """Compares the arguments that both programs get."""
-    runs.use(**{name: f'printf "%s\\n" "$@" >{runs.folder}/{name}.arguments'
-                for name in ("sockdump", "sslist")})
-    files = [runs.folder / f"{name}.arguments" for name in ("sockdump", "sslist")]
-    for arguments, *expected in ARGUMENTS:
-        for file in files:
-            file.write_text("")
-        compare(f"{arguments}", runs.end(*arguments), (0, "", ""))
-        found = [it.read_text().split("\n")[:-1] for it in files]
-        compare(f"{arguments}", found, [it or [""] for it in expected])
+    for arguments, *expected, words in ARGUMENTS:
+        added = ["--", words] if words else []
+        compare(f"{arguments}", passed(runs, *arguments), (0, "", *(it + added for it in expected)))
+    for arguments, *expected in EVENTS:
+        compare(f"{arguments}", passed(runs, *arguments), (0, "", *expected))
+
+
+GETENT = """#!/bin/sh
+echo "$*" >>{log}
+case $2 in
+    192.0.2.1) echo '192.0.2.1       example.org other.example.org' ;;
+    2001:db8::1) printf '2001:db8::1     six\\033.example.org\\n' ;;
+    192.0.2.3) echo '192.0.2.3  lost' && exit 1 ;;
+    one.example | 1.example) printf '192.0.2.1       %s\\n' 'STREAM one.example' DGRAM RAW ;;
+    many.example) printf '%s\\n' '192.0.2.1  STREAM it' '192.0.2.1  DGRAM' '2001:db8::1 STREAM' \\
+        '2001:db8::1 RAW' 'fe80::1%lo STREAM' ;;
+    lost.example) exit 3 ;;
+    *) exit 2 ;;
+esac
+"""
+
+
+@contextlib.contextmanager
+def hosts(runs):
+    """Uses a getent that has these hosts. Returns the file with the arguments that it got."""
+    log, getent = runs.folder / "hosts", runs.folder / "getent"
+    log.write_text("")
+    getent.write_text(GETENT.format(log=log))
+    getent.chmod(0o755)
+    yield log
+    getent.unlink()
+
+
+def test_words(runs):
+    """Compares the words that both programs get, and the texts of errors about names."""
+    has_services = service(80, "tcp") == "http"
+    with hosts(runs):
+        for words, expected in WORDS:
+            if "{" in words and not has_services:
+                continue
+            words, expected = re.sub("[{}]", "", words), ["--", f"state all {expected}".rstrip()]
+            for arguments in ([f"state all {words}"], ["--", "state", "all", *words.split()]):
+                compare(f"{arguments}", passed(runs, "-n", *arguments),
+                        (0, "", expected, ["-o", *expected]))
+        for words, text in NO_WORDS:
+            compare(words, passed(runs, words), (2, f"socklist: {text}{TRY}", [], []))
+        compare("lost", passed(runs, "dst lost.example"), (1, "socklist: getent failed\n", [], []))
+
+
+SERVICES = """# both 1/tcp
+http 80/tcp www # web
+both\t10/tcp
+both 11/udp
+
+only   12/udp
+none
+letters x/tcp
+high 65536/tcp
+last 13/tcp first second
+last 13/udp
+last 14/tcp
+"""
+TWO_PORTS = "-t or -u has to select one of the two ports of the service: both"
+# Options, the name of a service of SERVICES, and its port, or an error.
+PORTS = [
+    ("-t", "both", 10), ("-u", "both", 11), ("-tu", "both", TWO_PORTS), ("-x", "both", TWO_PORTS),
+    ("-M", "both", 10), ("-M", "only", "unknown service: only"), ("-u", "only", 12),
+    ("-wn", "only", 12), ("-tu", "second", 13), ("-u", "second", "unknown service: second"),
+    ("-tu", "last", 13), *(("-t", it, f"unknown service: {it}") for it in (
+        "none", "letters", "high", "web", "#", "tcp")),
+]
+
+
+def with_services(file):
+    """Returns a function that enters a mount namespace in which a file is /etc/services."""
+    def enter():
+        calls = ctypes.CDLL(None)
+        if (calls.unshare(0x20000 | (0 if os.geteuid() == 0 else 0x10000000)) != 0
+                or calls.mount(b"none", b"/", None, 0x44000, None) != 0
+                or calls.mount(str(file).encode(), b"/etc/services", None, 0x1000, None) != 0):
+            raise OSError("mount")
+    return enter
+
+
+def test_services(runs):
+    """Compares the ports of services, and the texts of errors about them."""
+    file = runs.folder / "services"
+    file.write_text(SERVICES)
+    for letters, name, expected in PORTS:
+        try:
+            status, errors, words, _ = passed(runs, letters, f"state all sport = :{name}",
+                                              preexec_fn=with_services(file))
+        except subprocess.SubprocessError:
+            print("socklist: skipped: services: no mount namespace, or no /etc/services")
+            return
+        if isinstance(expected, int):
+            compare(f"{letters} {name}", (status, errors, words[-1:]),
+                    (0, "", [f"state all sport = :{expected}"]))
+        else:
+            compare(f"{letters} {name}", (status, errors, words),
+                    (2, f"socklist: {expected}{TRY}", []))
 
 
 def test_rejections(runs):
@@ -202,19 +399,20 @@ def test_rejections(runs):
         compare(f"{arguments}", runs.end(*arguments), (2, "", f"socklist: {text}{TRY}"))
     runs.record()
     compare("--nope", runs.end("--nope"), (2, "", SSLIST_ERROR))
-    compare("-K --nope", runs.end("-K", "--dport=1", "--nope"), (2, "", SSLIST_ERROR))
+    compare("-K --nope", runs.end("-K", "dport = 1", "--nope"), (2, "", SSLIST_ERROR))
     runs.use()
     status, _, errors = runs.end("--every=0")
     assert status == 2 and errors.startswith(sockdump.SECONDS), f"--every=0: {status} {errors}"
     compare("--netns", runs.end("--netns=/none"),
             (1, "", "socklist: --netns: No such file or directory\n"))
-    compare("-N", runs.end("-N", "/none"),
-            (1, "", "socklist: --netns: No such file or directory\n"))
+    for arguments in (["-N", "/none"], ["-tNnone"], ["--net=none"], ["--net", "none"]):
+        compare(f"{arguments}", runs.end(*arguments),
+                (1, "", "socklist: --netns: No such file or directory\n"))
 
 
 def ephemeral_port():
     """Returns a port that the kernel chooses, of which a service has the number if there is one."""
-    low, high = map(int, Path("/proc/sys/net/ipv4/ip_local_port_range").read_text().split())
+    low, high = map(int, RANGE.read_text().split())
     services = Path("/etc/services")
     found = re.findall(r"(\d+)/tcp", services.read_text("utf-8")) if services.exists() else []
     return next((it for it in map(int, found) if low <= it <= high), low)
@@ -226,8 +424,10 @@ FAR = ("192.0.2.1", 443)
 
 def shown_sockets(inode):
     """Returns for each of some sockets its kind, a reply, and its columns Local and Peer with -n. A
-    service is in braces, as in {443/tcp}. The first socket has this inode."""
+    service is in braces, as in {443/tcp}, and a number and its name, as in {0=rtnl}. The first
+    socket has this inode."""
     ends = ("127.0.0.1", 22), ("fe80::1", 53), ("10.0.0.1", ephemeral_port())
+    packets = "icmp" if Path("/etc/protocols").exists() else 1
     return [
         ("tcp", inet_reply(ends[0], ("0.0.0.0", 0), 10, 1, inode=inode),
          "127.0.0.1%lo:{22/tcp} 0.0.0.0:*"),
@@ -236,11 +436,21 @@ def shown_sockets(inode):
         ("udp", inet_reply(ends[1], ends[1], interface=1),
          "[fe80::1]%lo:{53/udp} [fe80::1]:{53/udp}"),
         ("mptcp", inet_reply(("127.0.0.1", 80), FAR), "127.0.0.1:{80/tcp} 192.0.2.1:{443/tcp}"),
+        ("raw", inet_reply(("127.0.0.1", 1), ("192.0.2.1", 253)),
+         f"127.0.0.1:{{1={packets}}} 192.0.2.1:253"),
         ("unix", struct.pack("<BBBBIQ", 1, 1, 1, 0, 7, 2) + attribute(0, "/猫:22%1\0".encode()),
          "/猫:22%1 *"),
-        ("netlink", struct.pack("<4B4IQ", 16, 3, 0, 7, 22, 0, 0, 5, 3), "0:22 *"),
-        ("packet", struct.pack("<BBHIQ", 17, 3, 22, 6, 4)
-         + attribute(0, struct.pack("<6I", 1, 0, 0, 0, 0, 0)), "22:lo *"),
+        *(("netlink", struct.pack("<4B4IQ", 16, 3, protocol, 7, port, 0, 0, 5, 3), f"{local} *")
+          for protocol, port, local in (
+              (0, 0, "{0=rtnl}:{0=kernel}"), (4, 1 << 31, "{4=tcpdiag}:2147483648"),
+              (16, os.getpid(), f"{{16=genl}}:{{{os.getpid()}={own_name()}/{os.getpid()}}}"),
+              (21, 0, "{21=crypto}:{0=kernel}"), (10, 0, "{10=fiblookup}:{0=kernel}"),
+              (11, 0, "{11=connector}:{0=kernel}"), (22, 0, "22:{0=kernel}"),
+              (17, 3 << 30, "17:3221225472"))),
+        *(("packet", struct.pack("<BBHIQ", 17, 3, number, 6, 4)
+           + attribute(0, struct.pack("<6I", 1, 0, 0, 0, 0, 0)), f"{protocol}:lo *")
+          for number, protocol in ((1, "{1=802_3}"), (3, "*"), (22, "{22=control}"), (0, "0"),
+                                   (0x88cc, "{35020=LLDP}"), (0xffff, "65535"))),
         ("xdp", struct.pack("<BBHIQ", 44, 3, 0, 7, 5) + attribute(1, struct.pack("<2I", 1, 22)),
          "lo:22 *"),
     ]
@@ -254,10 +464,16 @@ def dumps(sockets):
     return found
 
 
-def with_services(text, is_numeric):
-    """Replaces the services of a text by their names or numbers."""
-    return re.sub(r"\{(\d+)/(\w+)\}",
+def with_names(text, is_numeric):
+    """Replaces what is in braces by its name or its number."""
+    text = re.sub(r"\{(\d+)/(\w+)\}",
                   lambda it: it[1] if is_numeric else service(int(it[1]), it[2]), text)
+    return re.sub(r"\{(\d+)=(.*?)\}", lambda it: it[1 if is_numeric else 2], text)
+
+
+def own_name():
+    """Returns the name of this process."""
+    return Path("/proc/self/comm").read_text().rstrip("\n")
 
 
 def test_table(runs):
@@ -265,8 +481,7 @@ def test_table(runs):
     with socket.socket() as opened:
         sockets = shown_sockets(os.fstat(opened.fileno()).st_ino)
         runs.record(*dumps(sockets))
-        name = Path("/proc/self/comm").read_text().rstrip("\n")
-        users = f'users:(("{name}",pid={os.getpid()},fd={opened.fileno()}))'
+        users = f'users:(("{own_name()}",pid={os.getpid()},fd={opened.fileno()}))'
         for arguments in (["-a"], ["-an"], ["-anp"], ["-ap", "-O"], ["-ane"], ["-aneOp"]):
             status, table, errors = runs.end("--utf8", *arguments)
             compare(f"{arguments}", (status, errors), (0, ""))
@@ -275,7 +490,7 @@ def test_table(runs):
             for line, (kind, _, ends) in zip(lines, sockets, strict=True):
                 rest = line.split()[6:]
                 compare(f"{arguments} {kind}", " ".join(rest[:2]),
-                        with_services(ends, "n" in letters))
+                        with_names(ends, "n" in letters))
                 has_users = "p" in letters and line == lines[0]
                 compare(f"{arguments} {kind}", rest[2:3] == [users], has_users)
                 compare(f"{arguments} {kind}", len(rest) > 2 + has_users,
@@ -294,13 +509,112 @@ def test_columns(runs):
         [runs.folder / "sslist", "-omie", "--requests", "--utf8", runs.folder / "capture"],
         stdout=subprocess.PIPE, check=True).stdout.decode()
     assert expected, "sslist prints nothing"
-    expected = expected.replace("%1:", "%lo:").replace("22:1 ", "22:lo").replace(" 1:22", " lo:22")
+    expected = expected.replace("%1:", "%lo:").replace(" 1:22", " lo:22")
+    expected = re.sub(r"(p_raw .* \d+:)1 ", r"\1lo", expected).replace(" 3:lo", " *:lo")
     found = runs.end("-anomie", "--requests", "--utf8")
     compare("columns", (found[0], re.sub(" +", " ", found[1]), found[2]),
             (0, re.sub(" +", " ", expected), ""))
     unchanged = [[it for it in table.splitlines() if re.match("Netid|u_str|nl|[\t=-]", it)]
                  for table in (found[1], expected)]
     compare("unchanged lines", *unchanged)
+
+
+def with_range(low, high):
+    """Returns a function that enters a network namespace where the kernel chooses these ports."""
+    def enter():
+        if ctypes.CDLL(None).unshare(0x40000000 | (0 if os.geteuid() == 0 else 0x10000000)) != 0:
+            raise OSError("unshare")
+        RANGE.write_text(f"{low} {high}\n", "ascii")
+    return enter
+
+
+def test_ports(runs):
+    """A port that the kernel chooses has no name of a service, from the first to the last one."""
+    ports = (it for it in range(1024, 1 << 16) if service(it, "tcp") != str(it))
+    names = {it: service(it, "tcp") for it in itertools.islice(ports, 5)}
+    if len(names) < 5:
+        print("socklist: skipped: ports that the kernel chooses: no services")
+        return
+    _, low, _, high, _ = ports = sorted(names)
+    runs.record(*dump("tcp", *(inet_reply(("127.0.0.1", it), FAR) for it in ports)))
+    try:
+        found = runs.end("-taH", preexec_fn=with_range(low, high))
+    except subprocess.SubprocessError:
+        print("socklist: skipped: ports that the kernel chooses: no network namespace")
+        return
+    shown = [it.split()[6] for it in found[1].splitlines()]
+    expected = [str(it) if low <= it <= high else names[it] for it in ports]
+    compare("ports", shown, [f"127.0.0.1:{it}" for it in expected])
+
+
+def test_hosts(runs):
+    """With -r, shows the names of hosts that getent finds, each of which it looks up once."""
+    one, other, none, any_ = ((it, 22) for it in ("192.0.2.1", "192.0.2.3", "192.0.2.2", "0.0.0.0"))
+    six, mapped, any_six = ("2001:db8::1", 22), ("::ffff:192.0.2.1", 22), ("::", 22)
+    runs.record(*dump("tcp", inet_reply(one, none, interface=1), inet_reply(none, one),
+                      inet_reply(any_, any_)), *dump("tcp", inet_reply(six, any_six),
+                                                         inet_reply(mapped, any_six)))
+    with hosts(runs) as log:
+        status, table, errors = runs.end("-tanrH")
+        found = log.read_text().splitlines()
+        log.unlink()
+        assert runs.end("-tan")[0] == 0 and not log.exists(), "getent runs without -r"
+        compare("hosts", (status, errors, [it.split()[6:8] for it in table.splitlines()]), (0, "", [
+            ["example.org%lo:22", "192.0.2.2:22"], ["192.0.2.2:22", "example.org:22"],
+            ["0.0.0.0:22", "0.0.0.0:22"], [r"six\x1b.example.org:22", "[::]:22"],
+            ["example.org:22", "[::]:22"]]))
+        compare("getent", found, ["hosts 192.0.2.1", "hosts 192.0.2.2", "hosts 2001:db8::1"])
+        runs.record(*dump("tcp", inet_reply(other, none), inet_reply(one, none)))
+        failed = "socklist: getent failed\n"
+        compare("getent fails", runs.end("-taHr")[::2], (1, failed))
+    missing = "socklist: getent: No such file or directory\n"
+    (runs.folder / "cats").mkdir()
+    (runs.folder / "cats/cat").symlink_to(shutil.which("cat"))
+    found = runs.end("-taHr", env=os.environ | {"PATH": f"{runs.folder}/cats"})
+    compare("getent is missing", found[::2], (1, missing + failed))
+
+
+# Sockets that are counted: the kind and the reply.
+COUNTED = [
+    *(("tcp", inet_reply(("127.0.0.1", 1), FAR, state, inode=inode)) for state, inode in (
+        (1, 5), (1, 0), (2, 6), (3, 0), (4, 0), (5, 0), (6, 0), (7, 7), (8, 8), (9, 0), (10, 9),
+        (11, 0), (11, 10))),
+    *(("tcp", inet_reply(("::1", 1), ("::1", 1), state)) for state in (1, 6)),
+    ("udp", inet_reply(("127.0.0.1", 1), FAR)),
+    *(("udp", inet_reply(("::1", 1), ("::", 0), 7)) for _ in range(2)),
+    ("mptcp", inet_reply(("127.0.0.1", 1), FAR)), ("raw", inet_reply(("127.0.0.1", 1), FAR)),
+    *(("unix", struct.pack("<BBBBIQ", 1, kind, 1, 0, 7, 2)) for kind in (1, 2, 5, 9)),
+    ("netlink", struct.pack("<4B4IQ", 16, 3, 0, 7, 0, 0, 0, 5, 3)),
+    *(("packet", struct.pack("<BBHIQ", 17, kind, 3, 6, 4)) for kind in (2, 3)),
+    *(("xdp", struct.pack("<BBHIQ", 44, 3, 0, 7, 5)) for _ in range(3)),
+]
+SUMMARY = """\
+Total: 27
+TCP:   15 (estab 4, closed 1, orphaned 4, timewait 2)
+
+Transport Total     IP        IPv6
+RAW       1         1         0
+UDP       3         1         2
+TCP       11        10        1
+MPTCP     1         1         0
+INET      16        13        3
+UNIX      4
+PACKET    2
+NETLINK   1
+VSOCK     0
+XDP       3
+"""
+
+
+def test_summary(runs):
+    """Counts the sockets, without a table."""
+    counted = [list(rows) for _, rows in itertools.groupby(
+        COUNTED, key=lambda it: (it[0], it[1][0]))]
+    runs.record(*(it for rows in counted for it in dump(rows[0][0], *(row[1] for row in rows))))
+    compare("-s", runs.end("-s"), (0, SUMMARY, ""))
+    compare("--summary", runs.end("--summary", "-noiemp"), (0, SUMMARY, ""))
+    for arguments, total in (("-sl", "Total: 10"), ("-s4", "Total: 14")):
+        compare(arguments, runs.end(arguments)[1].split("\n")[0], total)
 
 
 # Names of processes: the bytes, what the table shows, and the member of JSON.
@@ -362,6 +676,35 @@ def test_processes(runs):
     assert status == 0 and objects and "processes" not in objects, objects
 
 
+# A library for which each process ends before its name is read.
+ENDED = """
+#define _GNU_SOURCE
+#include <errno.h>
+#include <fcntl.h>
+#include <string.h>
+#include <sys/syscall.h>
+#include <unistd.h>
+
+int openat(int folder, const char *path, int flags, ...) {
+    errno = ESRCH;
+    return strcmp(path, "../comm") == 0 ? -1 : (int)syscall(SYS_openat, folder, path, flags, 0);
+}
+"""
+
+
+def test_ended_process(runs):
+    """A process that ends while its sockets are found is no error."""
+    library = str(runs.folder / "ended.so")
+    subprocess.run([os.environ.get("CC", "cc"), "-shared", "-fPIC", "-o", library, "-x", "c", "-"],
+                   input=ENDED.encode(), check=True)
+    with socket.socket() as opened:
+        number = opened.fileno()
+        runs.record(*dump("tcp", inet_reply(FAR, FAR, inode=os.fstat(number).st_ino)))
+        status, table, errors = runs.end("-aHp", env=os.environ | {"LD_PRELOAD": library})
+    compare("ended process", (status, re.findall("users:(.*)", table), errors),
+            (0, [f'(("",pid={os.getpid()},fd={number}))'], ""))
+
+
 def with_terminal(runs, answer, arguments, environment):
     """Runs socklist in a terminal, and types an answer. Returns its exit status, and what is shown
     there."""
@@ -369,14 +712,15 @@ def with_terminal(runs, answer, arguments, environment):
     if process == 0:
         os.execve(runs.program, [runs.program, *arguments], environment)
     shown, is_answered = b"", False
-    with contextlib.suppress(OSError):
-        while select.select([terminal], [], [], LIMIT)[0] and (part := os.read(terminal, 4096)):
-            shown += part
-            if shown.endswith(b"[y/N] ") and not is_answered:
-                os.write(terminal, answer)
-                is_answered = True
-    os.close(terminal)
-    return os.waitstatus_to_exitcode(os.waitpid(process, 0)[1]), shown.decode()
+    with killing(process):
+        with contextlib.suppress(OSError):
+            while part := os.read(terminal, 4096):
+                shown += part
+                if shown.endswith(b"[y/N] ") and not is_answered:
+                    os.write(terminal, answer)
+                    is_answered = True
+        os.close(terminal)
+        return os.waitstatus_to_exitcode(os.waitpid(process, 0)[1]), shown.decode()
 
 
 # Sockets that are closed: the protocol, and the reply.
@@ -401,10 +745,11 @@ def test_close(runs):
     file.write_text("".join(f"{names[protocol]} {reply.hex()}\n" for protocol, reply in CLOSED))
     expected = [destroy(number, *it) for number, it in enumerate(CLOSED, 1)]
     environment = runs.kernel(file, FAKE_KERNEL_CLOSED=str(log))
-    kill = ["-Kn", "--sport=22"]
+    kill = ["-Kn", "sport >= :22 and sport <= :22"]
     for arguments, answer, requests in (
-            (kill, b"y\n", expected), (kill, b"Y\n", expected), (["-Ktn", "--dport=443"], b"yes\n",
-             expected[:2]), (kill, b"n\n", []), (kill, b"\n", []), (kill, b"\4", [])):
+            (kill, b"y\n", expected), (kill, b"Y\n", expected),
+            (["-Ktn", "sport", "ge", "22"], b"yes\n", expected[:2]),
+            (kill, b"n\n", []), (kill, b"\n", []), (kill, b"\4", [])):
         log.write_text("")
         status, shown = with_terminal(runs, answer, arguments, environment)
         compare(f"{arguments} {answer}", log.read_text().split(), requests)
@@ -412,7 +757,7 @@ def test_close(runs):
         assert f"Close {len(requests) or 3} sockets? [y/N] " in shown, shown
         assert requests or "socklist: nothing was closed" in shown, shown
     for arguments, requests in ((["-H"], expected), (["--json"], expected), (["-u"], [
-            destroy(1, *CLOSED[2])]), (["--src=::1"], [])):
+            destroy(1, *CLOSED[2])]), (["sport <= :21"], [])):
         log.write_text("")
         status, table, errors = runs.end(*kill, "--yes", *arguments, env=environment)
         compare(f"{arguments}", (status, errors, log.read_text().split()), (0, "", requests))
@@ -424,20 +769,27 @@ def test_close(runs):
 
 
 def test_close_errors(runs):
-    """Reports each socket that was not closed, also while signals interrupt the calls, and closes
-    nothing if not all were listed."""
+    """Reports each socket that was not closed, also while signals interrupt the calls, but not one
+    that is gone, and closes nothing if not all were listed. Answers to other requests are skipped.
+    """
     file, log = runs.folder / "replies", runs.folder / "closed"
-    kill = ["-Kn", "--yes", "--sport=22"]
+    kill = ["-Kn", "--yes", "sport >= :22"]
     ends = ["tcp 127.0.0.1 port 22, 192.0.2.1 port 443",
             "tcp 2001:db8::1 port 22, ::ffff:192.0.2.1 port 443",
             "udp 127.0.0.1 port 22, 192.0.2.1 port 443"]
-    for number, text in ((1, "Operation not permitted"), (2, "No such file or directory"),
-                         (95, "Operation not supported")):
+    for number, text in ((1, "Operation not permitted"), (2, ""), (95, "Operation not supported")):
         environment = runs.kernel(file, FAKE_KERNEL_CLOSED=str(log), FAKE_KERNEL_SIGNALS="1",
                                   FAKE_KERNEL_DESTROY=str(-number))
         found = runs.end(*kill, env=environment)
-        compare(text, (found[0], found[2]),
-                (1, "".join(f"socklist: not closed: {it}: {text}\n" for it in ends)))
+        errors = "".join(f"socklist: not closed: {it}: {text}\n" for it in ends if text)
+        compare(text, (found[0], found[2]), (bool(text), errors))
+    refusal = f"socklist: not closed: {ends[0]}: Operation not permitted\n"
+    for name, more, status, error in (
+        ("FIRST", {"FAKE_KERNEL_DESTROY": "-1"}, 1, refusal), ("STALE", {}, 0, ""),
+        ("ENDS", {}, 1, "".join(f"socklist: not closed: {it}: Protocol error\n" for it in ends)),
+    ):
+        more |= {"FAKE_KERNEL_CLOSED": str(log), f"FAKE_KERNEL_DESTROY_{name}": "1"}
+        compare(name, runs.end(*kill, env=runs.kernel(file, **more))[::2], (status, error))
     environment = runs.kernel(file, FAKE_KERNEL_CLOSED=str(log), FAKE_KERNEL_REFUSES="1")
     log.write_text("")
     found = runs.end(*kill, env=environment)
@@ -449,6 +801,51 @@ def test_close_errors(runs):
                                               "FAKE_KERNEL_CLOSED": str(log)})
     error = "socklist: nothing was closed, since not all sockets were listed\n"
     assert found[0] == 1 and found[2].endswith(error) and not log.read_text(), found
+    runs.record(*dump("tcp", CLOSED[0][1]))
+    real = os.path.abspath(runs.programs["sslist"])
+    runs.use(sockdump=f"exec cat {runs.folder}/capture",
+             sslist=f'{real} "$@" || exit; case "$*" in *--json*) exit 1; esac')
+    found = runs.end(*kill, env=os.environ | {"LD_PRELOAD": runs.library,
+                                              "FAKE_KERNEL_CLOSED": str(log)})
+    assert found[0] == 1 and found[2].endswith(error) and not log.read_text(), found
+
+
+def test_fresh(runs):
+    """A list shows the processes of its time."""
+    with socket.socket() as opened:
+        runs.record(*dump("tcp", inet_reply(FAR, FAR, inode=os.fstat(opened.fileno()).st_ino)))
+        runs.use(sockdump=f"cat {runs.folder}/capture; sleep 2; tail -c +25 {runs.folder}/capture")
+        with runs.start("-aHp", "--every=1") as running:
+            one = running.stdout.readline()
+            opened.close()
+            other = running.stdout.readline()
+    assert b"users:" in one and b"users:" not in other and other, (one, other)
+
+
+def test_many(runs):
+    """Few descriptors suffice for many hosts and processes."""
+    runs.record(*dump("tcp", *(inet_reply((f"192.0.2.{it}", 22), FAR) for it in range(10, 40))))
+    with hosts(runs):
+        expected = runs.end("-tanrH")
+        compare("hosts", runs.end("-tanrH", preexec_fn=with_descriptors(20)), expected)
+    compare("hosts", expected[::2], (0, ""))
+    with socket.socket() as opened, contextlib.ExitStack() as ended:
+        for _ in range(30):
+            child = ended.enter_context(subprocess.Popen(["sleep", str(LIMIT)]))
+            ended.callback(child.kill)
+        runs.record(*dump("tcp", inet_reply(FAR, FAR, inode=os.fstat(opened.fileno()).st_ino)))
+        expected = runs.end("-aHp")
+        assert "users:" in expected[1] and expected[0] == 0, expected
+        compare("processes", runs.end("-aHp", preexec_fn=with_descriptors(20)), expected)
+
+
+def test_killed(runs):
+    """Both programs end with socklist."""
+    runs.use(sockdump="echo started >&2; exec sleep 60")
+    with runs.start("-a", stderr=subprocess.PIPE) as running:
+        compare("started", running.stderr.readline(), b"started\n")
+        running.kill()
+        running.communicate(timeout=5)
 
 
 def test_rounds(runs):
@@ -456,40 +853,43 @@ def test_rounds(runs):
     it waits."""
     environment = runs.kernel(kernels.HERE / "kernels/linux-6.18")
     for arguments, line in ((["--every=86400", "-a"], b"Netid"), (["-E", "-H"], b"")):
-        with subprocess.Popen([runs.program, *arguments], env=environment if line else None,
-                              stdout=subprocess.PIPE, stderr=subprocess.PIPE) as running:
+        with runs.start(*arguments, env=environment if line else None,
+                        stderr=subprocess.PIPE) as running:
             compare(f"{arguments}", running.stdout.read(len(line)), line)
             running.stdout.close()
-            compare(f"{arguments}", (running.wait(LIMIT), running.stderr.read()),
+            compare(f"{arguments}", (running.wait(), running.stderr.read()),
                     (-signal.SIGPIPE, b""))
-    found = runs.end("-E", "-Hn", env=environment)
-    assert found[0] == 1 and found[1] and found[2].startswith("sockdump: recv: "), found
-    with subprocess.Popen([runs.program, "--every=1", "-aH"], env=environment,
-                          stdout=subprocess.PIPE) as running:
-        lines = [running.stdout.readline() for _ in range(3)]
-        running.terminate()
-    assert all(lines), lines
+    for words, is_empty in ((), False), (("sport", "<=", ":65535"), False), (("sport = :0",), True):
+        found = runs.end("-E", "-Hn", *words, env=environment)
+        compare(f"-E {words}", (found[0], found[1] == ""), (1, is_empty))
+        assert found[2].startswith("sockdump: recv: "), found
+    with runs.start("--every=1", "-aH", env=environment) as running:
+        assert all(running.stdout.readline() for _ in range(3)), "a round is missing"
 
 
 def test_hostile(runs):
     """Reports what is lost: streams that are not open, a full disk, no descriptors, a program that
     is missing or killed, and data that the kernel lost."""
     environment = runs.kernel(kernels.HERE / "kernels/linux-6.18")
-    expected = runs.end("-an", env=environment)
-    compare("signals", runs.end("-an", env=environment | {"FAKE_KERNEL_SIGNALS": "1"}), expected)
-    compare("status", expected[::2], (0, ""))
+    words = "state all sport >= :1 and sport <= :65535"
+    for arguments in (["-an"], ["-a"], ["-s"], ["-np", words], ["-ap", "--json", words]):
+        expected = runs.end(*arguments, env=environment)
+        assert expected[::2] == (0, "") and expected[1].count("\n") > 2, f"{arguments}: {expected}"
+        compare("signals", runs.end(*arguments, env=environment | {"FAKE_KERNEL_SIGNALS": "1"}),
+                expected)
+        for most in range(4, 14):
+            found = runs.end(*arguments, env=environment, preexec_fn=with_descriptors(most))
+            assert found == expected or found[0] != 0 and found[2], f"{arguments} {most}: {found}"
     for closed in range(3):
         error = "" if closed == 2 else f"socklist: {kernels.NOT_OPEN}\n"
         compare(f"without {closed}", runs.end(env=environment, preexec_fn=kernels.without(closed)),
                 (1, "", error))
-    for arguments in ([], ["--help"], ["--version"], ["--every=1"], ["-ap", "--json"]):
+    for arguments in ([], ["--help"], ["--version"], ["--every=1"], ["-ap", "--json"], ["-s"],
+                      ["-p", words]):
         with open("/dev/full", "wb") as full:
             found = runs.end(*arguments, env=environment, stdout=full)
         compare(f"{arguments} >/dev/full", found,
                 (1, None, "socklist: standard output: No space left on device\n"))
-    for most in range(4, 12):
-        found = runs.end("-an", env=environment, preexec_fn=with_descriptors(most))
-        assert found == expected or found[0] != 0 and found[2], f"{most}: {found}"
     found = runs.end("-u", env={name: it for name, it in environment.items()
                                 if name != "FAKE_KERNEL_REPLIES"})
     assert found[0] == 1 and "sockdump: recv: No buffer space available\n" in found[2], found
@@ -519,9 +919,10 @@ def main():
     failed = 0
     with tempfile.TemporaryDirectory() as folder:
         runs = Runs(folder, *sys.argv[1:])
-        for test in (test_usage, test_arguments, test_rejections, test_table, test_columns,
-                     test_processes, test_close, test_close_errors, test_rounds, test_hostile,
-                     test_programs):
+        for test in (test_usage, test_arguments, test_words, test_services, test_rejections,
+                     test_table, test_columns, test_ports, test_hosts, test_summary,
+                     test_processes, test_ended_process, test_close, test_close_errors,
+                     test_rounds, test_hostile, test_programs, test_fresh, test_killed, test_many):
             try:
                 test(runs)
             # What socklist prints may also be no table and no JSON.

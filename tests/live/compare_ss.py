@@ -45,11 +45,10 @@ OF_DUMPS = ["-tan", "-uan", "-xan", "-Man", "-0an", *["-an"] * (not IS_GUEST)]
 SELECTIONS = [(f"-{it}n", f"-{it}n") for it in ("tl", "4a", "6a", "l", "xl", "ul", "4ta", "6xa")]
 SELECTIONS += [(f"-an -f {it}", f"-n -f {it}") for it in ("inet", "inet6", "unix", "link")]
 # For a single state ss leaves out the column.
-SELECTIONS += [(f"-an state last-ack state {it}", f"--state=last-ack --state={it}") for it in (
+SELECTIONS += [(f"-an state last-ack state {it}", f"-- state last-ack state {it}") for it in (
     "established", "time-wait", "listening", "closed", "connected", "synchronized", "bucket", "big")]
-SELECTIONS += [("-tan sport = :PORT", "-t --sport=PORT"), ("-tan dport = :PORT", "-t --dport=PORT")]
-SELECTIONS += [("-tan sport >= :PORT", "-t --sport=PORT-")]
-SELECTIONS += [("-tan sport <= :PORT", "-t --sport=-PORT")]
+SELECTIONS += [(f"-tan {it} :PORT", f"-t -- {it} :PORT") for it in (
+    "sport =", "dport =", "sport >=", "sport <=")]
 INET, INET6, UNIX = socket.AF_INET, socket.AF_INET6, socket.AF_UNIX
 STREAM, DATAGRAM, PACKETS = socket.SOCK_STREAM, socket.SOCK_DGRAM, socket.SOCK_SEQPACKET
 MPTCP = 262

@@ -73,7 +73,7 @@ class Processor(NamedTuple):
 
 
 PROCESSORS = {
-    "amd64": Processor("cc", ("qemu-system-x86_64", "-cpu", "max"), "ttyS0", "static"),
+    "amd64": Processor("cc", ("qemu-system-x86_64", "-cpu", "core2duo"), "ttyS0", "static"),
     "arm64": Processor("aarch64-linux-gnu-gcc",
                        ("qemu-system-aarch64", "-machine", "virt", "-cpu", "max"), "ttyAMA0",
                        "arm64"),
@@ -164,7 +164,8 @@ def build(folder, processor):
     made, how = folder / "built" / processor, PROCESSORS[processor]
     (made / "bin").mkdir(parents=True, exist_ok=True)
     flags = ("-O1", "-static", "-std=c99", f"-I{TOP}/include")
-    run(how.compiler, *flags, "-o", made / "bin/sockdump", TOP / "examples/sockdump.c")
+    run(how.compiler, *flags, "-DWITH_FILTERS", "-o", made / "bin/sockdump",
+        TOP / "examples/sockdump.c", library(processor))
     run(how.compiler, *flags, "-o", made / "bin/list_sockets", TOP / "examples/list_sockets.c",
         library(processor))
     run(how.compiler, "-shared", "-fPIC", "-o", made / "bin/record", HERE / "record.c")
@@ -218,11 +219,12 @@ def boot(folder, it, made):
     os.truncate(disk, 1 << 24)
     image = next(iter([*kernel.glob("boot/vmlinuz*"), *kernel.glob("usr/lib/modules/*/vmlinuz")]))
     with open(at / "console", "wb") as console:
+        # Python needs no random numbers then, which a kernel without rdrand has late.
+        words = f"console={how.console} panic=-1 loglevel=3 mitigations=off PYTHONHASHSEED=0"
         run("timeout", "1800", *how.emulator, "-accel", "tcg", "-m", "1024", "-nographic",
             "-monitor", "none", "-serial", "stdio", "-nic", "none", "-no-reboot", "-kernel", image,
-            "-initrd", at / "initial.gz", "-drive", f"file={disk},if=virtio,format=raw", "-append",
-            f"console={how.console} panic=-1 loglevel=3 mitigations=off", stdout=console,
-            stdin=subprocess.DEVNULL)
+            "-initrd", at / "initial.gz", "-drive", f"file={disk},if=virtio,format=raw",
+            "-append", words, stdout=console, stdin=subprocess.DEVNULL)
     with tarfile.open(disk, "r|") as written:
         written.extractall(at)
     (at / "initial.gz").unlink()

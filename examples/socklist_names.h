@@ -1,0 +1,257 @@
+/*
+ * socklist_names.h: names that ss(8) shows in place of numbers: of services, interfaces and hosts,
+ * which only the running system has, and of protocols. It is valid C99 and C++.
+ */
+#ifndef SOCKLIST_NAMES_H
+#define SOCKLIST_NAMES_H
+
+#include "socklist_processes.h"
+#include "socklist_programs.h"
+
+#include <limits.h>
+#include <net/if.h>
+
+/* What the column Netid of IPv4 and IPv6 sockets has. Services have none of the last two. */
+static const char *const protocols[] = {"tcp",  "udp",     "mptcp", "raw",  "sctp",
+                                        "dccp", "udplite", "inet",  "inet6"};
+
+/* Indices of protocols. */
+enum { PROTOCOL_TCP, PROTOCOL_UDP, PROTOCOL_MPTCP, PROTOCOL_RAW };
+
+#define PROTOCOLS (sizeof protocols / sizeof *protocols)
+#define PORTS (UINT16_MAX + 1)
+
+/* The name of a host, or "" if the address has none. */
+struct host {
+    char *address, *name;
+};
+
+/* Which names are shown, and those that were read. They are not freed: the program ends then. */
+struct names {
+    int is_numeric;     /* No names of services and protocols. */
+    int has_hosts;      /* Names of hosts. */
+    char **services;    /* For each protocol and port the name, or NULL. */
+    unsigned low, high; /* The kernel chooses local ports from low to high. */
+    struct host *hosts;
+    size_t count, capacity;
+    int failed; /* -1 if names were not found for another reason than that there are none. */
+};
+
+/* A line of /etc/services, such as `http 80/tcp www`, or of /etc/protocols. */
+struct entry {
+    char line[1024];
+    const char *name, *protocol;
+    unsigned long number;
+    char *aliases; /* The remaining words, for strtok_r. */
+};
+
+/* Reads the next entry of a file. Returns whether there is one. */
+static int read_entry(FILE *file, struct entry *entry) {
+    while (fgets(entry->line, sizeof entry->line, file) != NULL) {
+        char *number, *end;
+        entry->line[strcspn(entry->line, "#")] = '\0';
+        entry->name = strtok_r(entry->line, " \t\n", &entry->aliases);
+        number = strtok_r(NULL, " \t\n", &entry->aliases);
+        entry->number = number != NULL ? strtoul(number, &end, 10) : PORTS;
+        if (entry->number >= PORTS)
+            continue;
+        entry->protocol = *end == '/' ? end + 1 : end;
+        return 1;
+    }
+    return 0;
+}
+
+/* Opens a file with names. Returns NULL if it is out of reach, or after an error is reported. */
+static FILE *open_names(const char *path, int *failed) {
+    FILE *file = fopen(path, "re");
+    if (file == NULL && !is_out_of_reach())
+        *failed = fail(path);
+    return file;
+}
+
+/* Closes a file, if it is open. Reports that it was not read to its end. */
+static void close_names(FILE *file, const char *path, int *failed) {
+    if (file != NULL && ferror(file) && !is_out_of_reach())
+        *failed = fail(path);
+    if (file != NULL)
+        fclose(file);
+}
+
+/* Stores the names of a file. Those without a protocol are of raw sockets, whose port is the
+ * protocol of their packets. */
+static void load_names(struct names *names, const char *path) {
+    FILE *file = open_names(path, &names->failed);
+    struct entry entry;
+    size_t index;
+    while (file != NULL && read_entry(file, &entry)) {
+        const char *protocol = *entry.protocol != '\0' ? entry.protocol : "raw";
+        for (index = 0; index < PROTOCOLS; index++) {
+            char **name = &names->services[index * PORTS + entry.number];
+            if (*name == NULL && strcmp(protocols[index], protocol) == 0)
+                *name = (char *)allocated(strdup(entry.name));
+        }
+    }
+    close_names(file, path, &names->failed);
+}
+
+/* Reads the names of services and of protocols, and which ports the kernel chooses. Returns 0 or
+ * -1. */
+static int load_services(struct names *names) {
+    static const char path[] = "/proc/sys/net/ipv4/ip_local_port_range";
+    FILE *range = open_names(path, &names->failed);
+    names->services = (char **)allocated(calloc(PROTOCOLS * PORTS, sizeof *names->services));
+    load_names(names, "/etc/services");
+    load_names(names, "/etc/protocols");
+    if (range == NULL || fscanf(range, "%u %u", &names->low, &names->high) != 2)
+        names->low = 32768, names->high = 60999;
+    close_names(range, path, &names->failed);
+    return names->failed;
+}
+
+/* Returns the name of a service, or NULL if it has none or the kernel chooses such ports. MPTCP has
+ * the services of TCP. */
+static const char *find_service(const struct names *names, size_t protocol, unsigned long port) {
+    const size_t index = protocol == PROTOCOL_MPTCP ? (size_t)PROTOCOL_TCP : protocol;
+    if (names->services == NULL || port >= PORTS
+        || (protocol != PROTOCOL_RAW && port >= names->low && port <= names->high))
+        return NULL;
+    return names->services[index * PORTS + port];
+}
+
+/* Runs getent(1) for an address or a name of a host, and calls a function for each line. Returns 0,
+ * or -1 if it fails. getnameinfo(3) may load libraries of the system, and a statically linked
+ * program can only load those of its own version of the C library. */
+static int get_host(const char *database, const char *key, int (*take)(void *, const char *),
+                    void *context) {
+    const char *items[] = {"getent", database, key, NULL};
+    const struct arguments getent = {items, 3};
+    const int input = fcntl(STDIN_FILENO, F_DUPFD_CLOEXEC, 0);
+    int status;
+    if (input < 0)
+        return fail("fcntl");
+    status = take_output(&getent, input, take, context);
+    if (status == 0 || status == 2) /* 2: there is none. */
+        return 0;
+    return fputs(PROGRAM ": getent failed\n", stderr), -1;
+}
+
+/* Stores the name of a line of getent, such as `192.0.2.1       example.org`. */
+static int store_host(void *context, const char *line) {
+    struct host *host = (struct host *)context;
+    const char *name = line + strcspn(line, " ");
+    name += strspn(name, " ");
+    if (host->name == NULL)
+        host->name = (char *)allocated(strndup(name, strcspn(name, " ")));
+    return 0;
+}
+
+/* Returns the name of a host, or "" if it has none. Each is looked up once, and an IPv4-mapped
+ * address as the one of IPv4. */
+static const char *find_host(struct names *names, const char *address, size_t length) {
+    static const char mapped[] = "::ffff:";
+    struct host *host;
+    size_t index;
+    if (strncmp(address, mapped, sizeof mapped - 1) == 0 && memchr(address, '.', length) != NULL)
+        address += sizeof mapped - 1, length -= sizeof mapped - 1;
+    for (index = 0; index < names->count; index++)
+        if (strncmp(names->hosts[index].address, address, length) == 0
+            && names->hosts[index].address[length] == '\0')
+            return names->hosts[index].name;
+    names->hosts = (struct host *)grown(names->hosts, names->count, &names->capacity,
+                                        sizeof *names->hosts);
+    host = &names->hosts[names->count++];
+    host->address = (char *)allocated(strndup(address, length));
+    host->name = NULL;
+    if (names->failed == 0 && get_host("hosts", host->address, store_host, host) != 0)
+        names->failed = -1;
+    if (host->name == NULL)
+        host->name = (char *)allocated(strdup(""));
+    return host->name;
+}
+
+/* Adds the name of an interface, or its number if it has no name. */
+static void add_interface(struct text *text, struct names *names, const char *number,
+                          size_t length) {
+    char name[IF_NAMESIZE], *end;
+    const unsigned long index = strtoul(number, &end, 10);
+    const int is_index = end == number + length && index > 0 && index <= UINT_MAX;
+    if (is_index && if_indextoname((unsigned)index, name) != NULL) {
+        add_name(text, name);
+        return;
+    }
+    if (is_index && errno != ENXIO)
+        names->failed = fail("if_indextoname");
+    add_bytes(text, number, length);
+}
+
+/* Adds the process of a netlink socket, whose port id is most often the process id. */
+static void add_owner(struct text *text, struct names *names, const char *port_id, size_t length) {
+    char path[64], name[64] = "";
+    FILE *file;
+    snprintf(path, sizeof path, "/proc/%.*s/comm", (int)length, port_id);
+    file = open_names(path, &names->failed);
+    if (file != NULL && fgets(name, sizeof name, file) != NULL) {
+        name[strcspn(name, "\n")] = '\0';
+        add_name(text, name);
+        add_byte(text, '/');
+    }
+    close_names(file, path, &names->failed);
+    add_bytes(text, port_id, length);
+}
+
+/* Names of netlink protocols, by their numbers. */
+static const char *const netlink_protocols[] = {
+    "rtnl",    "unused", "usersock", "fw",    "tcpdiag",   "nflog",     "xfrm", "selinux",
+    "iscsi",   "audit",  "fiblookup", "connector", "nft",  "ip6fw",     "dec-rt", "uevent",
+    "genl",    NULL,     "scsi-trans", "ecryptfs", "rdma", "crypto",
+};
+
+/* Adds the protocol and the port id of a netlink socket. */
+static void add_netlink(struct text *text, struct names *names, const char *local,
+                        const char *colon, const char *end) {
+    const unsigned long number = strtoul(local, NULL, 10);
+    const size_t count = sizeof netlink_protocols / sizeof *netlink_protocols;
+    if (number < count && netlink_protocols[number] != NULL)
+        add_string(text, netlink_protocols[number]);
+    else
+        add_bytes(text, local, (size_t)(colon - local));
+    add_byte(text, ':');
+    if (end == colon + 2 && colon[1] == '0')
+        add_string(text, "kernel");
+    else
+        add_owner(text, names, colon + 1, (size_t)(end - colon - 1));
+}
+
+/* Names of the protocols of packet sockets (linux/if_ether.h), as ss(8) has them. The first one is
+ * all protocols, which has no number there. */
+static const struct { const char *name; unsigned number; } ethertypes[] = {
+    {"*", 0x3},             {"802_3", 0x1},         {"ax25", 0x2},          {"802_2", 0x4},
+    {"snap", 0x5},          {"ddcmp", 0x6},         {"wan_ppp", 0x7},       {"ppp_mp", 0x8},
+    {"localtalk", 0x9},     {"can", 0xc},           {"ppptalk", 0x10},      {"tr_802_2", 0x11},
+    {"mobitex", 0x15},      {"control", 0x16},      {"irda", 0x17},         {"econet", 0x18},
+    {"loop", 0x60},         {"pup", 0x200},         {"pupat", 0x201},       {"ip", 0x800},
+    {"x25", 0x805},         {"arp", 0x806},         {"ieeepup", 0xa00},     {"ieeepupat", 0xa01},
+    {"dec", 0x6000},        {"dna_dl", 0x6001},     {"dna_rc", 0x6002},     {"dna_rt", 0x6003},
+    {"lat", 0x6004},        {"diag", 0x6005},       {"cust", 0x6006},       {"sca", 0x6007},
+    {"teb", 0x6558},        {"rarp", 0x8035},       {"atalk", 0x809b},      {"aarp", 0x80f3},
+    {"802.1Q", 0x8100},     {"ipx", 0x8137},        {"ipv6", 0x86dd},       {"mpls_uc", 0x8847},
+    {"mpls_mc", 0x8848},    {"atmmpoa", 0x884c},    {"ppp_disc", 0x8863},   {"ppp_ses", 0x8864},
+    {"atmfate", 0x8884},    {"profinet", 0x8892},   {"aoe", 0x88a2},        {"ethercat", 0x88a4},
+    {"802.1ad", 0x88a8},    {"tipc", 0x88ca},       {"LLDP", 0x88cc},
+};
+
+/* Adds the protocol of a packet socket. */
+static void add_ethertype(struct text *text, const struct names *names, const char *number,
+                          size_t length) {
+    const size_t count = names->is_numeric ? 1 : sizeof ethertypes / sizeof *ethertypes;
+    const unsigned long value = strtoul(number, NULL, 10);
+    size_t index = 0;
+    while (index < count && ethertypes[index].number != value)
+        index++;
+    if (index < count)
+        add_string(text, ethertypes[index].name);
+    else
+        add_bytes(text, number, length);
+}
+
+#endif
