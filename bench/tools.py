@@ -4,7 +4,6 @@
     bench/tools.py libmnl      the C library and a program over libmnl parse the same dumps
     bench/tools.py ss          sslist and ss(8) list the sockets of the same dumps
     bench/tools.py original    sockdiag and a program over the Rust crate answer the same lines
-    bench/tools.py growth      the C library parses more and more attributes and messages
 
 Prints a Markdown table. Ratios are of instructions in user mode, which callgrind counts: other
 processes do not change them. A time is the least of many runs. The first run opens some thousand
@@ -22,9 +21,13 @@ import sys
 from pathlib import Path
 
 import dumps
-from table import print_table, table
+from table import print_table
 
 TOP = Path(__file__).resolve().parent.parent
+sys.path.append(str(TOP / "tests/api"))
+import captured
+from reply_reader import captured_datagrams
+
 BENCH = TOP / "bench"
 MADE = TOP / "out" / "bench"
 LIBRARY = TOP / "crates" / "sockdiag_c" / "out" / "libsockdiag_c.a"
@@ -36,7 +39,6 @@ PARSERS = {
     "lenient": "`sockdiag_{}_get_lenient_details`", "libmnl": "libmnl",
     "macros": "macros of the kernel's headers",
 }
-HEADERS = 16  # Length of the header of a message, and of the cooked header of a packet.
 
 
 def quietly(*command, **options):
@@ -83,28 +85,13 @@ def recorded():
 
 
 def datagrams(capture):
-    """Yields the datagrams of a capture that are answers of the kernel."""
-    data = capture.read_bytes()
-    at = len(dumps.GLOBAL_HEADER)
-    while at < len(data):
-        length = int.from_bytes(data[at + 8 : at + 12], "little")
-        datagram = data[at + 16 + HEADERS : at + 16 + length]
-        if datagram[6] & 1 == 0:  # NLM_F_REQUEST
-            yield datagram
-        at += 16 + length
+    """Returns the datagrams of a capture that are answers of the kernel: without NLM_F_REQUEST."""
+    return [it for it in captured_datagrams(capture) if it[6] & 1 == 0]
 
 
 def replies(capture):
     """Returns the payloads of the replies in a capture."""
-    found = []
-    for datagram in datagrams(capture):
-        at = 0
-        while at < len(datagram):
-            length = int.from_bytes(datagram[at : at + 4], "little")
-            if datagram[at + 4] == dumps.SOCK_DIAG_BY_FAMILY:
-                found.append(datagram[at + HEADERS : at + length])
-            at += (length + 3) & ~3
-    return found
+    return [payload for _, payload in captured.replies(capture)]
 
 
 def program(name, given=os.devnull):
@@ -148,13 +135,6 @@ def compare_libmnl():
     print_table(rows, "cc --version", VALGRIND, "pkg-config --print-provides libmnl")
 
 
-def measure_growth():
-    done = subprocess.run([linked("growth")], stdout=subprocess.PIPE, check=True, text=True)
-    heading, *rows = table(done.stdout)
-    rows = [(what, *(f"{int(it):,}" for it in numbers)) for what, *numbers in rows]
-    print_table([heading, *rows], "cc --version")
-
-
 def compare_ss():
     sslist = program("sslist", recorded()[0])
     replay = str(MADE / "replay.so")
@@ -173,10 +153,10 @@ def compare_ss():
     print_table(rows, "cc --version", VALGRIND, "ss -V")
 
 
-def build_original():
-    """Builds the program over the Rust crate in a copy of its folder, and returns its path."""
-    place = MADE / "original"
-    shutil.copytree(BENCH / "original", place, dirs_exist_ok=True)
+def build_original(sources=BENCH / "original"):
+    """Builds a program over the Rust crate in a copy of its folder, and returns its path."""
+    place = MADE / sources.name
+    shutil.copytree(sources, place, dirs_exist_ok=True)
     options = ["--release", "--target-dir", "target"]
     if "BENCH_ORIGINAL" in os.environ:
         folder = Path(os.environ["BENCH_ORIGINAL"]).resolve()
@@ -184,7 +164,7 @@ def build_original():
         options += ["--offline", "--config", f"{patch}-sock-diag.path='{folder / 'sockdiag'}'",
                     "--config", f"{patch}-core.path='{folder / 'core'}'"]
     quietly("cargo", "build", *options, cwd=place)
-    return str(place / "target" / "release" / "original")
+    return str(place / "target" / "release" / sources.name)
 
 
 def lines():
@@ -216,8 +196,7 @@ def compare_original():
     print_table(rows, "rustc --version", VALGRIND)
 
 
-COMPARISONS = {"libmnl": compare_libmnl, "ss": compare_ss, "original": compare_original,
-               "growth": measure_growth}
+COMPARISONS = {"libmnl": compare_libmnl, "ss": compare_ss, "original": compare_original}
 
 if __name__ == "__main__":
     if len(sys.argv) != 2 or sys.argv[1] not in COMPARISONS:

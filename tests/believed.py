@@ -1,7 +1,7 @@
 #!/usr/bin/env python3
 """Prints what must be believed: the definitions that the contracts of all crates depend on, in the
 crates of the port and of the program `sockdiag` (module: name, lines, comment); the members by
-which impls name their definitions; and the number of definitions, lines and tokens of each crate.
+which impls name their definitions; and the number of definitions and lines of each crate.
 
 With `--of CRATE::FUNCTION`, prints where the clauses of one contract are, and the definitions that
 they depend on, each once, with its file and line: a definition follows the one that names it, and
@@ -25,14 +25,11 @@ definition in the same way. It does not follow lemmas, declarations of Rust type
 or definitions of the kit. It takes each use of an imported name as a reference: the modules do not
 give a variable the name of an import.
 
-Without an option it also prints how many definitions the contracts of some calls depend on, one of
-each kind of user (USERS). There, and with `--of`, of a record only the fields are followed that are
-used. Without an option it fails, with status 1, if an import that is used is not found in its
-module, if a lemma is in a module of definitions, or if a promise reaches a module that need not be
-believed.
+With `--of`, of a record only the fields are followed that are used. Without an option the script
+fails, with status 1, if an import that is used is not found in its module, if a lemma is in a
+module of definitions, or if a promise reaches a module that need not be believed.
 """
 
-import difflib
 import os
 import re
 import subprocess
@@ -78,18 +75,6 @@ CITED = {"serve", "read_prompt", "utc_text", "push_shown", "report_failure", "pu
 # layout may refer to an inverse. The script does not follow this reference: the law
 # `parsed_iff_contained` states what is parsed without the inverse.
 LEMMAS, PRIVATE, INVERSE = ".specs.laws.", ".specs.private.", ".specs.inverse."
-# The calls of each kind of user, by crate and the words of their names.
-USERS = {
-    "a view": [("netlink_packet_sock_diag", ["SockDiagView", "parse"])],
-    "an owned parser": [("netlink_packet_sock_diag", ["SockDiagMessage", "read_under"])],
-    "the main theorem": [("netlink_core", ["main_theorem"])],
-    "a dump": [("netlink_packet_sock_diag", ["DumpReader", "feed"])],
-    "lenient parsing": [("sock_diag_extras", ["items_agree_with_the_port"])],
-    "the line program": [("sock_diag_lines", ["answer"]), ("sock_diag_lines", ["run"])],
-    "a reply in C": [("sockdiag_c", ["sockdiag_inet_fill_lenient_details"])],
-    "sslist": [("sslist_lister", ["run"])],
-    "filters": [("sock_diag_filters", ["assemble"])],
-}
 # Definitions that a law determines. Whoever believes the law need not read how they are computed:
 # their types are followed, their equations are not. The laws are found_values_are_the_attributes,
 # value_is_found_under_its_kind, inet_values_are_variants and unix_values_are_variants.
@@ -106,6 +91,8 @@ TOKEN = re.compile(
     rf"⟦[^⟧]*⟧|(?<=[)\]}}⟧])\.[\w.]+|(?P<path>{WORD}(?:\.(?:{WORD}|\d+))*)|\d\w*|\"[^\"]*\"|==|\S"
 )
 USE = re.compile(r"\buse\s+([\w.]+?)(?:\.\{([^}]*)\}|\s+as\s+(\w+))\s*(?:;|$)", re.M)
+# Comments and literals of Rattle code.
+UNREAD = re.compile(r"//[^\n]*|\"(?:\\.|[^\"\\])*\"|(?<![\w'])b?'(?:\\[^']*|[^'\\\n])'", re.S)
 # The name of a field in a record, and of a value in `record { .. }`, with the blanks before it.
 MEMBER = re.compile(rf"(\s+)(?:pub )?({WORD}) :")
 VALUE = re.compile(rf"(\s+)({WORD}) =(?!=)")
@@ -116,6 +103,11 @@ START = re.compile(
     rf"(?:(abbrev|unfoldable) )?(?:pub )?({WORD})(?: \{{\w+\}})? :"
     rf"|(?:pub )?(record|data|module) ({WORD})"
 )
+
+
+def blanked(text):
+    """Returns Rattle code with blanks in place of comments and literals."""
+    return UNREAD.sub(lambda it: re.sub(r"[^\n]", " ", it[0]), text)
 
 
 def paths_in(text):
@@ -248,8 +240,7 @@ class Module:
 
 
 class Source:
-    """A file of src/. Comments, strings and characters are replaced by blanks."""
-    UNREAD = re.compile(r"//[^\n]*|\"(?:\\.|[^\"\\])*\"|(?<![\w'])b?'(?:\\[^']*|[^'\\\n])'", re.S)
+    """A file of src/, without comments and literals."""
     BLOCK = re.compile(r"^[ ]*(pub |pub\(\w+\) )?(trait|impl|struct)\b([^{;]*)\{", re.M)
     FUNCTION = re.compile(r"(pub |pub\(\w+\) )?(?:const )?(?:extern\s+)?\bfn (\w+)")
     CLAUSE = re.compile(r"\b(?:requires|ensures)\s*\w*\s*(\{)")
@@ -259,7 +250,7 @@ class Source:
         text, self.private_traits = path.read_text("utf-8"), private_traits
         self.file = path.relative_to(ROOT.parent)
         self.modules = path.relative_to(ROOT).with_suffix("").parts
-        self.text = self.UNREAD.sub(lambda m: re.sub(r"[^\n]", " ", m[0]), text)
+        self.text = blanked(text)
         self.blocks = [(m, self.closing(m.end() - 1)) for m in self.BLOCK.finditer(self.text)]
 
     def closing(self, at):
@@ -452,7 +443,7 @@ class Outline:
         self.specs, self.ends, self.used, used = specs, ends, set(), None
         while used != self.used:
             used, self.unused = {*self.used}, specs.fields() - self.used
-            self.seen, self.lines, self.others = {}, [], []
+            self.seen, self.lines, self.others = set(), [], []
             self.members, self.code, self.kit = set(), set(), set()
             for text, path, names in roots:
                 self.used.update(PROJECTION.findall(text))
@@ -464,7 +455,7 @@ class Outline:
         if not module:
             self.add_end(path, names)
         elif id(item) not in self.seen:
-            self.seen[id(item)] = item
+            self.seen.add(id(item))
             line = f"{item.place}: {item.name}: {item.comment}"
             if module.name.split(".")[0] in self.ends:
                 self.others.append(line)
@@ -475,11 +466,6 @@ class Outline:
                     self.used.update(PROJECTION.findall(line))
                 for other in one.paths(self.unused):
                     self.add(other, module.names, depth + 1, one)
-
-    def size(self):
-        """Returns the numbers of the definitions and of their lines that are read."""
-        lines = sum(len(item.read_lines(self.unused)) for item in self.seen.values())
-        return f"{len(self.seen)} definitions, {lines} lines"
 
     def add_end(self, path, names):
         """Adds a member of a trait, a type or a constant of the code, or a name of the kit."""
@@ -520,13 +506,10 @@ def misplaced(specs):
 
 
 def sums(specs, crates):
-    """Returns the number of reached definitions in specs/ of these crates, and the numbers of their
-    lines and of their tokens."""
+    """Returns the number of reached definitions in specs/ of these crates, and of their lines."""
     reached = [item for module, item in specs.reached(crates) if ".specs." in module.name]
-    lines = [line for item in reached for line in item.lines]
-    tokens = sum(len(TOKEN.findall(line)) for line in lines)
-    definitions = sum(item.kind != "module" for item in reached)
-    return f"{definitions} definitions, {len(lines)} lines, {tokens} tokens"
+    lines = sum(len(item.lines) for item in reached)
+    return f"{sum(item.kind != 'module' for item in reached)} definitions, {lines} lines"
 
 
 def sources():
@@ -560,13 +543,10 @@ def print_of(path):
     parts = [part for source in sources() for part in source.parts()]
     found = parts_of(crate, WORDS(rest) or [""], parts)
     if not found:
-        paths = {}
-        for other in dict.fromkeys(other for part in parts for other in part.paths()):
-            paths.setdefault(other.partition("::")[2], []).append(other)
-        close = difflib.get_close_matches(rest, paths, 5, 0.5)
-        close = [other for one in close for other in paths[one]]
-        print(f"{path} has no clauses and no members; close names:", *close or ["none"], sep="\n",
-            file=sys.stderr)
+        names = {other for part in parts for other in part.paths()}
+        close = sorted(it for it in names if WORDS(it)[-1:] == WORDS(path)[-1:])
+        print(f"{path} has no clauses and no members; the same name:", *close or ["none"],
+              sep="\n", file=sys.stderr)
         return 1
     outline = Outline(Specs(), [] if crate in CRATES else CRATES, roots_of(found))
     print(f"the contract of {path}:", *[part.place() for part in found], sep="\n")
@@ -604,10 +584,6 @@ def print_all():
         for crate in crates:
             print(f"{crate}: {sums(specs, [crate])}")
         print(f"{title}: {sums(specs, crates)}")
-    parts = [part for source in files for part in source.parts()]
-    for user, names in USERS.items():
-        found = [part for name in names for part in parts_of(*name, parts)]
-        print(f"{user}: {Outline(specs, [], roots_of(found)).size()}")
     wrong = [*specs.errors, *misplaced(specs)]
     print(*wrong, f"tests/believed.py: {len(wrong)} errors", sep="\n", file=sys.stderr)
     return 1 if wrong else 0

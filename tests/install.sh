@@ -171,6 +171,8 @@ exported() {
 sed -n 's/^[a-z][a-z0-9_]* \(sockdiag_[a-z0-9_]*\)(.*/\1/p' include/sockdiag.h | sort >"$work/calls"
 exported "$prefix" | sed 's/@@.*//' | diff "$work/calls" - ||
     fail "tools/libsockdiag.map differs from the header: add new functions in a new entry"
+[ "$(exported "$prefix" | sed 's/.*@@//' | sort -u)" = SOCKDIAG_1.0 ] ||
+    fail "the versions of the functions"
 
 # A program that is linked with this version starts with the next MINOR, whose soname is the same. A
 # program that needs a function of that version does not start with this one.

@@ -4,15 +4,13 @@
 For each record of RECORDS the script parses its rows in specs/: an offset, a width and the member
 of the Rust struct. A C program prints the size of the kernel's struct, and the offset and the end
 of each of its members. The fields of `tcp_info` and `mptcp_info`, the bits of `inet_diag_sockopt`
-and the public constants are compared in the same way. The headers of an older kernel may lack some
-of these: the last line but one of the output lists them. Headers are older if their version is
-below KNOWN, and if they have padding, a member `reserved` or no bytes in the place of each field
-that they lack. With another member there, the field was renamed or removed.
+and the public constants are compared in the same way. The installed headers may be those of a
+kernel before KNOWN, and lack some of these: the last line but one of the output lists them. All
+fields of the two structs, which grow, are also compared with NEWEST.
 
-The exit status is 1 if anything differs, if the headers lack what they must have, or if RECORDS and
-the layouts of specs/ do not have the same names and members. It is also 1 if the script takes the
-structs of TRIALS for what they are not. Without gcc or without the headers the script prints one
-line and compares nothing.
+The exit status is 1 if anything differs, if headers lack what they must have, or if RECORDS and the
+layouts of specs/ do not have the same names and members. Without gcc or without the headers the
+script prints one line and compares nothing.
 """
 
 import re
@@ -35,9 +33,8 @@ INCLUDES = "".join(f"#if __has_include(<{it}>)\n#include <{it}>\n#endif\n" for i
 # The version of Linux that has all members and constants of the crates, and the first one that has
 # the bit fields of `tcp_info`. Older ones have other members there.
 KNOWN, BITS_SINCE = (7, 2), (7, 0)
-# The questions: the size of a struct, where a member starts and ends, the position of a bit, how
-# many bits a member has, and how many bits in the place of a member, from bit `at` on, are neither
-# padding nor after the end of the struct, nor of its member `reserved` (UNRESERVED).
+# The questions: the size of a struct, where a member starts and ends, the position of a bit, and
+# how many bits a member has.
 MACROS = r"""
 #define SIZE(s) sizeof(struct s)
 #define START(s, m) offsetof(struct s, m)
@@ -45,15 +42,6 @@ MACROS = r"""
 #define BIT(s, m) ({ union { struct s it; unsigned char bytes[sizeof(struct s)]; } u = {}; \
     u.it.m = 1; int at = 0; while (!(u.bytes[at / 8] >> at % 8 & 1)) at++; at; })
 #define BITS(s, m) ({ struct s it; it.m = -1; __builtin_popcountll(it.m); })
-#define USED(s, at, count, clear) ({ int used = 0; \
-    union { struct s it; unsigned char bytes[sizeof(struct s)]; } u; \
-    __builtin_memset(&u, 255, sizeof u); __builtin_clear_padding(&u.it); clear; \
-    for (size_t i = at; i < at + count && i < 8 * sizeof u; i++) \
-        used += u.bytes[i / 8] >> i % 8 & 1; \
-    used; })
-#define PLACE(s, m, at, count) USED(s, at, count, )
-#define UNRESERVED(s, m, at, count) \
-    USED(s, at, count, __builtin_memset(&u.it.reserved, 0, sizeof u.it.reserved))
 """
 SOCKET_ID = """source_port=id.idiag_sport destination_port=id.idiag_dport
     source_address=id.idiag_src destination_address=id.idiag_dst interface_id=id.idiag_if
@@ -134,8 +122,6 @@ RECORDS = [
 OTHER_SIZE = {"tcp_info", "sockaddr_in", "sockaddr_in6"}
 # A question that all headers answer. Only these three structs gain members in newer kernels.
 ANSWERED = re.compile(r"(?:SIZE|START|END|BIT)\((?!(?:mp)?tcp_info,|inet_diag_sockopt,)")
-# The question about the place of a member.
-PLACE = re.compile(r"PLACE\(\w+, (\w+),")
 # Members of `tcp_info` that are bytes of bit fields, and the first C member of each.
 BIT_FIELDS = {"wscale": "tcpi_snd_wscale"}
 BIT_FIELDS["delivery_rate_app_limited"] = "tcpi_delivery_rate_app_limited"
@@ -243,13 +229,6 @@ def about_record(table, struct, names):
     yield from about_members(struct, members, known)
 
 
-def about_bits(struct, member, at, count):
-    """Yields the questions about a bit field, from bit `at` on, each with its answer."""
-    yield f"BIT({struct}, {member})", at
-    yield f"BITS({struct}, {member})", count
-    yield f"PLACE({struct}, {member}, {at}, {count})", count
-
-
 def about_fields(module, struct, prefix, version):
     """Yields the questions about the spans in a module of specs/, each with its answer there."""
     text = (CRATES / f"sock_diag_extras/specs/{module}.antt").read_text(encoding="utf-8")
@@ -260,11 +239,10 @@ def about_fields(module, struct, prefix, version):
         at, width, inside = int(at), int(width), prefix + member
         if field not in bits:
             yield from about_members(struct, {member: (at, width)}, {member: inside})
-            if member not in BIT_FIELDS:
-                yield f"PLACE({struct}, {inside}, {8 * at}, {8 * width})", 8 * width
         elif version >= BITS_SINCE:
             lowest, count = bits[field]
-            yield from about_bits(struct, inside, 8 * at + lowest, count)
+            yield f"BIT({struct}, {inside})", 8 * at + lowest
+            yield f"BITS({struct}, {inside})", count
 
 
 def c_name(constant):
@@ -320,35 +298,21 @@ def answers(included, asked):
     return dict(zip(left, map(int, values.split()), strict=True))
 
 
-def taken_places(included, found, lacking):
-    """Yields those of the members that are lacking in whose place another member is, which is not
-    `reserved`."""
-    places = [it for it in found if PLACE.match(it) and PLACE.match(it)[1] in lacking]
-    unreserved = answers(included, [it.replace("PLACE", "UNRESERVED") for it in places])
-    for it in places:
-        if unreserved.get(it.replace("PLACE", "UNRESERVED"), found[it]) > 0:
-            yield PLACE.match(it)[1]
-
-
 def compare(included, version, asked):
     """Compares the C text `included`, of a version, with questions and answers. Returns how many
     questions it answers, the errors, and the members and constants that it lacks."""
     found = answers(included, dict.fromkeys(one for one, _ in asked))
     missing = dict.fromkeys(one for one, _ in asked if one not in found)
-    lacking = dict.fromkeys(re.findall(r"\w+", it)[-1] for it in missing if not PLACE.match(it))
-    taken = taken_places(included, found, lacking)
-    wrong = [f"{it}: another member in its place" for it in taken]
-    for one, ours in asked:
-        place = PLACE.match(one)
-        if found.get(one, ours) != ours and not (place and place[1] in lacking):
-            wrong.append(f"{one}: {found[one]} in the headers, {ours} in the crates")
+    lacking = dict.fromkeys(re.findall(r"\w+", it)[-1] for it in missing)
+    wrong = [f"{one}: {found[one]} in the headers, {ours} in the crates"
+             for one, ours in asked if found.get(one, ours) != ours]
     wrong += [f"{it}: not in the headers" for it in missing if ANSWERED.match(it)]
     wrong += [f"{it}: not in headers of a new kernel" for it in lacking if version >= KNOWN]
     return len(found), wrong, lacking
 
 
-# `struct tcp_info` of Linux 7.2, and `struct mptcp_info` of Linux 6.12.
-TCP_INFO = """
+# Both structs of Linux 7.2. Fields of later kernels are added here too.
+NEWEST = """
 #include <stddef.h>
 #include <stdio.h>
 #include <linux/types.h>
@@ -377,11 +341,6 @@ struct tcp_info {
     __u32 tcpi_ecn_mode : 2, tcpi_accecn_opt_seen : 2, tcpi_accecn_fail_mode : 4;
     __u32 tcpi_options2 : 24;
 };
-"""
-MPTCP_INFO = """
-#include <stddef.h>
-#include <stdio.h>
-#include <linux/types.h>
 struct mptcp_info {
     __u8 mptcpi_subflows, mptcpi_add_addr_signal, mptcpi_add_addr_accepted, mptcpi_subflows_max;
     __u8 mptcpi_add_addr_signal_max, mptcpi_add_addr_accepted_max;
@@ -390,49 +349,10 @@ struct mptcp_info {
     __u8 mptcpi_local_addr_used, mptcpi_local_addr_max, mptcpi_csum_enabled;
     __u32 mptcpi_retransmits;
     __u64 mptcpi_bytes_retrans, mptcpi_bytes_sent, mptcpi_bytes_received, mptcpi_bytes_acked;
-    __u8 mptcpi_subflows_total, reserved[3];
+    __u8 mptcpi_subflows_total, mptcpi_endp_laminar_max, mptcpi_endp_fullmesh_max, reserved;
     __u32 mptcpi_last_data_sent, mptcpi_last_data_recv, mptcpi_last_ack_recv;
 };
 """
-BITS_OF_7 = re.search(r" *__u32 tcpi_ecn_mode(?s:.*)24;\n", TCP_INFO)[0]
-# Structs, each with the version of its headers, what it lacks, and how many errors it has.
-TRIALS = {
-    "Linux 7.2": (TCP_INFO, (7, 2), [], 0),
-    "Linux 6.18": (TCP_INFO.replace(
-        BITS_OF_7, "__u16 tcpi_accecn_fail_mode, tcpi_accecn_opt_seen;\n"), (6, 18), [], 0),
-    "Linux 6.2": (re.sub(r" *__u16 tcpi_total_rto(?s:.*)24;\n", "", TCP_INFO), (6, 2),
-                  """total_rto total_rto_recoveries total_rto_time received_ce delivered_e1_bytes
-                  delivered_e0_bytes delivered_ce_bytes received_e1_bytes received_e0_bytes
-                  received_ce_bytes""".split(), 0),
-    "a bit field that has another name": (
-        TCP_INFO.replace("accecn_fail_mode", "other"), (7, 1), ["accecn_fail_mode"], 1),
-    "a number that has another name": (
-        TCP_INFO.replace("tcpi_rehash", "other"), (6, 18), ["rehash"], 1),
-    "a newer struct without its end": (
-        TCP_INFO.replace(BITS_OF_7, ""), (7, 2),
-        ["ecn_mode", "accecn_opt_seen", "accecn_fail_mode", "options2"], 4),
-    "Linux 6.12": (MPTCP_INFO, (6, 12), ["endp_laminar_max", "endp_fullmesh_max"], 0),
-    "Linux 6.12 with padding": (
-        MPTCP_INFO.replace(", reserved[3]", ""), (6, 12), ["endp_laminar_max", "endp_fullmesh_max"],
-        0),
-    "a byte that has another name": (
-        MPTCP_INFO.replace("reserved[3]", "other, reserved[2]"), (6, 12),
-        ["endp_laminar_max", "endp_fullmesh_max"], 1),
-    "bit fields in another order": (
-        TCP_INFO.replace("opt_seen : 2", "FAIL").replace("fail_mode : 4", "opt_seen : 2")
-        .replace("FAIL", "fail_mode : 4"), (7, 2), [], 2),
-}
-
-
-def trial_errors():
-    """Yields a line for each struct of TRIALS that the script takes for what it is not."""
-    for name, (text, version, lacking, errors) in TRIALS.items():
-        (struct,) = re.findall(r"struct (\w+) \{", text)
-        asked = [it for it in questions(version) if f"({struct}," in it[0]]
-        _, wrong, found = compare(text, version, asked)
-        found = [it.partition("_")[2] for it in found]
-        if found != lacking or len(wrong) != errors:
-            yield f"{name}: lacks {', '.join(found) or 'nothing'}; errors: {wrong}"
 
 
 def main():
@@ -443,7 +363,8 @@ def main():
     version = (code >> 16, code >> 8 & 255)
     count, wrong, lacking = compare(INCLUDES, version, [*questions(version)])
     wrong += [f"{it}: missing from RECORDS" for it in LAYOUTS - {table for table, _, _ in RECORDS}]
-    wrong += trial_errors()
+    grow = [it for it in questions(KNOWN) if re.search(r"\((?:mp)?tcp_info,", it[0])]
+    wrong += compare(NEWEST, KNOWN, grow)[1]
     print(*wrong, sep="\n", end="\n" * bool(wrong))
     print("The installed headers lack:", ", ".join(lacking) or "nothing")
     print(f"tests/kernel_headers.py: {count} lengths, offsets and constants compared, "

@@ -332,7 +332,7 @@ class Folder:
         """Compiles a library whose functions return 0, and the programs in C."""
         subprocess.run([TOP / "tests/stand_in.sh", "libsockdiag.a"], cwd=self.work, check=True)
         for name in IN_C:
-            words = ["cc", f"-I{TOP}/include", "-o", f"commands/{name}",
+            words = ["cc", "-DWITH_FILTERS", f"-I{TOP}/include", "-o", f"commands/{name}",
                      TOP / f"examples/{name}.c", "libsockdiag.a"]
             subprocess.run(words, cwd=self.work, check=True)
 
@@ -451,9 +451,9 @@ class Checker:
             if shown is not None and shown != output.splitlines():
                 yield f"prints something else: {command.strip()}\n{output}"
 
-    def check_answers(self, page, number, lines, stored=None):
+    def check_answers(self, page, number, lines):
         """Compares answer lines with those of the program. Input lines without another line between
-        them have the same answer. They have to be stored with it, if `stored` is given."""
+        them have the same answer."""
         inputs, pairs, answered = [], [], False
         for line in lines:
             if ANSWER.match(line):
@@ -466,17 +466,9 @@ class Checker:
                               stdout=subprocess.PIPE, check=True)
         for (line, shown), answer in zip(pairs, done.stdout.splitlines(), strict=True):
             if shown != answer:
-                yield f"the answer is {answer}, not {shown}"
-            if stored is not None and (line, answer) not in stored:
-                yield f"not in crates/sockdiag/stdin: {line}"
+                yield f"the answer to {line} is {answer}, not {shown}"
         if not answered:
             yield f"no answer to {lines[-1]}"
-
-    def check_stored(self, page, number, lines):
-        """Compares input lines and their answers with those that are stored."""
-        files = [(TOP / f"crates/sockdiag/{it}").read_text("utf-8") for it in ("stdin", "stdout")]
-        stored = set(zip(*(text.splitlines() for text in files)))
-        yield from self.check_answers(page, number, lines, stored)
 
     def check_shown(self, page, number, lines):
         """Notes lines, which are compared with what all commands print and write when they have
@@ -485,14 +477,15 @@ class Checker:
         return []
 
     def check_reply(self, page, number, lines):
-        """Checks that the bytes in a table of a UNIX reply are at their offsets, and are stored."""
+        """Checks that the bytes in a table of a UNIX reply are at their offsets, and are those of a
+        line on the page."""
         digits = ""
         for offset, part, *_ in map(str.split, lines[1:]):
             if int(offset) != len(digits) // 2:
                 yield f"the bytes {part} are at the offset {len(digits) // 2}"
             digits += part
-        if f"unix {digits}" not in (TOP / "crates/sockdiag/stdin").read_text("utf-8").splitlines():
-            yield f"not in crates/sockdiag/stdin: unix {digits}"
+        if f"unix {digits}" not in page.read_text("utf-8"):
+            yield f"the page has no line unix {digits}"
 
     def check_test_ends(self, page, number, lines):
         """Checks that tests/api has the programs and scripts that print these lines."""
@@ -539,7 +532,7 @@ class Checker:
 
     def wrong_outputs(self):
         """Yields the page, the line number and the text of each block that no command printed."""
-        for option in ("--json", "--"):
+        for option in ("--json", "--all"):
             words = [self.folder.programs["sslist"], option, TOP / "crates/sslist/stdin"]
             done = subprocess.run(words, stdout=subprocess.PIPE, stderr=subprocess.DEVNULL,
                                   text=True, check=True)
@@ -554,7 +547,7 @@ DEPENDENCIES = r"\[dependencies\]$"
 # How the first line of a block of each form begins, and how the block is checked.
 FORMS = {
     INDENTED: {
-        rf"({NAMES}) [0-9a-f-]": Checker.check_stored,
+        rf"({NAMES}) [0-9a-f-]": Checker.check_answers,
         r"(tools/install: |inet  |try_it: |//! )": Checker.check_shown,
         r"\w+: all tests pass$": Checker.check_test_ends,
         DEPENDENCIES: Checker.check_dependency,

@@ -19,10 +19,9 @@ import sys
 import tempfile
 import traceback
 import unicodedata
-from datetime import datetime, timedelta, timezone
 
 import runs
-from runs import CAPTURE, TABLE, TOP, attribute, check, message, packet, run
+from runs import CAPTURE, TABLE, TOP, check, packet, run
 
 VERSION = (TOP / "VERSION").read_bytes()
 # The expected output of each program with --help.
@@ -145,17 +144,17 @@ def test_sslist(program):
         ([""], 1, b"", b"sslist: '': .*\n"),
         (["-f", ""], 2, b"", wrong % (b"unknown family", b"'' after -f")),
         ([CAPTURE], 0, table, note), ([CAPTURE, CAPTURE], 0, captioned * 2, note * 2),
-        (["--", CAPTURE], 0, table, note), (["--", "-t"], 1, b"", b"sslist: -t: .*\n"),
+        ([CAPTURE, "--"], 0, table, note),
         (["/"], 1, b"", b"sslist: /: the input is a directory; name the captures in it\n"),
         (["/proc/self/mem"], 1, b"",
             rb"sslist: /proc/self/mem: reading failed \(os error 5: input/output error\)\n"),
         ([CAPTURE, "/nowhere"], 1, captioned, note + missing),
         (["/nowhere", CAPTURE], 1, captioned, missing + note),
         (["/\x1b[1m\\"], 1, b"", rb"sslist: /\\x1b\[1m\\x5c: .*\n"),
-        (["state"], 1, b"", rb"sslist: state: .*\(os error 2\); a filter is written --state=.*\n"),
-        (["sport = :22"], 1, b"", rb"sslist: sport\\x20=.*: .*; a filter is written --state=.*\n"),
-        (["state up"], 1, b"", rb"sslist: state\\x20up: .*; a filter is written --state=.*\n"),
-        (["exclude"], 1, b"", rb"sslist: exclude: .*; a filter is written --state=.*\n"),
+        (["state"], 1, b"", rb"sslist: state: .*\(os error 2\); a filter follows --, as in .*\n"),
+        (["sport = :22"], 1, b"", rb"sslist: sport\\x20=.*: .*; a filter follows --, as in .*\n"),
+        (["state up"], 1, b"", rb"sslist: state\\x20up: .*; a filter follows --, as in .*\n"),
+        (["exclude"], 1, b"", rb"sslist: exclude: .*; a filter follows --, as in .*\n"),
         (["-\x1bt"], 2, b"", unknown % rb"-\\x1b in -\\x1bt"), (["-tf"], 2, b"", no_family),
         (["-f", "-x"], 2, b"", wrong % (b"unknown family", b"-x after -f")),
         (["-f", "all"], 2, b"", wrong % (b"unknown family", b"all after -f")),
@@ -167,7 +166,7 @@ def test_sslist(program):
         (["-ts"], 2, b"", unknown % b"-s in -ts; to count sockets, count the lines of -HO"),
         (["-r"], 2, b"", unknown % b"-r; names are never resolved"),
         (["-A"], 2, b"", unknown % b"-A; select sockets by -t, -u, -M, -x, -0 or -f FAMILY"),
-        (["dst"], 1, b"", rb"sslist: dst: .*; a filter is written .* or --src=ADDRESS\n"),
+        (["dst"], 1, b"", rb"sslist: dst: .*; .* sslist FILE -- state established\n"),
         (["-tqf", "x"], 2, b"", unknown % b"-q in -tqf"),
         (["-\u00e9"], 2, b"", unknown % rb"-\\xc3 in -\\xc3\\xa9"),
         (["-t", "--no", "--help"], 2, b"", unknown % b"--no"),
@@ -177,7 +176,7 @@ def test_sslist(program):
         (["-f", "unix", "-h"], 0, (HELP / "sslist").read_bytes(), b""),
     ]:
         check(program, arguments, b"", status, printed, errors)
-    for arguments in ([], ["-"], ["--", "-"], ["-n", "--"]):
+    for arguments in ([], ["-"], ["-", "--"], ["-n", "--"]):
         check(program, arguments, capture, 0, table, note)
     check(program, ["-", CAPTURE], capture, 0, caption("-") + table + captioned, note * 2)
     failed = b"writing to standard output failed (os error 28: no space left on device)"
@@ -219,11 +218,6 @@ def test_rejections(program):
         (["-tff", "unix"], misplaced % "-tff"), (["-fq"], misplaced % "-fq"),
         (["-th", "-q"], "-h has to be alone, not in -th"),
         (["-Vt", "--help"], "-V has to be alone, not in -Vt"),
-        (["--sport", "22"], "--sport needs a value: write --sport=PORT"),
-        (["-t", "--dport"], "--dport needs a value: write --dport=PORT"),
-        *[([f"--{it}", "::1"], f"--{it} needs a value: write --{it}=ADDRESS")
-            for it in ("src", "dst")],
-        (["--state", "listening"], "--state needs a value: write --state=STATE"),
         (["--family", "inet"], "--family needs a value: write --family=FAMILY"),
         *[([f"--{it}=1", "-h"], f"--{it} takes no value")
             for it in "help version utf8 requests json vsock xdp".split()],
@@ -257,6 +251,8 @@ def test_sockdump(program):
                       re.findall(r"[a-z]+", usage.decode().partition("KIND is")[2].split(".")[0])):
             assert sorted(set(found) - {"or"}) == kinds, found
         check(dump, ["tcp", "nope"], b"", 2, b"", b"sockdump: unknown kind nope; try sockdump -h\n")
+        check(dump, ["--", "state", "all"], b"", 2, b"",
+              b"sockdump: filter: this program was built without the C library\n")
         check(dump, [], b"", 1, b"", b"sockdump: .*\n", os.open("/dev/full", os.O_WRONLY))
         status, capture, errors = run(dump, [], b"")
         if errors.startswith(b"sockdump: socket: "):
@@ -287,122 +283,6 @@ def test_unreadable_file(program):
         got = run(copy, [file], b"", **user)
         if got[:2] != (1, b"") or not re.fullmatch(rb"sslist: .*/capture: .*\n", got[2]):
             failures.append(f"{program}: a file that may not be read: {got}")
-
-
-def test_diagnostics(program):
-    """Compares the full standard error for errors that a kernel answers, and for inputs that are
-    compressed or not captures."""
-    file_header, heading = CAPTURE.read_bytes()[:24], run(program, [], CAPTURE.read_bytes()[:24])[1]
-    errno = {n: (-n).to_bytes(4, "little", signed=True) for n in (2, 13, 22)}
-    packets = packet(errno[13], 0, 2, message(errno[22], 0, 2))
-    packets += packet(bytes(4), 16, 3) + packet(errno[2], 0, 3)
-    earlier = " (request: in an earlier packet)"
-    lines = [
-        f"packet 1, message 1: the kernel returned error 13{earlier}",
-        f"packet 1, message 2: note: the kernel returned EINVAL{earlier}",
-        "packet 2, message 1: dump interrupted (NLM_F_DUMP_INTR)",
-        f"packet 3, message 1: note: the kernel returned ENOENT{earlier}",
-        "packet 4, message 1: UnixResponseHeader: buffer of 4 bytes, at least 16 needed",
-        "packet 4, message 2: message length 3 is under 16",
-        f"packet 5, message 1: the kernel's answer has no error number{earlier}",
-    ]
-    packets += packet([1, 1, 10, 0], 0, 20, b"\3" + bytes(19)) + packet([1, 2], 0, 3)
-    expected = "".join(f"sslist: {line}\n" for line in lines).encode()
-    got = run(program, [], file_header + packets)
-    assert got == (1, heading, expected), got
-    check_explanations(program, file_header, heading, errno)
-    notes = [packet(errno[n], 0, kind) for n in (2, 22) for kind in (2, 3)]
-    errors = b"(sslist: packet [1-4], message 1: note: .*\n){4}"
-    check(program, [], file_header + b"".join(notes), 0, heading, errors)
-    check_truncations(program, file_header, heading)
-    no_capture = b"not a capture (pcap or pcapng, as tcpdump -w writes): "
-    for given, text in [
-        (b"\1\2\x0a\xff" + bytes(20), no_capture + b"it begins with 0x01020aff"),
-        (b"hello\n", no_capture + b"it begins with 0x68656c6c"),
-        (b"BZh9\x17rE8P\x90", b"compressed by bzip2; decompress it first, with bzip2 -dc"),
-        *[(start + bytes(20), f"compressed by {it}; decompress it first, with {it} -dc".encode())
-            for start, it in [(b"\xfd7zX", "xz"), (b"\x28\xb5\x2f\xfd", "zstd")]],
-        (b"BZx9" + bytes(20), no_capture + b"it begins with 0x425a7839"),
-        (b"\x0a\x0d\x0d\x0a" + bytes(20), b"unknown byte order of the section at offset 0"),
-    ]:
-        check(program, [], given, 1, b"", re.escape(b"sslist: " + text + b"\n"))
-
-
-def check_truncations(program, file_header, heading):
-    """Checks that a packet that is truncated at any byte has one line, and lists its complete
-    messages."""
-    first, second = message([1, 1, 10, *bytes(13)]), message([1, 1, 10, *bytes(13)])
-    whole = packet([1, 1, 10, *bytes(13)], more=second)[16:]
-    listed = run(program, [], file_header + packet([1, 1, 10, *bytes(13)]))
-    for length in range(len(whole)):
-        lengths = length.to_bytes(4, "little") + len(whole).to_bytes(4, "little")
-        given = file_header + bytes(8) + lengths + whole[:length]
-        text = f"sslist: packet 1: truncated to {length} of {len(whole)} bytes\n".encode()
-        table = listed[1] if length >= 16 + len(first) else heading
-        check(program, [], given, 1, table, re.escape(text))
-    # A message that is wrong for another reason has its line.
-    given = file_header + bytes(8) + lengths + whole[:16] + b"\3" + whole[17:-1]
-    text = b"sslist: packet 1, message 1: message length 3 is under 16\n"
-    check(program, [], given, 1, heading, b"sslist: packet 1: truncated to .*\n" + text)
-
-
-def check_explanations(program, file_header, heading, errno):
-    """Checks the lines about errors with the attributes of an extended acknowledgement
-    (NLM_F_ACK_TLVS, 512), after a whole request or after its header (NLM_F_CAPPED, 256). The
-    sockets that a whole request is for are named if their family is known."""
-    text = attribute(1, b"No such attribute\x1b\0")
-    offset = attribute(2, (36).to_bytes(4, "little"))
-    request, shown = message(bytes(6)), ": No such attribute\\x1b"
-    padding = bytes(-len(request) % 4)
-    answered = "note: the kernel returned EINVAL"
-    other = " (request: in an earlier packet)"
-    raw = message([10, 255, 0, 0, 0xFE, *bytes(51)], 0x301)
-    raw_shown = " (request: raw family:inet6 states:0xfe)"
-    for body, flags, kind, expected in [
-        (errno[22] + raw, 0, 2, answered + raw_shown),
-        (errno[22] + raw[:16], 256, 2, answered + other),
-        (errno[22] + raw, 0, 3, answered + other),
-        (errno[22] + raw + text, 512, 2, answered + raw_shown + shown),
-        (errno[13] + message([1, *bytes(23)], 1), 0, 2,
-            "the kernel returned error 13 (request: unix states:0x0)"),
-        (errno[13] + message([1, *bytes(23)]), 0, 2, "the kernel returned error 13" + other),
-        (errno[2] + message([40, *bytes(23)], 1), 0, 2,
-            "note: the kernel returned ENOENT (request: vsock)"),
-        (errno[2] + message([2, 6, *bytes(54)], 5, 21), 0, 2,
-            "note: the kernel returned ENOENT (request: destroy tcp family:inet states:0x0)"),
-        (errno[22] + request + padding + text + offset, 512, 2,
-            f"{answered}{other}{shown} (offset 36)"),
-        (errno[22] + request[:16] + offset, 768, 2, f"{answered}{other} (offset 36)"),
-        (errno[22] + request[:16] + text, 768, 2, answered + other + shown),
-        (errno[22] + request + padding + text + offset, 0, 2, answered + other),
-        (errno[22] + request[:16] + text + offset, 512, 2, answered + other),
-        (errno[22] + text + offset, 512, 3, f"{answered}{other}{shown} (offset 36)"),
-        (errno[13] + text, 512, 3, f"the kernel returned error 13{other}{shown}"),
-    ]:
-        status = 1 if "error 13" in expected else 0
-        line = f"sslist: packet 1, message 1: {expected}\n".encode()
-        given = file_header + packet(body, flags, kind)
-        check(program, [], given, status, heading, re.escape(line))
-
-
-def test_long_inputs(program):
-    """Lists a reply with long attributes, and a capture with more requests than the program
-    retains."""
-    file_header, reply = CAPTURE.read_bytes()[:24], bytes([1, 1, 10, 0, 7, *bytes(11)])
-    status, table, errors = run(program, [], file_header + packet(reply))
-    assert status == 0 and b"u_str LISTEN" in table, (status, table)
-    attributes = LONG_ATTRIBUTE * 3 + bytes([5, 0, 6, 0, 1, 0, 0, 0])
-    long = run(program, [], file_header + packet(reply + attributes))
-    assert long[0] == 0 and long[1].startswith(table.partition(b"\t")[0]), long
-    assert long[1].endswith(b" -->" + b" unknown:(200,65528)" * 3 + b"\n"), long[1][-200:]
-    for size in [*range(1, 300), 4_096, 65_000]:
-        path = b"/" + b"a" * size
-        length = 5 + len(path)
-        name = length.to_bytes(2, "little") + bytes(2) + path + bytes(1 + -length % 4)
-        shown = run(program, [], file_header + packet(reply + name))
-        assert shown[0] == 0 and b" %s " % path in shown[1], (size, shown[0], shown[2])
-    requests = (packet([2, 6, 0, 0, *it.to_bytes(52, "little")], 0x301) for it in range(300))
-    check(program, [], file_header + b"".join(requests) + packet(reply), 0, table, errors)
 
 
 def test_letters(program):
@@ -447,26 +327,6 @@ def socket_with_path(path):
     return packet([1, 1, 10, 0, 7, *bytes(11)] + list(size + name + bytes(-len(name) % 4)))
 
 
-def test_times(program):
-    """Compares the times of requests with those of Python's datetime: the first and the last day of
-    each month, the greatest time, and fractions of more than a second."""
-    days = [datetime(year, month, 1) for year in range(1970, 2107) for month in range(1, 13)]
-    starts = [int(day.replace(tzinfo=timezone.utc).timestamp()) for day in days]
-    seconds = [it + shift for it in starts for shift in (0, 45_296, -1)]
-    times = [(it, it % 1_000_000) for it in seconds if 0 <= it < 1 << 32]
-    times += [((1 << 32) - 1, fraction) for fraction in (999_999, 1_000_000, (1 << 32) - 1)]
-    for magic, unit in ((0xA1B2C3D4, 1000), (0xA1B23C4D, 1)):
-        capture = magic.to_bytes(4, "little") + CAPTURE.read_bytes()[4:24]
-        lines = []
-        for second, fraction in times:
-            request = packet([1, *bytes(23)], 0x301)
-            capture += second.to_bytes(4, "little") + fraction.to_bytes(4, "little") + request[8:]
-            whole, rest = divmod(second * 1_000_000_000 + fraction * unit, 1_000_000_000)
-            date = datetime(1970, 1, 1) + timedelta(seconds=whole)
-            lines.append(f"-- {date.isoformat()}.{rest:09}Z unix states:0x0\n")
-        check(program, ["--requests", "-H"], capture, 0, "".join(lines).encode())
-
-
 def test_options(program):
     """Lists the stored capture, followed by a UDP request, its reply, and a reply for each other
     family."""
@@ -505,7 +365,7 @@ def test_options(program):
         check(program, names, capture, *expected, errors)
     check_selections(program, capture, heading, rows, errors)
     check_endpoints(program, capture, heading, rows, errors)
-    check_values(program)
+    check_filters(program)
     for arguments in (["-n"], ["-a"], ["-na"], ["-la"], ["-oemi"], ["-o", "-e", "-mi"]):
         check(program, arguments, capture, status, table, errors)
     for option in DETAILS:
@@ -534,17 +394,17 @@ def check_selections(program, capture, heading, rows, errors):
         (["-4t"], lambda kind, state, v6: kind in KINDS["-t"].split() and not v6),
         (["-tx6"], lambda kind, state, v6: kind in unix or kind in KINDS["-t"].split() and v6),
         (["-6lx"], lambda kind, state, v6: kind in unix or kind in ip and v6),
-        (["--state=listening"], lambda kind, state, v6: state == "LISTEN"),
-        (["--state=LISTEN"], lambda kind, state, v6: state == "LISTEN"),
-        (["--state=Unconn"], lambda kind, state, v6: state == "UNCONN"),
-        (["--state=ESTAB"], lambda kind, state, v6: state == "ESTAB"),
-        (["--state=bucket", "-l"], lambda kind, state, v6: state == "TIME-WAIT"),
-        (["--state=close"], lambda kind, state, v6: state == "UNCONN"),
-        (["--state=time-wait", "--state=closed", "-x4"],
+        (["--", "state", "listening"], lambda kind, state, v6: state == "LISTEN"),
+        (["--", "state LISTEN"], lambda kind, state, v6: state == "LISTEN"),
+        (["--", "state", "Unconn"], lambda kind, state, v6: state == "UNCONN"),
+        (["--", "state", "ESTAB"], lambda kind, state, v6: state == "ESTAB"),
+        (["-l", "--", "state", "bucket"], lambda kind, state, v6: state == "TIME-WAIT"),
+        (["--", "exclude", "close"], lambda kind, state, v6: state != "UNCONN"),
+        (["-x4", "--", "state", "time-wait", "state", "closed"],
             lambda kind, state, v6: state in ("TIME-WAIT", "UNCONN") and kind in ip + unix),
     ]
     for arguments, is_selected in choices:
-        is_all = "l" not in "".join(arguments) or "--state" in arguments[0]
+        is_all = "l" not in arguments[0] or "--" in arguments
         chosen = []
         for row in rows:
             kind, state, *_, local = row.decode().split()[:7]
@@ -562,29 +422,31 @@ def check_selections(program, capture, heading, rows, errors):
 
 
 def check_endpoints(program, capture, heading, rows, errors):
-    """Checks which rows are listed with conditions on ports and addresses. Each row of the table
-    has the options, the index of the column with this end, and which port and address meet them."""
+    """Checks which rows are listed with filters. Each row of the table has the filter, the index of
+    the column with an end, and which port and address of it meet the filter."""
     ipv4, ipv6 = ipaddress.IPv4Address, ipaddress.IPv6Address
-    for arguments, at, is_met in [
-        (["--sport=37265"], 6, lambda port, ip: port == 37265),
-        (["--dport=42067"], 7, lambda port, ip: port == 42067),
-        (["--sport=53634-"], 6, lambda port, ip: port >= 53634),
-        (["--sport=-7003"], 6, lambda port, ip: port <= 7003),
-        (["--dport=1-"], 7, lambda port, ip: port >= 1),
-        (["--dport=1", "--dport=-0"], 7, lambda port, ip: port == 0),
-        (["--sport=7003-7013"], 6, lambda port, ip: 7003 <= port <= 7013),
-        (["--sport=7004-7012"], 6, lambda port, ip: 7004 <= port <= 7012),
-        (["--dport=42067-042067"], 7, lambda port, ip: port == 42067),
-        (["--src=198.51.100.1"], 6, lambda port, ip: ip == ipv4("198.51.100.1")),
-        (["--dst=198.51.100.7/29"], 7, lambda port, ip: ip == ipv4("198.51.100.2")),
-        (["--src=127.1.2.3/8"], 6, lambda port, ip: ip == ipv4("127.0.0.1")),
-        (["--dst=0.0.0.0/0"], 7, lambda port, ip: ip.version == 4),
-        (["--dst=128.0.0.0/1"], 7, lambda port, ip: ip == ipv4("198.51.100.2")),
-        (["--dst=0.0.0.0/1", "--dst=0.0.0.0/32"], 7, lambda port, ip: ip == ipv4("0.0.0.0")),
-        (["--src=::1"], 6, lambda port, ip: ip == ipv6("::1")),
-        (["--dst=0:0::/127"], 7, lambda port, ip: ip.version == 6),
-        (["--dst=::/128"], 7, lambda port, ip: ip == ipv6("::")),
-        (["--src=ffff::/0"], 6, lambda port, ip: ip.version == 6),
+    for text, at, is_met in [
+        ("sport = :37265", 6, lambda port, ip: port == 37265),
+        ("dport 42067", 7, lambda port, ip: port == 42067),
+        ("sport >= 53634", 6, lambda port, ip: port >= 53634),
+        ("sport le :7003", 6, lambda port, ip: port <= 7003),
+        ("! dport < 1", 7, lambda port, ip: port >= 1),
+        ("not ( dport != 0 )", 7, lambda port, ip: port == 0),
+        ("sport >= 7003 and sport <= 7013", 6, lambda port, ip: 7003 <= port <= 7013),
+        ("sport > 7003 sport < 7013", 6, lambda port, ip: 7003 < port < 7013),
+        ("sport = 7003 or sport = :7004", 6, lambda port, ip: port in (7003, 7004)),
+        ("src 198.51.100.1", 6, lambda port, ip: ip == ipv4("198.51.100.1")),
+        ("dst = 198.51.100.7/29", 7, lambda port, ip: ip == ipv4("198.51.100.2")),
+        ("src 127.1.2.3/8", 6, lambda port, ip: ip == ipv4("127.0.0.1")),
+        ("dst 0.0.0.0/0", 7, lambda port, ip: ip.version == 4),
+        ("dst 128.0.0.0/1", 7, lambda port, ip: ip == ipv4("198.51.100.2")),
+        ("dst 0.0.0.0/32", 7, lambda port, ip: ip == ipv4("0.0.0.0")),
+        ("src [::1]", 6, lambda port, ip: ip == ipv6("::1")),
+        ("src [::1]:7003", 6, lambda port, ip: (port, ip) == (7003, ipv6("::1"))),
+        ("dst 0:0::/127", 7, lambda port, ip: ip.version == 6),
+        ("dst ::/128", 7, lambda port, ip: ip == ipv6("::")),
+        ("src ffff::/0", 6, lambda port, ip: ip.version == 6),
+        ("dev = 0", 6, lambda port, ip: True),
     ]:
         chosen = []
         for row in rows:
@@ -592,29 +454,31 @@ def check_endpoints(program, capture, heading, rows, errors):
             is_ip = kind in (b"inet", b"inet6", b"tcp", b"udp", b"mptcp")
             if is_ip and is_met(int(port.replace("*", "0")), ipaddress.ip_address(ip.strip("[]"))):
                 chosen.append(row)
-        assert 0 < len(chosen) < len(rows), arguments
-        check(program, ["-O", *arguments], capture, 0, heading + b"".join(chosen), errors)
-    nothing = ["--src=::ffff:127.0.0.1", "--sport=7005-7012", "--dst=2001:db8::/32"]
-    for argument in nothing:
-        check(program, ["-O", argument], capture, 0, heading, errors)
+        assert 0 < len(chosen) < len(rows), text
+        for words in ([text], text.split()):
+            check(program, ["-O", "--", *words], capture, 0, heading + b"".join(chosen), errors)
+    for text in ("src [::ffff:127.0.0.1]", "sport > 7004 and sport < 7013", "dst 2001:db8::/32",
+                 "fwmark = 7"):
+        check(program, ["-O", "--", text], capture, 0, heading, errors)
 
 
-def check_values(program):
-    """Compares the lines about invalid values of filters."""
-    for words, what, form in [
-        ("--sport= --sport=65536 --dport=ssh --dport=2-1 --sport=- --sport=1-2-3 --sport=1-65536",
-            "invalid port", "a port is N, N-M, N- or -M, where N and M are 0 to 65535, and N is at "
-            "most M"),
-        ("--src= --src=1.2.3 --dst=01.2.3.4 --dst=[::1] --src=::1%1 --src=1.2.3.4/33 --dst=::/129 "
-            "--src=1.2.3.4/ --src=/8 --dst=::1/-1 --dst=1.2.3.4/8/8 --src=localhost --src=::1/65664",
-            "invalid address",
-            "an address is IPv4 or IPv6, without a port; /LENGTH may follow it"),
-        ("--state=UNKNOWN", "unknown state",
-            "states are named as in the column State, such as LISTEN, one in each option"),
+def check_filters(program):
+    """Compares the lines about texts that are no filters."""
+    for text, word in [
+        ("sport = 65536", "65536"), ("dport ssh", "ssh"), ("src 1.2.3", "1.2.3"),
+        ("src 1.2.3.4/33", "1.2.3.4/33"), ("dst ::/129 sport", "::/129"), ("-t", "-t"),
+        ("src localhost", "localhost"), ("state UNKNOWN", "UNKNOWN"), ("sport = 1 )", ")"),
+        ("sport = 1 state all", "state"), ("sport \x1b 1", r"\x1b"),
     ]:
-        for word in words.split():
-            line = f"sslist: {what} in {word}: {form}; try sslist --help\n"
-            check(program, [word, "-h"], b"", 2, b"", re.escape(line.encode()))
+        line = f"sslist: unexpected {word} in the filter; try sslist --help\n"
+        check(program, ["--", *text.split()], b"", 2, b"", re.escape(line.encode()))
+    for text in ("sport =", "( sport = 1", "state", "not", "dport = 1 and"):
+        line = rb"sslist: the filter is not complete; try sslist --help\n"
+        check(program, ["--", text], b"", 2, b"", line)
+    line = rb"sslist: more than 256 parts in the filter at autobound\n"
+    check(program, ["--", "not autobound " * 128 + "autobound"], b"", 2, b"", line)
+    line = rb"sslist: a capture does not contain what autobound tests\n"
+    check(program, ["--", "not autobound"], b"", 2, b"", line)
 
 
 def test_json(program):
@@ -662,8 +526,8 @@ if __name__ == "__main__":
     sockdiag, sslist = map(os.path.abspath, sys.argv[1 + is_rust :])
     failed = []
     tests = [(test_sockdiag, sockdiag), *((it, sslist) for it in (
-        test_sslist, test_options, test_times, test_letters, test_rejections, test_terminal,
-        test_diagnostics, test_json, test_long_inputs, test_unreadable_file,
+        test_sslist, test_options, test_letters, test_rejections, test_terminal, test_json,
+        test_unreadable_file,
         *[test_sockdump] * bool(shutil.which("gcc")),
     ))]
     if not is_rust:

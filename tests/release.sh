@@ -3,7 +3,8 @@
 # made here. Needs no kit, and takes one or two minutes.
 #
 # - tests/release.txt lists the members of the archive in order, with modes, owners and times, and
-#   the files that tools/install and the Debian packages install. --write writes a new list.
+#   the files that tools/install and the Debian packages install. The sources of the package for
+#   Rust, which cargo compiles here, are one line. --write writes a new list.
 # - Two copies at different paths, with other times and modes, are packed to the same bytes, also
 #   with another umask and locale, and variables that gzip and tar read. A link at the path of the
 #   archive is replaced. CDPATH has no effect.
@@ -143,7 +144,9 @@ fi
 {
     echo "== $users.tar.gz"
     gzip -dc "first/$users.tar.gz" | TZ=UTC tar -tv --numeric-owner --full-time |
-        awk '{ print $1, $2, $4, $5, $6 }'
+        awk '{ print $1, $2, $4, $5, $6 }' |
+        sed 's,/rust/src/.*/$,/rust/src/*/,; s,/rust/src/.*\.rs$,/rust/src/*.rs,' |
+        awk '!seen[$0]++'
     for folder in staged prefix; do
         echo "== tools/install, $folder"
         (cd $folder && find . ! -type d -printf '%M %p %l\n' | sort -k 2)

@@ -42,9 +42,9 @@ def check(program, arguments, given, status, output, errors=b"", to=subprocess.P
         failures.append(f"{Path(program).name} {arguments}: {shown}")
 
 
-def message(body, flags=0, kind=20):
-    """Returns a netlink message of a type with the sequence number 77."""
-    return struct.pack("<IHHII", 16 + len(body), kind, flags, 77, 0) + bytes(body)
+def message(body, flags=0, kind=20, number=77):
+    """Returns a netlink message with these flags, this type and this sequence number."""
+    return struct.pack("<IHHII", 16 + len(body), kind, flags, number, 0) + bytes(body)
 
 
 def attribute(kind, value):

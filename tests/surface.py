@@ -28,9 +28,6 @@ import believed
 
 TOP = Path(__file__).resolve().parent.parent
 LIST = TOP / "tests/surface.txt"
-# Comments, and literals, whose brackets do not count.
-COMMENT = r"//[^\n]*"
-UNREAD = re.compile(rf"{COMMENT}|\"(?:\\.|[^\"\\])*\"|b?'(?:\\[^'\n]+|[^'\\\n])'", re.S)
 # The first line of an item after its attributes: its visibility, its kind and its name.
 ITEM = re.compile(
     r"(pub(?:\(\w+\))? )?(?:(?:unsafe|const(?= (?:unsafe )?(?:extern )?fn\b)|extern \"C\") )*"
@@ -51,14 +48,9 @@ def libraries():
             and (TOP / "crates" / it / "src/lib.rt").exists()]
 
 
-def blank(found):
-    """Returns blanks in place of a comment or a literal, with its line breaks."""
-    return re.sub(r"[^\n]", " ", found[0])
-
-
 def one_line(text):
     """Returns a text as one line without comments, which does not depend on line breaks."""
-    text = UNREAD.sub(lambda it: "" if it[0].startswith("//") else it[0], text)
+    text = believed.UNREAD.sub(lambda it: "" if it[0].startswith("//") else it[0], text)
     text = re.sub(r"([(\[<]) ", r"\1", " ".join(text.split()))
     return re.sub(r",? ([)\]>])", r"\1", text.replace(", }", " }")).rstrip(",")
 
@@ -80,7 +72,7 @@ class Item:
         if not found:
             sys.exit(f"tests/surface.py: unknown item {self.text[:80]}")
         self.public, self.kind, self.name = found[1] == "pub ", found[2], found[3]
-        bare = UNREAD.sub(blank, self.text)
+        bare = believed.blanked(self.text)
         body = re.search(rf"(?m)^ {{{indent}}}\{{$|^ {{{indent}}}\S.* \{{$|^ {{{indent}}}.*\{{\}}$",
                          bare)
         self.start = body.end() if body else len(self.text)
@@ -111,7 +103,7 @@ class Item:
 def items(text, indent=0):
     """Yields each item of a module, or of the body of an impl or a trait."""
     lines, found, depth = text.splitlines(), [], 0
-    for line, bare in zip(lines, UNREAD.sub(blank, text).splitlines()):
+    for line, bare in zip(lines, believed.blanked(text).splitlines()):
         if not found and not bare.strip():
             continue
         found.append(line)

@@ -241,7 +241,7 @@ ROWS = [
     Row("python3 tests/pages.py $STAND_INS/sockdiag $STAND_INS/sslist", (
         "tests/tidy.py has no option --planted", "rust block is not in any file",
         "no command prints or writes: {", "no crate at planted", "form, language text",
-        "the answer is planted, not ok 00", "not in crates/sockdiag/stdin: unix 00",
+        "the answer to unix 00 is planted, not ok 00",
         "prints something else: sslist FILE", "its output is not compared: planted",
     ), (
         ("docs/PLANTED.md", None, PAGE),
@@ -315,6 +315,8 @@ ROWS = [
         (("tools/install", "usage: tools/install PREFIX", "planted"),), needs="cc make pkg-config"),
     Row("tools/bindings --check", ("-planted", "include/sockdiag.h is out of date"),
         (("include/sockdiag.h", "", "planted\n"),)),
+    Row("tools/bindings --check", ("tools/templates/sockdiag.h.in lacks VegasInfo",),
+        (("tools/templates/sockdiag.h.in", "@struct VegasInfo\n", ""),)),
     Row("tools/usage --check", ("tests/help/sslist is out of date",),
         (("tests/help/sslist", "", "planted\n"),)),
     Row("tools/usage --check", ("the description of .It Fl n , -numeric lacks: never",),

@@ -3,8 +3,9 @@
 replies.jsonl.gz, or compares it with that file. README.md has the format. The gate checks.
 
 answers.py PEER: compares another program or library with the corpus, and prints how often each
-value differs, with an example. PEER is `pyroute2`, `tshark` or `libnl`, which has to be installed.
-These comparisons are not part of the gate.
+value differs, with an example. PEER is `pyroute2`, `tshark` or `libnl`, which has to be installed,
+or `crate`, the Rust crate netlink-packet-sock-diag 0.5.0, which needs cargo and crates.io, or the
+folder BENCH_ORIGINAL (bench/compare.sh). These comparisons are not part of the gate.
 
 The corpus has the replies among the stored lines of the program sockdiag, those of the table "Odd
 replies" of docs/C.md, and of the replies in tests/api/kernels, which real kernels sent, one for
@@ -98,7 +99,7 @@ def main():
         text = "".join(json.dumps(it, separators=(",", ":")) + "\n" for it in rows)
         CORPUS.write_bytes(gzip.compress(text.encode(), 9, mtime=0))
         return 0
-    if command in ("pyroute2", "tshark", "libnl") and not words:
+    if command in ("pyroute2", "tshark", "libnl", "crate") and not words:
         import peers
         return peers.compare(command, stored())
     sys.exit(__doc__)

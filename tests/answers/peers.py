@@ -15,6 +15,9 @@ from pathlib import Path
 import captured
 
 HERE = Path(__file__).resolve().parent
+sys.path.append(str(HERE.parents[1] / "bench"))
+import tools
+
 # Python of the system, which has the packages of the system.
 PYTHON = "/usr/bin/python3"
 
@@ -105,10 +108,29 @@ def of_libnl(rows):
                    for name, it in values.items()}
 
 
+def of_crate(rows):
+    """Has the Rust crate parse each reply, and serialize it, by the program in peer_crate. A reply
+    without a canonical form has to be rejected. The first one of repeated attributes counts."""
+    program = tools.build_original(HERE / "peer_crate")
+    replies = "".join(it["reply"] + "\n" for it in rows)
+    run = subprocess.run([program], input=replies, capture_output=True, text=True, check=True)
+    for at, line in enumerate(run.stdout.splitlines()):
+        values = {}
+        for word in line.split("\t")[1:]:
+            name, _, value = word.partition("=")
+            values.setdefault(name, value)
+        if "error" in values and not rows[at]["canonical"]:
+            values = {"canonical": None}
+        name = bytes.fromhex(values.pop("name_hex", "")).decode(errors="replace")
+        if name and "\ufffd" not in name:
+            values["name"] = name
+        yield at, values
+
+
 # Values in attributes, which an invalid one does not have.
 NAMES = {"shutdown", "peer", "name", "cong", "vfs.ino", "vfs.dev",
          "meminfo.rmem", "info.rtt", "mark", "tos"}
-PEERS = {"pyroute2": of_pyroute2, "tshark": of_tshark, "libnl": of_libnl}
+PEERS = {"pyroute2": of_pyroute2, "tshark": of_tshark, "libnl": of_libnl, "crate": of_crate}
 
 
 def is_same(one, other):
@@ -129,7 +151,7 @@ def compare(peer, rows):
     rows = [it for it in rows if it["json"]]
     same, differ, more, examples = Counter(), Counter(), Counter(), {}
     for at, values in PEERS[peer](rows):
-        ours = dict(flat(rows[at]["json"]))
+        ours = {**dict(flat(rows[at]["json"])), "canonical": rows[at]["canonical"]}
         if "name" in values:
             ours["name"] = ours.get("name.path", "@" + str(ours.get("name.abstract", "")))
         for name, value in values.items():

@@ -3,16 +3,17 @@
 of include/sockdiag.h with the same inputs, and compares what they return and write.
 
 A round is one call of each function (20,000 rounds by default). The inputs are the stored replies,
-replies that reply_reader.py makes, and parts of these, all of them changed at random; structs and
-buffers have random bytes before. compare_libraries.c makes the calls. This script writes what it
-includes: a call of each function with the types of the header, and which bytes of each struct are
-padding, which C does not define.
+replies that reply_reader.py makes, parts of these, and texts of random words of filters, all of
+them changed at random; structs and buffers have random bytes before. A second buffer is empty.
+compare_libraries.c makes the calls. This script writes what it includes: a call of each function
+with the types of the header, and which bytes of each struct are padding, which C does not define.
 
 Prints the functions whose calls differ. The exit status is 1 if there are any, or if all calls of a
 function with a result that varies returned 0.
 """
 
 import os
+import random
 import re
 import subprocess
 import sys
@@ -31,6 +32,9 @@ HEADERS = {"unix": 16, "inet": 72, "netlink": 28, "packet": 16, "vsock": 32, "xd
 # The random number of compare_libraries.c that a parameter gets, by its name.
 NUMBERS = {"message_type": "message_type", "flags": "flags", "what": "what"}
 MADE = 20_000
+# Words of filters.
+WORDS = """state exclude listening established all sport dport src dst dev fwmark cgroup autobound =
+    != >= <= ! not and or ( ) :443 22 0x1/0x3 10.0.0.0/8:53 [::1]:0 [fe80::]/10 *:7""".split()
 
 
 def mask(library, kind):
@@ -57,7 +61,8 @@ def parameter(it, counts):
         counts["inputs"] += 1
         return "const uint8_t *", f"input[{counts['inputs'] - 1}]", None
     if it.kind == "&mut u8":
-        return "uint8_t *", "buffer", None
+        counts["buffers"] += 1
+        return "uint8_t *", "buffer" if counts["buffers"] == 1 else "NULL", None
     if it.kind.startswith("&"):
         counts["structs"] += 1
         kind = re.sub(r"^&(mut )?", "", it.kind)
@@ -65,14 +70,15 @@ def parameter(it, counts):
     if it.name.endswith("_size"):
         return "size_t", "struct_size", None
     if it.name == "length" or it.name.endswith("_length"):
-        is_buffer = counts["is_buffer"]
-        return "size_t", "buffer_length" if is_buffer else f"length[{counts['inputs'] - 1}]", None
+        of_input = f"length[{counts['inputs'] - 1}]"
+        of_buffer = "buffer_length" if counts["buffers"] == 1 else "0"
+        return "size_t", of_buffer if counts["is_buffer"] else of_input, None
     return IN_C[it.kind], NUMBERS.get(it.name, "number"), None
 
 
 def call(library, at, function):
     """Returns the C function that makes a call, and its row in the table."""
-    counts, found = {"inputs": 0, "structs": 0, "is_buffer": False}, []
+    counts, found = {"inputs": 0, "structs": 0, "buffers": 0, "is_buffer": False}, []
     for it in passed(function.parameters):
         found.append(parameter(it, counts))
         counts["is_buffer"] = it.kind == "&mut u8"
@@ -80,7 +86,7 @@ def call(library, at, function):
     kinds = [it[2] for it in found if it[2]]
     masks = ", ".join(f'"{mask(library, kind)}"' for kind in kinds)
     cursor = kinds.index("Cursor") if "Cursor" in kinds else -1
-    family = re.search(f"_({'|'.join(HEADERS)})_", function.name)
+    family = re.search(f"_({'|'.join([*HEADERS, 'filter'])})(_|$)", function.name)
     result = IN_C[function.answer]
     return (
         f"static uint64_t call_{at}(function f) {{\n"
@@ -104,6 +110,9 @@ def seeds(seed):
         for _, _, payload in reply_reader.messages(datagram):
             length = (16 + len(payload)).to_bytes(4, "little")
             yield "any", length + bytes.fromhex("140002000100000000000000") + payload
+    chance = random.Random(seed)
+    for _ in range(MADE):
+        yield "filter", " ".join(chance.choices(WORDS, k=chance.randrange(1, 9))).encode()
     replies = [*reply_reader.stored_replies(), *reply_reader.made_replies(MADE, seed)]
     for family, payload in replies:
         yield family, payload

@@ -9,33 +9,29 @@ changes, 400 times.
 """
 
 import random
-import struct
 import subprocess
 import sys
 from pathlib import Path
 
-CAPTURE = (Path(__file__).resolve().parents[2] / "crates/sslist/stdin").read_bytes()
-FILE_HEADER, COOKED_HEADER = CAPTURE[:24], bytes.fromhex("00040338") + bytes(11) + b"\4"
+sys.dont_write_bytecode = True
+sys.path.append(str(Path(__file__).resolve().parents[1]))
+from runs import CAPTURE as STORED
+from runs import attribute, packet
+
+CAPTURE = STORED.read_bytes()
+FILE_HEADER = CAPTURE[:24]
 # Unicode has assigned no other characters, except for private use.
 CHARACTERS = [*range(0xD800), *range(0xE000, 0x34000), *range(0xE0000, 0xE0200)]
 # Emoji with a modifier, vowels of Kirat Rai, tones of Lisu, and characters that are not shown.
 JOINING = [*range(0xA4F8, 0xA500), *range(0x16D60, 0x16D6C), *range(0x1F3F4, 0x1F400), 0x1F466,
            0x26F9, 0x1F1E6, 0x17D8, 0x200D, 0xFE0F, 0x301, 0x627, 0x644, 0x4E00, 0x41]
 OPTIONS = """-t -u -M -x -0 -l -a -o -e -m -i -4 -6 -H -O -n --utf8 --requests --json --vsock --xdp
---family=netlink --state=listen --state=connected --sport=22 --dport=-100 --src=127.0.0.0/8
---dst=::/0""".split()
-
-
-def packet(messages):
-    data = COOKED_HEADER + messages
-    return struct.pack("<IIII", 1_700_000_000, 5, len(data), len(data)) + data
+--family=netlink""".split()
 
 
 def named(name):
     """Returns a packet with a reply about a UNIX socket with this abstract name."""
-    attribute = struct.pack("<HHB", 5 + len(name), 0, 0) + name + bytes(-(5 + len(name)) % 4)
-    body = bytes([1, 1, 10, 0]) + bytes(12) + attribute
-    return packet(struct.pack("<IHHII", 16 + len(body), 20, 0, 77, 0) + body)
+    return packet(bytes([1, 1, 10, *bytes(13)]) + attribute(0, b"\0" + name))
 
 
 def names(source):

@@ -102,7 +102,7 @@ complete_musl() {
     mkdir "$work/kernel" "$work/unwind"
     for folder in /usr/include /usr/include/x86_64-linux-gnu; do
         for header in linux asm asm-generic; do
-            [ ! -d "$folder/$header" ] || ln -s "$folder/$header" "$work/kernel/$header"
+            [ ! -d "$folder/$header" ] || ln -sfn "$folder/$header" "$work/kernel/$header"
         done
     done
     cat >"$work/find.c" <<'END'

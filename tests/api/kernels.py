@@ -14,12 +14,12 @@ port, and with -l those of sockets that listen. The lister list_rtt has to print
 connections.
 
 A lister has to print no character that could control a terminal. It has to end with status 1,
-without a line, if it cannot connect to the kernel, and if each datagram is longer than its buffer
-or truncated. It also has to end with status 1, after the lines, if ten dumps of a request are
-interrupted or lose data, if a dump ends with an error or with an invalid number, if another reply
-is too short, and if its output cannot be written. If standard input, output or error is not open,
-it has to end with status 1 before it opens a socket. A lister in Rust has to end with status 0:
-before it begins, Rust's runtime opens /dev/null in place of these.
+without a line, if it cannot connect to the kernel or receive from it, and if each datagram is
+longer than its buffer or truncated. It also has to end with status 1, after the lines, if ten dumps
+of a request are interrupted or lose data, if a dump ends with an error or with an invalid number,
+if another reply is too short, and if its output cannot be written. If standard input, output or
+error is not open, it has to end with status 1 before it opens a socket. A lister in Rust has to end
+with status 0: before it begins, Rust's runtime opens /dev/null in place of these.
 
 The attributes of the replies about TCP, UDP and MPTCP sockets have to be in the order in which the
 kernel sends them. The exit status is 1 if they are not, or if a lister fails.
@@ -172,12 +172,12 @@ def is_safe(lister, library, folder):
     return report(lister, done, "names that have each byte", ["two lines of printable characters"])
 
 
-def fails(lister, library, file, **variables):
-    """Returns whether the lister prints no line, and ends with status 1."""
+def fails(lister, library, file, error="", **variables):
+    """Returns whether the lister prints no line, reports this error, and ends with status 1."""
     done = run(lister, library, file, **variables)
-    if done.returncode == 1 and not done.stdout and done.stderr:
+    if done.returncode == 1 and not done.stdout and done.stderr and error in done.stderr:
         return True
-    return report(lister, done, variables, ["no line, an error, and status 1"])
+    return report(lister, done, variables, [f"no line, an error {error}, and status 1"])
 
 
 def reports_short_reply(lister, library, file, folder):
@@ -227,7 +227,8 @@ def is_right(lister, library, files, folder, is_rust):
     list_rtt reports a file without TCP sockets as an error."""
     results = [compare(lister, library, file) for file in files
                if not is_list_rtt(lister) or "\ntcp " in file.read_text()]
-    results.append(fails(lister, library, files[0], FAKE_KERNEL_REFUSES="1"))
+    results += [fails(lister, library, files[0], "Operation not permitted", **{it: "1"})
+                for it in ("FAKE_KERNEL_REFUSES", "FAKE_KERNEL_DENIES")]
     results += [fails(lister, library, files[0], FAKE_KERNEL_EXCESS=it) for it in EXCESSES]
     results += [fails(lister, library, files[0], FAKE_KERNEL_LACK=it) for it in LACKS]
     results.append(compare(lister, library, files[0], FAKE_KERNEL_SIGNALS="1"))

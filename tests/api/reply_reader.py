@@ -13,11 +13,12 @@
 
 The line of a reply is `NAME HEX`, with the payload of the netlink message. NAME is `unix`, `inet`,
 `netlink`, `packet`, `vsock` or `xdp`. Its answer is `error ERROR` if the header is rejected.
-Otherwise it has each field of the header, each detail, and the rejections: the first error, the
-code of the framing error, the code of the first error for each kind below 32, and for each rejected
-attribute in order its kind, or `framing`, and its error. A detail that the reply does not contain
-is `-`, and the numbers of a record are separated by commas. ERROR is a code, and the other fields
-of `struct sockdiag_error_details` in the order of the header, separated by slashes.
+Otherwise it has each field of the header, each detail, and the rejections: the first error and its
+offset, the code of the framing error, the code of the first error for each kind below 32, and for
+each rejected attribute in order its kind, or `framing`, and its error. A detail that the reply does
+not contain is `-`, and the numbers of a record are separated by commas. ERROR is a code, and the
+other fields of `struct sockdiag_error_details` before `offset` in the order of the header,
+separated by slashes.
 
 The tables are written from sock_diag(7), linux/unix_diag.h, linux/inet_diag.h, linux/sock_diag.h,
 linux/netlink_diag.h, linux/packet_diag.h, linux/vm_sockets_diag.h, linux/xdp_diag.h and the pages
@@ -206,7 +207,7 @@ NETLINK_ATTRIBUTES = {
 # instructions 8.
 PACKET_ATTRIBUTES = {
     0: (family_record(AF_PACKET, 24), {"info": numbers("6I")}),
-    1: (records(44), {"addresses": raw}),
+    1: (records(44), {"memberships": raw}),
     2: (family_record(AF_PACKET, 28), {"receive_ring": numbers("7I")}),
     3: (family_record(AF_PACKET, 28), {"send_ring": numbers("7I")}),
     4: (U32[0], {"fanout": U32[1]}),
@@ -328,18 +329,18 @@ def split(data, offset):
 
 
 def rejections(rejected):
-    """Returns the words about the rejected attributes, which are pairs of a kind, or None, and an
-    error."""
+    """Returns the words about the rejected attributes, which are a kind, or None, an error, and its
+    offset."""
     framing, codes = 0, {}
-    for kind, error in rejected:
+    for kind, error, _ in rejected:
         if kind is None:
             framing = error.code
         elif kind < REPORTED_KINDS:
             codes.setdefault(kind, error.code)
     errors = ",".join(f"{kind}:{code}" for kind, code in sorted(codes.items()))
-    every = ",".join(f"{'framing' if kind is None else kind}:{it}" for kind, it in rejected)
-    first = rejected[0][1] if rejected else 0
-    return [f"first={first}", f"framing={framing}", f"errors={errors or '-'}",
+    every = ",".join(f"{'framing' if kind is None else kind}:{it}" for kind, it, _ in rejected)
+    _, first, offset = rejected[0] if rejected else (0, 0, "-")
+    return [f"first={first}", f"offset={offset}", f"framing={framing}", f"errors={errors or '-'}",
             f"rejected={every or '-'}"]
 
 
@@ -351,14 +352,15 @@ def answer(name, payload):
         return f"error {error}"
     # A field of the header and a detail may have the same name, so the details are separate.
     details, rejected = {detail: "-" for _, parts in attributes.values() for detail in parts}, []
-    accepted = set()
+    accepted, end = set(), size
     for kind, value in split(payload, size):
         error_of, parts = attributes.get(kind, (any_value, {}))
         error = value if kind is None else error_of(kind, value)
+        offset, end = end, end + (len(value) + 7) // 4 * 4
         if error is NOT_CHECKED:
             continue
         if error:
-            rejected.append((kind, error))
+            rejected.append((kind, error, offset))
             continue
         if kind not in accepted:
             details.update((detail, part(value)) for detail, part in parts.items())
