@@ -560,8 +560,8 @@ enum sockdiag_xdp_attribute {
  * the call. Strict calls, sockdiag_.._get_details, reject a reply with any error. Lenient calls,
  * sockdiag_.._get_lenient_details, reject one with an invalid header only, and return the first
  * error of each kind of attribute. Use the lenient calls to list sockets: kernels send values that
- * the library does not accept, an INET_DIAG_INFO of fewer than 232 bytes (of MPTCP, and of TCP from
- * kernels without tcpi_snd_wnd) and a UNIX_DIAG_MEMINFO of fewer than 36 bytes.
+ * the library does not accept, an INET_DIAG_INFO without tcpi_snd_wnd (of MPTCP, and of TCP from
+ * older kernels) and a UNIX_DIAG_MEMINFO without all fields of struct sockdiag_memory.
  *
  * A call that takes the size of its struct is an inline function. It passes the struct of version
  * 1.0, and the bytes after it, to the function sockdiag_.._fill_.. of the library.
@@ -1373,11 +1373,17 @@ static inline uint32_t sockdiag_xdp_get_details(const uint8_t *payload, size_t l
  * After such a call this prints each kind that is rejected, with its first error, and the framing
  * error:
  *
- *     for (kind = 0; kind < SOCKDIAG_REJECTION_KINDS; kind++)
- *         if (rejections.errors[kind] != 0)
- *             printf("%d: %s\n", kind, sockdiag_error_text(rejections.errors[kind]));
- *     if (rejections.framing != 0)
- *         printf("the rest: %s\n", sockdiag_error_text(rejections.framing));
+ *     static void end_line(const struct sockdiag_rejections *rejections) {
+ *         unsigned kind;
+ *         for (kind = 0; kind < SOCKDIAG_REJECTION_KINDS; kind++) {
+ *             const uint32_t error = rejections->errors[kind];
+ *             if (error != 0)
+ *                 printf(" rejected %u (%s)", kind, sockdiag_error_text(error));
+ *         }
+ *         if (rejections->framing != 0)
+ *             printf(" rejected (%s)", sockdiag_error_text(rejections->framing));
+ *         putchar('\n');
+ *     }
  */
 
 #define SOCKDIAG_REJECTION_KINDS 32 /* Number of elements of errors of struct
@@ -1727,23 +1733,19 @@ uint32_t sockdiag_ends_answer(const struct sockdiag_message *message);
  *
  * The values of INET_DIAG_ULP_INFO, INET_DIAG_SK_BPF_STORAGES and attributes in them consist of
  * attributes: iterate over a value by sockdiag_next_attribute from the offset 0, and read a number
- * by sockdiag_get_number. This prints the version of TLS of a socket:
+ * by sockdiag_get_number. This prints the items of an array, whose attribute is among others:
  *
- *     static void print_tls(const uint8_t *ulp, size_t length)
- *     {
- *         struct sockdiag_cursor outer = {0}, inner;
- *         struct sockdiag_attribute it, field;
- *         uint64_t number;
- *         while (sockdiag_next_attribute(ulp, length, &outer, &it) == SOCKDIAG_ITEM) {
- *             const uint8_t *tls = ulp + it.offset;
- *             if ((it.type_word & SOCKDIAG_NLA_TYPE_MASK) != SOCKDIAG_INET_ULP_INFO_TLS)
+ *     static void print_pending(const uint8_t *payload, size_t length) {
+ *         struct sockdiag_cursor cursor = {SOCKDIAG_UNIX_ATTRIBUTES}, step = {0};
+ *         struct sockdiag_attribute it;
+ *         uint32_t inode;
+ *         while (sockdiag_next_attribute(payload, length, &cursor, &it) == SOCKDIAG_ITEM) {
+ *             if ((it.type_word & SOCKDIAG_NLA_TYPE_MASK) != SOCKDIAG_UNIX_DIAG_ICONS)
  *                 continue;
- *             inner.offset = 0;
- *             while (sockdiag_next_attribute(tls, it.length, &inner, &field) == SOCKDIAG_ITEM)
- *                 if ((field.type_word & SOCKDIAG_NLA_TYPE_MASK) == SOCKDIAG_TLS_INFO_VERSION
- *                     && sockdiag_get_number(tls + field.offset, field.length, &number)
- *                            == SOCKDIAG_OK)
- *                     printf("version %#lx\n", (unsigned long)number);
+ *             while (sockdiag_next_pending(payload + it.offset, it.length, &step, &inode)
+ *                    == SOCKDIAG_ITEM)
+ *                 printf(" pending %u", inode);
+ *             return;
  *         }
  *     }
  */
@@ -2268,9 +2270,9 @@ static inline uint32_t sockdiag_parse_filter(const uint8_t *text, size_t length,
  * All replies that differ only in ignored bits have the same canonical form, which serves to
  * compare them. Ignored bits are undefined flags, pad fields, padding, and bytes that no parser
  * reads, for example. So the form lacks some values that other calls return: the time of timer 3
- * (TIME_WAIT), the number of retransmissions of a timer other than 1, all of timer 5, and
- * INET_DIAG_INFO from byte 232 on. The form is written at the start of the buffer, and its length
- * is stored, as those of a request.
+ * (TIME_WAIT), the number of retransmissions of a timer other than 1, all of timer 5, and the
+ * fields of INET_DIAG_INFO after tcpi_snd_wnd. The form is written at the start of the buffer, and
+ * its length is stored, as those of a request.
  */
 
 /*
