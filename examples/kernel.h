@@ -34,7 +34,7 @@ static inline int has_streams(void) {
 /* Enters the network namespace of a file. */
 static inline int enter(const char *path) {
     const int file = open(path, O_RDONLY | O_CLOEXEC);
-    int failed = file < 0 || setns(file, CLONE_NEWNET) != 0 ? fail("--netns") : 0;
+    int failed = file < 0 || setns(file, CLONE_NEWNET) != 0 ? fail(path) : 0;
     if (file >= 0)
         close(file);
     return failed;

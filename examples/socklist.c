@@ -177,7 +177,7 @@ int main(int argc, char **argv) {
     if (!has_streams() || (options.name_space != NULL && enter(options.name_space) != 0))
         return EXIT_FAILURE;
     select_closed(&options);
-    if ((status = make_filter(&options)) != 0)
+    if ((status = make_filter(&options)) != 0 || (status = select_conditional(&options)) != 0)
         return status;
     append_requests(&options);
     return list_sockets(&options);

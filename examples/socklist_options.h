@@ -29,7 +29,7 @@ struct options {
     struct arguments lister;   /* The options for sslist. */
     struct text words;         /* The words of a filter, as they were read. */
     const char *states;        /* Words for the states that -a or -l selects, or NULL. */
-    const char *filter;        /* The filter for both programs. */
+    struct filter filter;
     const char *name_space;    /* The file of a network namespace, or NULL. */
     int is_selected[KINDS];
     int has_version; /* -4 or -6. */
@@ -304,18 +304,6 @@ static void select_closed(struct options *options) {
         options->is_selected[TCP] = options->is_selected[UDP] = 1;
 }
 
-/* Returns whether a filter begins with words that select states. */
-static int has_states(const char *words) {
-    static const char *const names[] = {"state", "exclude", "excl"};
-    const char *word = words + strspn(words, spaces);
-    const size_t length = strcspn(word, spaces);
-    size_t index = 0;
-    while (index < sizeof names / sizeof *names
-           && (strlen(names[index]) != length || strncmp(names[index], word, length) != 0))
-        index++;
-    return index < sizeof names / sizeof *names;
-}
-
 /* Returns words that select the states which ss(8) lists without an option: of connections, without
  * TIME-WAIT and SYN-RECV, and of the kinds that have no other state, if one is selected. */
 static const char *default_states(const struct options *options) {
@@ -324,14 +312,13 @@ static const char *default_states(const struct options *options) {
     return "exclude listening exclude bucket exclude closed";
 }
 
-/* Makes the filter for both programs: states, and the words with numbers in place of names. Returns
- * 0, or the exit status after an error. */
+/* Makes the filter: states, and the words with numbers in place of names. Returns 0, or the exit
+ * status after an error. */
 static int make_filter(struct options *options) {
     const int has_tcp = options->is_selected[TCP] || options->is_selected[MPTCP];
     const int has_all = !has_tcp && !options->is_selected[UDP];
     const char *states = options->states;
     struct words words;
-    int status;
     memset(&words, 0, sizeof words);
     words.has_tcp = has_all || has_tcp;
     words.has_udp = has_all || options->is_selected[UDP];
@@ -339,21 +326,33 @@ static int make_filter(struct options *options) {
         states = default_states(options);
     if (states != NULL && *states != '\0' && !has_states(options->words.bytes))
         add_word(&words.text, states);
-    status = read_words(&words, options->words.bytes);
-    options->filter = words.text.bytes;
-    return status;
+    return read_words(&words, options->words.bytes, &options->filter);
 }
 
-/* Appends the filter, if there is one. */
-static void append_filter(const struct options *options, struct arguments *arguments) {
-    if (*options->filter == '\0')
+/* Selects only kinds to which the conditions of the filter apply, if it has some. Returns 0, or the
+ * exit status if no kind is left. */
+static int select_conditional(struct options *options) {
+    size_t index;
+    if (!options->filter.has_conditions || !has_selected(options, 0))
+        return 0;
+    if (!has_selected(options, 1))
+        return reject("conditions such as dport select IPv4 and IPv6 sockets: -t, -u, -M, -w"),
+               USAGE_ERROR;
+    for (index = 0; index < KINDS; index++)
+        options->is_selected[index] &= kinds[index].is_inet;
+    return 0;
+}
+
+/* Appends a text of a filter, unless it is empty. */
+static void append_filter(const char *text, struct arguments *arguments) {
+    if (*text == '\0')
         return;
     append(arguments, "--");
-    append(arguments, options->filter);
+    append(arguments, text);
 }
 
 /* Appends what sockdump requests. If sslist selects by -4 or -6, and no kind of these is selected,
- * sockdump requests all. Of events sslist alone selects those that the filter means. */
+ * sockdump requests all. */
 static void append_requests(struct options *options) {
     static const char *const events[] = {"--events", "--events=tcp", "--events=udp", "--events"};
     size_t index;
@@ -365,7 +364,7 @@ static void append_requests(struct options *options) {
     for (index = 0; index < KINDS; index++)
         if (options->is_selected[index] && (!options->has_version || has_selected(options, 1)))
             append(&options->recorder, kinds[index].name);
-    append_filter(options, &options->recorder);
+    append_filter(options->filter.text.bytes, &options->recorder);
 }
 
 /* Appends the kinds that sslist has to select next to -4 and -6: those of other families. Without
@@ -379,6 +378,14 @@ static void append_families(const struct options *options, struct arguments *lis
         }
 }
 
+/* Returns the filter of sslist. The kernel selects by the conditions, also by those on what no
+ * reply has, but by the states only for some kinds, and not among events. What is closed both have
+ * to select. */
+static const char *lister_filter(const struct options *options) {
+    const struct filter *filter = &options->filter;
+    return options->has_events || options->has_kill ? filter->text.bytes : filter->states.bytes;
+}
+
 /* Returns the arguments of sslist, with another option if it is not NULL. */
 static struct arguments lister_arguments(const struct options *options, const char *option) {
     struct arguments made = make_arguments("sslist", options->space);
@@ -388,7 +395,7 @@ static struct arguments lister_arguments(const struct options *options, const ch
     if (!options->has_details)
         append(&made, "-o"); /* The fewest details, which are left out. */
     append_families(options, &made);
-    append_filter(options, &made);
+    append_filter(lister_filter(options), &made);
     return made;
 }
 

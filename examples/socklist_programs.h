@@ -111,7 +111,7 @@ static int read_line(struct reader *reader, const char **line) {
  * function fails; the rest is not read then. */
 static int take_lines(int file, int (*take)(void *, const char *), void *context) {
     struct reader reader;
-    const char *line;
+    const char *line = NULL;
     int got;
     memset(&reader, 0, sizeof reader);
     reader.file = file;

@@ -23,6 +23,13 @@ struct words {
     int has_tcp, has_udp; /* Whose services are meant. */
 };
 
+/* A filter in the words of ss(8), with numbers in place of names. */
+struct filter {
+    struct text text;
+    struct text states; /* The words that select states, which precede all others. */
+    int has_conditions; /* Whether other words follow. */
+};
+
 /* Adds a word. */
 static void add_word(struct text *text, const char *word) {
     if (text->length > 0)
@@ -249,6 +256,34 @@ static const char *find_reason(const char *text, size_t offset) {
     return end > start && strchr("=!<>", text[start]) != NULL ? find_reason(text, start) : NULL;
 }
 
+/* Returns whether a filter begins with words that select states. */
+static int has_states(const char *words) {
+    static const char *const names[] = {"state", "exclude", "excl"};
+    const char *word = words + strspn(words, spaces);
+    const size_t length = strcspn(word, spaces);
+    size_t index = 0;
+    while (index < sizeof names / sizeof *names
+           && (strlen(names[index]) != length || strncmp(names[index], word, length) != 0))
+        index++;
+    return index < sizeof names / sizeof *names;
+}
+
+/* Returns what follows the first word of a text. */
+static const char *after_word(const char *text) {
+    text += strspn(text, spaces);
+    return text + strcspn(text, spaces);
+}
+
+/* Splits a filter after the words that select states. */
+static void split_filter(struct filter *filter) {
+    const char *end = filter->text.bytes;
+    while (has_states(end))
+        end = after_word(after_word(end));
+    add_bytes(&filter->states, filter->text.bytes, (size_t)(end - filter->text.bytes));
+    add_byte(&filter->states, '\0');
+    filter->has_conditions = *end != '\0';
+}
+
 /* Returns 0 if a text is that of a filter, or the exit status after an error. */
 static int check_filter(char *text) {
     static uint8_t program[SOCKDIAG_FILTER_PROGRAM_LENGTH];
@@ -266,15 +301,19 @@ static int check_filter(char *text) {
     return reject_word(why, text);
 }
 
-/* Reads the words of a text, which is changed, and ends the text of the filter. Returns 0, or the
- * exit status after an error. */
-static int read_words(struct words *words, char *text) {
+/* Reads the words of a text, which is changed, and makes the filter. Returns 0, or the exit status
+ * after an error. */
+static int read_words(struct words *words, char *text, struct filter *filter) {
     char *rest, *word = strtok_r(text, spaces, &rest);
     int status = 0;
     for (; word != NULL && status == 0; word = strtok_r(NULL, spaces, &rest))
         status = read_word(words, word);
     add_byte(&words->text, '\0');
-    return status == 0 ? check_filter(words->text.bytes) : status;
+    if (status != 0 || (status = check_filter(words->text.bytes)) != 0)
+        return status;
+    filter->text = words->text;
+    split_filter(filter);
+    return 0;
 }
 
 #endif

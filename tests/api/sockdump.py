@@ -57,13 +57,14 @@ DUMP, BY_FAMILY, NOOP, ERROR, DONE, MULTI, ENOENT, EINVAL = 0x301, 20, 1, 2, 3, 
 SECONDS = "sockdump: --every=SECONDS needs a whole number from 1 to 86400\n"
 EVENTS = "sockdump: --events takes tcp, udp or tcp,udp\n"
 NO_KIND = "sockdump: --events takes no KIND, no --every and no FILTER\n"
+UNKNOWN = "sockdump: unknown kind, or a filter without -- before it: {}; try sockdump -h\n"
 # Arguments, variables of the kernel, the exit status, and standard error.
 FAILURES = [
-    (["every"], {}, 2, "sockdump: unknown kind every; try sockdump -h\n"),
-    (["tcp", "a\033b"], {}, 2, "sockdump: unknown kind a?b; try sockdump -h\n"),
+    (["every"], {}, 2, UNKNOWN.format("every")),
+    (["tcp", "a\033b"], {}, 2, UNKNOWN.format("a?b")),
     *(([*kinds, f"--every{it}"], {}, 2, SECONDS) for kinds in ([], ["unix"]) for it in (
         "", "=", "=0", "=86401", "=1s", "=-1", "=+1", "= 1", "=1 ", "=18446744073709551617", "s1")),
-    (["--every=1", "nope"], {}, 2, "sockdump: unknown kind nope; try sockdump -h\n"),
+    (["--every=1", "nope"], {}, 2, UNKNOWN.format("nope")),
     *(([f"--events={it}"], {}, 2, EVENTS)
       for it in ("", ",", "tcp,", ",udp", "tc", "tcpx", "unix")),
     *((arguments, {}, 2, NO_KIND) for arguments in (
@@ -75,9 +76,9 @@ FAILURES = [
      "sockdump: filter: the filter is not complete at byte 15; try sockdump -h\n"),
     (["--", 257 * "! "], {}, 2, "sockdump: filter: more than 256 conditions and operators at byte"
      " 512: !; try sockdump -h\n"),
-    (["--eventsx"], {}, 2, "sockdump: unknown kind --eventsx; try sockdump -h\n"),
-    (["--netns=/none", "tcp"], {}, 1, "sockdump: --netns: No such file or directory\n"),
-    *(([f"--netns={it}", "tcp"], {}, 1, "sockdump: --netns: Invalid argument\n")
+    (["--eventsx"], {}, 2, UNKNOWN.format("--eventsx")),
+    (["--netns=/none", "tcp"], {}, 1, "sockdump: /none: No such file or directory\n"),
+    *(([f"--netns={it}", "tcp"], {}, 1, f"sockdump: {it}: Invalid argument\n")
       for it in ("/dev/null", "/proc/self/ns/uts")),
     (["--events"], {"FAKE_KERNEL_REFUSES": "1"}, 1, "sockdump: connect: Operation not permitted\n"),
     *((arguments, *how) for arguments in (["unix"], ["--every=1", "unix"]) for how in (

@@ -40,7 +40,8 @@ LISTENING = "state listening state closed"
 # The states of connections, and these with the state of sockets that are no connections.
 WAITING = "exclude listening exclude bucket"
 CONNECTED = f"{WAITING} exclude closed"
-# Arguments, those that sockdump and sslist get, and the filter that both get after --.
+# Arguments, those that sockdump and sslist get, the filter that both get after --, and conditions
+# after it that only sockdump gets.
 ARGUMENTS = [
     ([], [], ["-o"], CONNECTED),
     (["-a"], [], ["-o"], ""),
@@ -78,13 +79,18 @@ ARGUMENTS = [
     (["-6uxa"], ["udp", "unix"], ["-6", "-o", "-f", "unix"], ""),
     (["--json", "-l"], [], ["--json", "-o"], LISTENING),
     (["--every=5", "-a"], ["--every=5"], ["-o"], ""),
-    *(([*it, "-t"], ["tcp"], ["-o"], f"{CONNECTED} dport = :443") for it in (
+    *(([*it, "-t"], ["tcp"], ["-o"], CONNECTED, "dport = :443") for it in (
         ["dport", "=", ":443"], ["dport = :443"], ["dport", " =\t:443 "])),
     (["-t", "state", "all", "-H"], ["tcp"], ["-H", "-o"], "state all"),
     (["-l", "--", " excl closed"], [], ["-o"], "excl closed"),
-    (["-l", "not", "autobound"], [], ["-o"], f"{LISTENING} not autobound"),
-    (["-a", "( dport = :443 or", "! src 10.0.0.0/8 )"], [], ["-o"],
+    (["-l", "not", "autobound"], [], ["-o"], LISTENING, "not autobound"),
+    (["exclude listening state", "closed dev 1"], [], ["-o"], "exclude listening state closed",
+     "dev 1"),
+    (["-a", "( dport = :443 or", "! src 10.0.0.0/8 )"], [], ["-o"], "",
      "( dport = :443 or ! src 10.0.0.0/8 )"),
+    # Conditions apply to internet sockets only.
+    (["-taxM0", "fwmark", "1"], ["tcp", "mptcp"], ["-o"], "", "fwmark 1"),
+    (["-6xua", "dev = 1"], ["udp"], ["-6", "-o"], "", "dev = 1"),
 ]
 # Arguments with events, and those that sockdump and sslist get.
 EVENTS = [
@@ -94,7 +100,8 @@ EVENTS = [
     (["-tuE", "-i"], ["--events"], ["-i"]),
     (["--events=tcp,udp"], ["--events"], ["-o"]),
     (["--events=udp"], ["--events=udp"], ["-o"]),
-    (["-E", "dport", "=", ":443"], ["--events"], ["-o", "--", "dport = :443"]),
+    (["-E", "state all dport", "=", ":443"], ["--events"],
+     ["-o", "--", "state all dport = :443"]),
     (["-El"], ["--events"], ["-o", "--", LISTENING]),
 ]
 # Words with names, and with numbers in their place. A name in braces is that of a service of TCP.
@@ -164,6 +171,8 @@ REJECTED = [
     (["-K", "--every=1", "dport = 1"], "-K takes no --every and no -E"),
     (["-KE", "dport = 1"], "-K takes no --every and no -E"),
     (["-N", 5000 * "x"], "the name of the namespace is too long"),
+    *(([it, "dev lo"], "conditions such as dport select IPv4 and IPv6 sockets: -t, -u, -M, -w")
+      for it in ("-0", "-4x", "--netlink", "-Avsock,xdp")),
 ]
 SSLIST_ERROR = "sslist: unknown option --nope; try sslist --help\n"
 
@@ -289,9 +298,10 @@ def passed(runs, *arguments, **how):
 
 def test_arguments(runs):
     """Compares the arguments that both programs get."""
-    for arguments, *expected, words in ARGUMENTS:
-        added = ["--", words] if words else []
-        compare(f"{arguments}", passed(runs, *arguments), (0, "", *(it + added for it in expected)))
+    for arguments, *expected, words, conditions in (it + ("",) * (5 - len(it)) for it in ARGUMENTS):
+        filters = f"{words} {conditions}".strip(), words
+        expected = [it + ["--", text] * bool(text) for it, text in zip(expected, filters)]
+        compare(f"{arguments}", passed(runs, *arguments), (0, "", *expected))
     for arguments, *expected in EVENTS:
         compare(f"{arguments}", passed(runs, *arguments), (0, "", *expected))
 
@@ -332,7 +342,7 @@ def test_words(runs):
             words, expected = re.sub("[{}]", "", words), ["--", f"state all {expected}".rstrip()]
             for arguments in ([f"state all {words}"], ["--", "state", "all", *words.split()]):
                 compare(f"{arguments}", passed(runs, "-n", *arguments),
-                        (0, "", expected, ["-o", *expected]))
+                        (0, "", expected, ["-o", "--", "state all"]))
         for words, text in NO_WORDS:
             compare(words, passed(runs, words), (2, f"socklist: {text}{TRY}", [], []))
         compare("lost", passed(runs, "dst lost.example"), (1, "socklist: getent failed\n", [], []))
@@ -403,11 +413,11 @@ def test_rejections(runs):
     runs.use()
     status, _, errors = runs.end("--every=0")
     assert status == 2 and errors.startswith(sockdump.SECONDS), f"--every=0: {status} {errors}"
-    compare("--netns", runs.end("--netns=/none"),
-            (1, "", "socklist: --netns: No such file or directory\n"))
-    for arguments in (["-N", "/none"], ["-tNnone"], ["--net=none"], ["--net", "none"]):
+    missing = "No such file or directory\n"
+    compare("--netns", runs.end("--netns=/none"), (1, "", f"socklist: /none: {missing}"))
+    for arguments in (["-N", "none"], ["-tNnone"], ["--net=none"], ["--net", "none"]):
         compare(f"{arguments}", runs.end(*arguments),
-                (1, "", "socklist: --netns: No such file or directory\n"))
+                (1, "", f"socklist: /run/netns/none: {missing}"))
 
 
 def ephemeral_port():
@@ -867,6 +877,15 @@ def test_rounds(runs):
         assert all(running.stdout.readline() for _ in range(3)), "a round is missing"
 
 
+def test_conditions(runs):
+    """Lists what the kernel has selected, also by what no reply has."""
+    runs.record(*dump("tcp", inet_reply(("127.0.0.1", 22), FAR)))
+    expected = runs.end("-tan")
+    compare("-tan", (expected[0], expected[1].count("\n"), expected[2]), (0, 2, ""))
+    for words in ("autobound", "fwmark = 7", "dport = :1"):
+        compare(words, runs.end("-tan", words), expected)
+
+
 def test_hostile(runs):
     """Reports what is lost: streams that are not open, a full disk, no descriptors, a program that
     is missing or killed, and data that the kernel lost."""
@@ -922,7 +941,8 @@ def main():
         for test in (test_usage, test_arguments, test_words, test_services, test_rejections,
                      test_table, test_columns, test_ports, test_hosts, test_summary,
                      test_processes, test_ended_process, test_close, test_close_errors,
-                     test_rounds, test_hostile, test_programs, test_fresh, test_killed, test_many):
+                     test_rounds, test_conditions, test_hostile, test_programs, test_fresh,
+                     test_killed, test_many):
             try:
                 test(runs)
             # What socklist prints may also be no table and no JSON.
