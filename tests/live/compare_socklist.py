@@ -36,7 +36,7 @@ FILTERS = ["-tn state established", "-tan state time-wait", "-tn dport = :443", 
     "-tan sport >= :80 and sport <= :443", "-4tn dst 127.0.0.0/8",
     "state established ( dport = :https or sport = :ssh )", "-tan ! dst 127.0.0.1 sport > 80",
     "-tan src localhost", "-6tan dst [::1]:22", "-uan src 127.0.0.1:9000 or src 127.0.0.1:9001",
-    "-tuan dev = lo", "-ta exclude established exclude listening", "-l sport = :7001",
+    "-tuan dev = lo", "-tan fwmark = 0", "-ta exclude established exclude listening", "-l sport = :7001",
     "-tanp state connected dport neq :443 and not ( sport = 443 )",
     "-N NAME -tan", "-N NAME state listening sport = :7100"]
 # Arguments with which the details of sockets are compared.
