@@ -3,8 +3,7 @@
 
 - The header has the doc comments of the source, whole.
 - The number of a version has the weights that the header states.
-- With a C compiler, `$CC` or `cc`, it compiles the examples, one of which includes the header, as
-  C99 and as C++.
+- With a C compiler, `$CC` or `cc`, it compiles the examples as C99 and as C++.
 
 It prints which of these parts it skips. tools/bindings writes the header. With the library,
 tests/api/c_api.sh runs the calls.

@@ -13,7 +13,6 @@ import os
 import re
 import select
 import shutil
-import socket
 import subprocess
 import sys
 import tempfile
@@ -229,45 +228,6 @@ def test_rejections(program):
     ]:
         line = f"sslist: {text}; try sslist --help\n".encode()
         check(program, arguments, b"", 2, b"", re.escape(line))
-
-
-def test_sockdump(program):
-    """Compiles examples/sockdump.c, and lists what it writes: among others a listening TCP socket
-    and a UNIX socket that are open here. Skipped if the kernel does not allow to ask it."""
-    source = TOP / "examples/sockdump.c"
-    listening, named = socket.socket(), socket.socket(socket.AF_UNIX)
-    listening.bind(("127.0.0.1", 0))
-    listening.listen(7)
-    with tempfile.TemporaryDirectory() as folder, listening, named:
-        named.bind(f"{folder}/named")
-        dump = f"{folder}/sockdump"
-        words = "-std=c99 -O2 -Wall -Wextra -pedantic -Werror -o".split()
-        subprocess.run(["gcc", *words, dump, source], check=True)
-        status, usage, errors = run(dump, ["-h"], b"")
-        assert (status, errors) == (0, b"") and usage.startswith(b"usage: sockdump"), usage
-        page = (TOP / "man/sockdump.1").read_text("utf-8")
-        kinds = sorted(set(re.findall(r'(?m)^    \{"(\w+)", ', source.read_text("utf-8"))))
-        for found in (re.findall(r"(?m)^\.It Cm (\w+)$", page),
-                      re.findall(r"[a-z]+", usage.decode().partition("KIND is")[2].split(".")[0])):
-            assert sorted(set(found) - {"or"}) == kinds, found
-        check(dump, ["tcp", "nope"], b"", 2, b"", b"sockdump: unknown kind nope; try sockdump -h\n")
-        check(dump, ["--", "state", "all"], b"", 2, b"",
-              b"sockdump: filter: this program was built without the C library\n")
-        check(dump, [], b"", 1, b"", b"sockdump: .*\n", os.open("/dev/full", os.O_WRONLY))
-        status, capture, errors = run(dump, [], b"")
-        if errors.startswith(b"sockdump: socket: "):
-            print("skipped: sockdump:", errors.decode().strip())
-            return
-        header = b"\xd4\xc3\xb2\xa1\2\0\4\0" + bytes(8) + b"\0\0\4\0\xfd\0\0\0"
-        assert (status, errors, capture[:24]) == (0, b"", header), (status, errors, capture[:24])
-        status, table, errors = run(program, ["-O"], capture)
-        rows = [line.split() for line in table.splitlines()]
-        port = b"127.0.0.1:%d" % listening.getsockname()[1]
-        assert (status, errors) == (0, b""), errors
-        tcp = [row for row in rows if row[0] == b"tcp" and row[6] == port]
-        assert [row[:4] for row in tcp] == [[b"tcp", b"LISTEN", b"0", b"7"]], tcp
-        assert any(row[6] == f"{folder}/named".encode() for row in rows), "UNIX socket"
-        assert run(dump, ["unix"], b"")[1].startswith(header)
 
 
 def test_unreadable_file(program):
@@ -527,9 +487,7 @@ if __name__ == "__main__":
     failed = []
     tests = [(test_sockdiag, sockdiag), *((it, sslist) for it in (
         test_sslist, test_options, test_letters, test_rejections, test_terminal, test_json,
-        test_unreadable_file,
-        *[test_sockdump] * bool(shutil.which("gcc")),
-    ))]
+        test_unreadable_file))]
     if not is_rust:
         tests += [(test_sockdiag_not_open, sockdiag), (test_sslist_not_open, sslist)]
     for test, program in tests:

@@ -1,5 +1,5 @@
 """Runs a program and compares what it writes, and makes messages of netlink and captures of them,
-for the tables of tests/captures.py, tests/programs.py and tests/tables.py."""
+for tables of tests."""
 
 import re
 import struct

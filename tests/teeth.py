@@ -26,14 +26,14 @@ from typing import NamedTuple
 
 TOP = Path(__file__).resolve().parent.parent
 # Scripts that need no row, since others run them or the gate does not, and scripts that only
-# c_api.sh and erased.sh run.
+# others of tests/api run.
 CALLED = {"tests/over_gate.sh", "tests/stand_in.sh", "tests/api/call_library.sh",
           "tests/api/fetch_targets.sh", "tests/api/reply_reader.py"}
 OF_C_API = {"tests/api/compare_libraries.py", "tests/api/compare_listers.py",
             "tests/api/compare_replies.sh", "tests/api/kernels.py", "tests/api/sockdump.py",
             "tests/api/socklist.py"}
 # Variables that would change what the scripts run.
-UNSET = {"CC", "CFLAGS", "CARGO_TARGET_DIR", "ERASED_TOOLS", "SOCKDIAG_LIB_DIR",
+UNSET = {"CC", "CFLAGS", "CARGO_TARGET_DIR", "ERASED_TOOLS", "SOCKDIAG_LIBRARY",
          "SOCKDIAG_PROGRAM", "SSLIST_PROGRAM"}
 # The stand-in of most programs. It fails if its name and its arguments match $FAILS.
 PROGRAM = """#!/bin/sh
@@ -335,7 +335,7 @@ ROWS = [
     Row("python3 tests/edits.py - </dev/null", ("not tried, since a library was not proved",),
         (("tests/over_gate.sh", None, "#!/bin/sh\nexit 1\n"),), ""),
     Row("python3 tests/programs.py $STAND_INS/program $STAND_INS/program",
-        names("tests/programs.py", r"(test_(?!sockdump)\w+)\(program\)"), (), "*"),
+        names("tests/programs.py", r"(test_\w+)\(program\)"), (), "*"),
     Row("python3 tests/captures.py $STAND_INS/program",
         names("tests/captures.py", r"((?!main)\w+)\(\)"), (), "*"),
     Row("tests/api/must_not_compile.sh", ("a name that outlives its bytes was not rejected",),

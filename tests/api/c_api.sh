@@ -108,7 +108,7 @@ build fuzz_c "$top/tests/api/fuzz_c.c" "$@"
 "$work/fuzz_c" 20000 "$top/crates/sslist/stdin"
 
 # The lenient calls, compared with an independent reader.
-CFLAGS="$*" SOCKDIAG_LIB_DIR="$(dirname -- "$library")" "$top/tests/api/compare_replies.sh"
+CFLAGS="$*" SOCKDIAG_LIBRARY="$library" "$top/tests/api/compare_replies.sh"
 
 # The example with answers that a kernel seldom sends: an interrupted dump is requested again, and
 # one that lost data on another socket, a rejected reply does not end a dump, and a rejected

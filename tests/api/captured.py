@@ -1,4 +1,5 @@
-"""Captures of replies of sock_diag(7) with their requests: what kernels.py and answers.py share."""
+"""Captures of replies of sock_diag(7) with their requests: what boot_kernels.py of tests/live and
+answers.py of tests/answers share."""
 
 import struct
 

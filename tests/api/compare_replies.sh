@@ -3,19 +3,16 @@
 # return, and the errors with their fields, with what reply_reader.py reads from the same replies:
 # a reply for each row of the table "Odd replies" of docs/C.md and each family, each reply of the
 # kernels in tests/api/kernels, COUNT replies that it makes (100000 by default), and every prefix of
-# each stored reply. Prints a line about the
-# comparison, or the first lines that differ. c_api.sh runs it.
+# each stored reply. Prints a line about the comparison, or the first lines that differ. c_api.sh
+# runs it.
 #
-# The library is libsockdiag.a or libsockdiag_c.a of the folder SOCKDIAG_LIB_DIR, or the one that
-# crates/sockdiag_c has built. CFLAGS are flags for the compiler, -fsanitize=address,undefined by
-# default; CC is the compiler.
+# The library is SOCKDIAG_LIBRARY, or the one that crates/sockdiag_c has built. CFLAGS are flags for
+# the compiler, -fsanitize=address,undefined by default; CC is the compiler.
 set -eu
 count=${1:-100000} seed=${2:-1}
 top=$(CDPATH='' cd -- "$(dirname -- "$0")/../.." && pwd)
-folder=$(CDPATH='' cd -- "${SOCKDIAG_LIB_DIR:-$top/crates/sockdiag_c/out}" && pwd)
-library=$folder/libsockdiag.a
-[ -f "$library" ] || library=$folder/libsockdiag_c.a
-[ -f "$library" ] || { echo "compare_replies: no library in $folder" >&2; exit 1; }
+library=${SOCKDIAG_LIBRARY-$top/crates/sockdiag_c/out/libsockdiag_c.a}
+[ -f "$library" ] || { echo "compare_replies: no $library" >&2; exit 1; }
 work=$(mktemp -d)
 trap '[ $? = 0 ] || echo "$0: failed" >&2; rm -rf "$work"' EXIT
 trap 'exit 130' INT TERM HUP

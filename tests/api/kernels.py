@@ -4,8 +4,8 @@ and erased.sh run this script.
 
     tests/api/kernels.py [--rust] LISTER..
 
-A file of tests/api/kernels has replies, and the words of the line that a lister prints for each.
-fake_kernel.c, which is preloaded, answers the requests of the lister with them. A lister has to
+A text of tests/api/kernels has replies, and the words of the line that a lister prints for each.
+(The captures there, of real kernels, are for reply_reader.py and answers.py.) fake_kernel.c, which is preloaded, answers the requests of the lister with them. A lister has to
 print a line for each reply, in the order of the file, with these words and no others, and end with
 status 0, also if signals interrupt its calls, if each datagram has a message of another type, and
 if the first nine dumps of a request are interrupted or lose data. The text of an error, which is in

@@ -15,6 +15,7 @@ so that its exit status differs. Prints the tests that failed. The exit status i
 import contextlib
 import itertools
 import os
+import re
 import signal
 import struct
 import subprocess
@@ -48,6 +49,7 @@ REQUESTS = [(name, family, bytes.fromhex(digits)) for name, family, digits in (
 )]
 # A file with replies of more than 4096 bytes.
 LONG = kernels.HERE / "kernels/linux-6.18"
+TOP = kernels.HERE.parent.parent
 FILE_HEADER = bytes.fromhex("d4c3b2a1 02000400 00000000 00000000 00000400 fd000000")
 COOKED_HEADER = bytes.fromhex("00040338 00000000 00000000 00000004")
 OWN_PORT = 77
@@ -86,10 +88,10 @@ FAILURES = [
         ({"FAKE_KERNEL_LACK": "1"}, 1, "sockdump: unix: truncated message\n"),
         ({"FAKE_KERNEL_EXCESS": "1"}, 1,
          "sockdump: unix: datagram of 65537 bytes exceeds the buffer\n"))),
-    # Without a file, this kernel loses the first datagram about UDP sockets.
     # A length field below the 16 bytes of the header, in the end of an answer and in a reply.
     *(([kind], {"FAKE_KERNEL_LENGTH": it}, 1, f"sockdump: {kind}: truncated message\n")
       for kind in ("xdp", "unix") for it in ("0", "1", "4", "12", "15")),
+    # Without a file, this kernel loses the first datagram about UDP sockets.
     (["udp"], {"FAKE_KERNEL_REPLIES": None}, 1, "sockdump: recv: No buffer space available\n"),
 ]
 
@@ -177,13 +179,30 @@ class Runs:
 
 def test_usage(runs, files):
     """Prints the usage and the version, and requests nothing."""
-    version = (kernels.HERE.parent.parent / "VERSION").read_bytes()
+    version = (TOP / "VERSION").read_bytes()
     for arguments in (["-V"], ["--version"], ["--version", "nope"]):
         found = runs.end(arguments, subprocess.PIPE, files[0])
         compare(f"{arguments}", found, (0, b"sockdump " + version, ""))
     for argument in ("-h", "--help"):
         status, usage, errors = runs.end([argument], subprocess.PIPE, files[0])
         compare(argument, (status, usage[:16], errors), (0, b"usage: sockdump ", ""))
+    page = (TOP / "man/sockdump.1").read_text("utf-8")
+    kinds = sorted({name for name, *_ in REQUESTS})
+    for found in (re.findall(r"(?m)^\.It Cm (\w+)$", page),
+                  re.findall(r"[a-z]+", usage.decode().partition("KIND is")[2].split(".")[0])):
+        compare("kinds", sorted({*found} - {"or"}), kinds)
+
+
+def test_alone(*_):
+    """Takes no filter without the C library."""
+    error = b"sockdump: filter: this program was built without the C library\n"
+    with tempfile.TemporaryDirectory() as folder:
+        words = f"-std=c99 -O2 -Wall -Wextra -pedantic -Werror -o {folder}/sockdump".split()
+        subprocess.run([os.environ.get("CC", "cc"), *words, TOP / "examples/sockdump.c"],
+                       check=True)
+        found = subprocess.run([f"{folder}/sockdump", "--", "state", "all"], check=False,
+                               capture_output=True, timeout=LIMIT)
+    compare("alone", (found.returncode, found.stdout, found.stderr), (2, b"", error))
 
 
 def test_kinds(runs, files):
@@ -390,9 +409,7 @@ def main():
     files, failed = kernels.replies(), 0
     with tempfile.TemporaryDirectory() as folder:
         runs = Runs(sys.argv[1], kernels.build(folder))
-        for test in (test_usage, test_kinds, test_failures, test_not_open, test_events,
-                     test_filters, test_odd_length, test_terminal, test_rounds, test_slow_rounds,
-                     test_clock, test_closed_pipe, test_lost_and_closed):
+        for test in [it for name, it in globals().items() if name.startswith("test_")]:
             try:
                 test(runs, files)
             except AssertionError as error:

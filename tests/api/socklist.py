@@ -877,6 +877,23 @@ def test_rounds(runs):
         assert all(running.stdout.readline() for _ in range(3)), "a round is missing"
 
 
+def test_this_kernel(runs):
+    """Lists sockets that are open here, if the kernel permits it."""
+    runs.use()
+    with socket.create_server(("127.0.0.1", 0), backlog=7) as listening, \
+            socket.socket(socket.AF_UNIX) as named:
+        named.bind(f"{runs.folder}/named")
+        status, table, errors = runs.end("-tuxanH")
+        port = f"127.0.0.1:{listening.getsockname()[1]}"
+    if errors.startswith("sockdump: socket: "):
+        print(f"socklist: skipped: sockets of this machine: {errors.strip()}")
+        return
+    rows = [line.split() for line in table.splitlines()]
+    compare("this kernel", (status, [it[:4] for it in rows if it[6] == port]),
+            (0, [["tcp", "LISTEN", "0", "7"]]))
+    assert any(it[6] == f"{runs.folder}/named" for it in rows), "UNIX socket"
+
+
 def test_conditions(runs):
     """Lists what the kernel has selected, also by what no reply has."""
     runs.record(*dump("tcp", inet_reply(("127.0.0.1", 22), FAR)))
@@ -938,11 +955,7 @@ def main():
     failed = 0
     with tempfile.TemporaryDirectory() as folder:
         runs = Runs(folder, *sys.argv[1:])
-        for test in (test_usage, test_arguments, test_words, test_services, test_rejections,
-                     test_table, test_columns, test_ports, test_hosts, test_summary,
-                     test_processes, test_ended_process, test_close, test_close_errors,
-                     test_rounds, test_conditions, test_hostile, test_programs, test_fresh,
-                     test_killed, test_many):
+        for test in [it for name, it in globals().items() if name.startswith("test_")]:
             try:
                 test(runs)
             # What socklist prints may also be no table and no JSON.

@@ -19,8 +19,8 @@ the running system, and sslist of the capture of all sockets. Netlink sockets ar
 run of ss has its own.
 
 It is not part of the gate. It needs gcc, iproute2 and the built sslist. As root it uses a new
-network namespace. In a guest of kernels.py it has the option --guest, and takes the sockets that
-are open there, and the programs in /bin.
+network namespace. In a guest of boot_kernels.py it has the option --guest, and takes the sockets
+that are open there, and the programs in /bin.
 """
 
 import ctypes
@@ -37,7 +37,7 @@ IS_GUEST = sys.argv[1:] == ["--guest"]
 LISTER = Path("/bin/sslist") if IS_GUEST else TOP / "crates/sslist/out/sslist"
 OPTIONS = ["-tanioem", "-uanioem", "-xanem", "-anMei", "-s"]
 OPTIONS += ["-0anem", "-anemf netlink", "-anem --vsock", "-anem --xdp", "-an", "-anem"]
-# In a guest of kernels.py, without those that list sockets for which ss prints no protocol.
+# In a guest of boot_kernels.py, without those that list sockets for which ss prints no protocol.
 OPTIONS_OF_GUESTS = [it for it in OPTIONS if it not in ("-s", "-an", "-anem")] + ["-anS"]
 # Options for both programs, of the comparisons with sockdump.
 OF_DUMPS = ["-tan", "-uan", "-xan", "-Man", "-0an", *["-an"] * (not IS_GUEST)]

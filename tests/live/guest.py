@@ -1,5 +1,5 @@
 #!/usr/bin/python3
-"""The first process of a guest that kernels.py boots. It opens sockets (rare_sockets.py), records
+"""The first process of a guest that boot_kernels.py boots. It opens sockets (rare_sockets.py), records
 what sockdump requests and receives, sends the requests below and records the answers, and has
 compare_ss.py compare sslist with the guest's ss. What it writes to /out is left on /dev/vda, as an
 archive of tar.

@@ -1,8 +1,8 @@
 #!/bin/sh
 # systems.sh FOLDER: runs the programs and the C library of a release for x86-64 on other systems.
-# Run it before a release. It is not part of the gate: it needs root, a network, debootstrap,
-# musl-gcc, ss and qemu-x86_64-static, and what the gate built (tools/build library sockdiag
-# sslist). FOLDER keeps the systems, 200 MB each.
+# It is not part of the gate: it needs root, a network, debootstrap, musl-gcc, ss and
+# qemu-x86_64-static, and what the gate built (tools/build library sockdiag sslist). FOLDER keeps
+# the systems, 200 MB each.
 #
 # - The four programs of a release, in minimal systems of Debian 11, 12 and 13 and in a folder that
 #   has only the C library of musl: sockdiag and sslist print the stored lines, and socklist, which

@@ -1,8 +1,7 @@
 #!/usr/bin/env python3
-"""kernels.py [--keep] FOLDER [NAME..]: boots kernels of Debian under software emulation, and
-compares what sslist and the C library make of their replies. Run it before a release. It is not
-part of the gate: it needs a network for the packages, half a gigabyte for each system, and one or
-two minutes for each kernel.
+"""boot_kernels.py [--keep] FOLDER [NAME..]: boots kernels of Debian under software emulation, and
+compares what sslist and the C library make of their replies. It is not part of the gate: it needs a
+network for the packages, half a gigabyte for each system, and one or two minutes for each kernel.
 
 NAME is a kernel of the table KERNELS, and all of them by default. In FOLDER the script keeps
 packages, and a folder for each kernel with what its guest wrote (guest.py): captures of a dump of
@@ -19,7 +18,7 @@ explain these lines. With --keep the captures are also stored in tests/api/kerne
 reads them.
 
 The programs are the static sslist for each processor, out/static/sslist of tools/build and
-out/arm64/sslist, and SOCKDIAG_LIB_DIR may be another folder of the C library. Needs apt, dpkg,
+out/arm64/sslist, and SOCKDIAG_LIBRARY may be another C library for x86-64. Needs apt, dpkg,
 cpio, a C compiler for each processor, and qemu-system.
 """
 
@@ -153,10 +152,10 @@ class Archive:
 
 def library(processor):
     """Returns the path of the C library for a processor."""
-    folder = TOP / ("out/arm64" if processor == "arm64" else "crates/sockdiag_c/out")
-    if processor == "amd64" and "SOCKDIAG_LIB_DIR" in os.environ:
-        folder = Path(os.environ["SOCKDIAG_LIB_DIR"])
-    return folder / "libsockdiag_c.a"
+    if processor == "amd64" and "SOCKDIAG_LIBRARY" in os.environ:
+        return Path(os.environ["SOCKDIAG_LIBRARY"])
+    folder = "out/arm64" if processor == "arm64" else "crates/sockdiag_c/out"
+    return TOP / folder / "libsockdiag_c.a"
 
 
 def build(folder, processor):
