@@ -5,13 +5,13 @@ and erased.sh run this script.
     tests/api/kernels.py [--rust] LISTER..
 
 A text of tests/api/kernels has replies, and the words of the line that a lister prints for each.
-(The captures there, of real kernels, are for reply_reader.py and answers.py.) fake_kernel.c, which is preloaded, answers the requests of the lister with them. A lister has to
-print a line for each reply, in the order of the file, with these words and no others, and end with
-status 0, also if signals interrupt its calls, if each datagram has a message of another type, and
-if the first nine dumps of a request are interrupted or lose data. The text of an error, which is in
-parentheses, is not compared. A lister that takes arguments has to print the lines with a local
-port, and with -l those of sockets that listen. The lister list_rtt has to print the established TCP
-connections.
+(The captures there, of real kernels, are for reply_reader.py and answers.py.) fake_kernel.c, which
+is preloaded, answers the requests of the lister with them. A lister has to print a line for each
+reply, in the order of the file, with these words and no others, and end with status 0, also if
+signals interrupt its calls, if each datagram has a message of another type, and if the first nine
+dumps of a request are interrupted or lose data. The text of an error, which is in parentheses, is
+not compared. A lister that takes arguments has to print the lines with a local port, and with -l
+those of sockets that listen. The lister list_rtt has to print the established TCP connections.
 
 A lister has to print no character that could control a terminal. It has to end with status 1,
 without a line, if it cannot connect to the kernel or receive from it, and if each datagram is
