@@ -2126,7 +2126,8 @@ uint32_t sockdiag_write_inet_request(const struct sockdiag_inet_request *request
  * acknowledged. Addresses, ports, interface and cookie select the socket, and states do not. If no
  * TCP connection has these addresses and ports, Linux takes the socket that listens on the local
  * port: pass the cookie of the reply, so that it closes no other socket. Linux closes TCP, UDP and
- * raw sockets if the caller has CAP_NET_ADMIN.
+ * raw sockets if the caller has CAP_NET_ADMIN: without it the answer is EPERM, and EOPNOTSUPP from
+ * a kernel without CONFIG_INET_DIAG_DESTROY.
  */
 uint32_t sockdiag_write_inet_destroy(const struct sockdiag_inet_request *request, uint8_t *buffer,
                                      size_t length, size_t *written);

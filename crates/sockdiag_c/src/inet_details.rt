@@ -136,6 +136,7 @@ impl<'a> ReplyDetails<'a> for InetDetails<'a> {
         }
     }
 
+    #[inline(always)]
     fn set(&mut self, nla: AnyNla<'a>) {
         match nla {
             AnyNla::Congestion(name) => self.congestion.set(TEXT, name.as_bytes()),

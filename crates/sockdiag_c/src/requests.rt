@@ -162,7 +162,8 @@ pub extern "C" fn sockdiag_write_inet_request(
 /// success acknowledged. Addresses, ports, interface and cookie select the socket, and states do
 /// not. If no TCP connection has these addresses and ports, Linux takes the socket that listens on
 /// the local port: pass the cookie of the reply, so that it closes no other socket. Linux closes
-/// TCP, UDP and raw sockets if the caller has `CAP_NET_ADMIN`.
+/// TCP, UDP and raw sockets if the caller has `CAP_NET_ADMIN`: without it the answer is EPERM, and
+/// EOPNOTSUPP from a kernel without `CONFIG_INET_DIAG_DESTROY`.
 #[unsafe(no_mangle)]
 pub extern "C" fn sockdiag_write_inet_destroy(
     request: &InetRequest,

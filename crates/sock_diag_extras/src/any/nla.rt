@@ -213,6 +213,7 @@ impl<'a> AnyNla<'a> {
 }
 
 // Decodes an attribute of a UNIX socket.
+#[inline(always)]
 fn read_unix<'a>(nla: &NlaBuffer<'a>) -> Result<AnyNla<'a>, DecodeError>
     ensures { map_ok any_model result
         ≡ read_by unix_rows read_port_unix (buffered_attribute nla.now) }
@@ -224,6 +225,7 @@ fn read_unix<'a>(nla: &NlaBuffer<'a>) -> Result<AnyNla<'a>, DecodeError>
 }
 
 // Decodes an attribute of a UNIX socket as the port does.
+#[inline(always)]
 fn read_port_unix<'a>(nla: &NlaBuffer<'a>) -> Result<AnyNla<'a>, DecodeError>
     ensures { map_ok any_model result ≡ read_port_unix (buffered_attribute nla.now) }
 {
@@ -235,6 +237,7 @@ fn read_port_unix<'a>(nla: &NlaBuffer<'a>) -> Result<AnyNla<'a>, DecodeError>
 
 // Returns what an attribute of a UNIX socket says, which the port has decoded. The memory is parsed
 // again, since the port has only three of its nine fields.
+#[inline(always)]
 fn unix_value<'a>(nla: &NlaBuffer<'a>, view: UnixNlaView<'a>) -> Result<AnyNla<'a>, DecodeError>
     ensures { map_ok any_model result ≡ unix_value (buffered_attribute nla.now)
         (unix_variant (unix_nla_view_model view.entry)) }
@@ -252,6 +255,7 @@ fn unix_value<'a>(nla: &NlaBuffer<'a>, view: UnixNlaView<'a>) -> Result<AnyNla<'
 }
 
 // Decodes an attribute of an IPv4 or IPv6 socket, whose `INET_DIAG_INFO` has this format.
+#[inline(always)]
 fn read_inet<'a>(format: InfoFormat, nla: &NlaBuffer<'a>) -> Result<AnyNla<'a>, DecodeError>
     ensures { map_ok any_model result ≡ read_by (info_rows format) (read_by inet_record_rows
         (read_by inet_list_rows read_port_inet)) (buffered_attribute nla.now) }
@@ -267,6 +271,7 @@ fn read_inet<'a>(format: InfoFormat, nla: &NlaBuffer<'a>) -> Result<AnyNla<'a>, 
 
 // Decodes an attribute of an IPv4 or IPv6 socket: a record or a number that the port leaves raw,
 // or one of another kind.
+#[inline(always)]
 fn read_inet_record<'a>(nla: &NlaBuffer<'a>) -> Result<AnyNla<'a>, DecodeError>
     ensures { map_ok any_model result ≡ read_by inet_record_rows
         (read_by inet_list_rows read_port_inet) (buffered_attribute nla.now) }
@@ -283,6 +288,7 @@ fn read_inet_record<'a>(nla: &NlaBuffer<'a>) -> Result<AnyNla<'a>, DecodeError>
 
 // Decodes an attribute of an IPv4 or IPv6 socket: an array of records or nested attributes, which
 // the port leaves raw, or one of another kind. If it is `INET_DIAG_INFO`, the port decodes it.
+#[inline(always)]
 fn read_inet_list<'a>(nla: &NlaBuffer<'a>) -> Result<AnyNla<'a>, DecodeError>
     ensures { map_ok any_model result
         ≡ read_by inet_list_rows read_port_inet (buffered_attribute nla.now) }
@@ -298,6 +304,7 @@ fn read_inet_list<'a>(nla: &NlaBuffer<'a>) -> Result<AnyNla<'a>, DecodeError>
 }
 
 // Decodes an attribute of an IPv4 or IPv6 socket as the port does.
+#[inline(always)]
 fn read_port_inet<'a>(nla: &NlaBuffer<'a>) -> Result<AnyNla<'a>, DecodeError>
     ensures { map_ok any_model result ≡ read_port_inet (buffered_attribute nla.now) }
 {
@@ -309,6 +316,7 @@ fn read_port_inet<'a>(nla: &NlaBuffer<'a>) -> Result<AnyNla<'a>, DecodeError>
 
 // Returns what an attribute of an IPv4 or IPv6 socket says, which the port has decoded. A `struct
 // tcp_info` is all of its bytes, which may be more than the port decodes.
+#[inline(always)]
 fn inet_value<'a>(nla: &NlaBuffer<'a>, view: InetNlaView<'a>) -> AnyNla<'a>
     ensures { any_model result ≡ inet_value (buffered_attribute nla.now)
         (inet_variant (inet_nla_view_model view.entry)) }
