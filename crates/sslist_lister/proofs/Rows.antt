@@ -1,7 +1,7 @@
 -- Texts of rows.
 use Rattle.std.specs.Prelude.{◌≡◌, List, ℕ, Option, None, Some, refl, option_map}
 use Rattle.std.specs.Borrow.{Bor}
-use Rattle.sslist_lister.specs.Rows.{text_of}
+use Rattle.sock_diag_filters.specs.Rows.{text_of}
 
 -- The bytes of an optional text that the code borrows are those of the text as a constant has it.
 pub same_bytes : (text : Option (Bor (List ℕ)))

@@ -2,7 +2,7 @@
 -- packet sockets (linux/if_packet.h) report, by the tables of `src/number_names.rt`.
 use Rattle.std.specs.Prelude.{ℕ, ◌==◌, if◌then◌else◌, List, [], ◌∷◌, bit_and}
 use Rattle.std.specs.Prelude.{flat_map, Option, None, Some}
-use Rattle.sslist_lister.specs.Rows.{Text}
+use Rattle.sock_diag_filters.specs.Rows.{Text}
 use Rattle.sslist_lister.specs.declared.number_names.TheConstants.{FANOUT_MODES, SUBFLOW_FLAGS}
 use Rattle.sslist_lister.specs.declared.number_names.TheConstants.{TLS_CIPHERS, TLS_MODES}
 use Rattle.sslist_lister.specs.declared.number_names.TheConstants.{TLS_VERSIONS}

@@ -1,19 +1,8 @@
--- Rows of tables. The tables are constants of the code, which definitions name, so that each row is
--- written once. A text that a constant borrows is a `Text` there.
+-- Rows of tables, next to those of `sock_diag_filters`. The tables are constants of the code, which
+-- definitions name, so that each row is written once.
 use Rattle.std.specs.Prelude.{ℕ, List}
 use Rattle.std.specs.Borrow.{Bor}
-
--- a text that a constant borrows: its bytes
-abbrev pub Text : Type 0
-Text = record { now : List ℕ }
-
--- a text that the code borrows, as a constant has it
-abbrev pub text_of : Bor (List ℕ) → Text
-text_of text = record { now = text.now }
-
--- a row of a name (`.0`) and a value (`.1`), as a constant has it
-abbrev pub named_row : {Value : Type 0} → Bor (List ℕ) × Value → Text × Value
-named_row row = (text_of row.0, row.1)
+use Rattle.sock_diag_filters.specs.Rows.{Text, text_of}
 
 -- a row of a number (`.0`) and a text, as a constant has it
 abbrev pub numbered_row : ℕ × Bor (List ℕ) → ℕ × Text

@@ -9,9 +9,9 @@ use Rattle.byteorder.specs.Endian.{little_number}
 use Rattle.sock_diag_extras.specs.TcpFields.{tcp_span_of}
 use Rattle.sock_diag_extras.specs.declared.tcp_info.TcpField.TheVariants as field
 use Rattle.sock_diag_records.specs.declared.constants.TheConstants.{TCPI_OPT_WSCALE}
+use Rattle.sock_diag_filters.specs.Rows.{Text, text_of}
 use Rattle.sslist_lister.specs.Facts.{Facts, both, facts_of_each, json_group, no_facts}
 use Rattle.sslist_lister.specs.Facts.{number_facts}
-use Rattle.sslist_lister.specs.Rows.{Text, text_of}
 use Rattle.sslist_lister.specs.declared.facts.Shown.{Shown}
 use Rattle.sslist_lister.specs.declared.tcp.FieldPart.{FieldPart}
 use Rattle.sslist_lister.specs.declared.tcp.FieldPart.TheVariants.{Eight, FirstBit, Four, HighFour}

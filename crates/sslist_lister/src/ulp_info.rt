@@ -8,8 +8,8 @@
 
 ghost use Rattle.std.specs.Prelude.{◌≡◌, ◌≤◌, OnOk, codes, flat_map, map, option_map, true};
 ghost use Rattle.netlink_core.specs.Errors.{map_ok};
+ghost use Rattle.sock_diag_filters.specs.Rows.{text_of};
 ghost use Rattle.sslist_lister.specs.Facts.{AddsFacts, AddsItems, json_group};
-ghost use Rattle.sslist_lister.specs.Rows.{text_of};
 ghost use Rattle.sslist_lister.specs.UlpInfo.{has_fields, nested_group, nested_number};
 ghost use Rattle.sslist_lister.specs.UlpInfo.{nested_value, presence_facts, subflow_facts};
 ghost use Rattle.sslist_lister.specs.UlpInfo.{tls_facts, token_facts, ulp_name, ulp_number};

@@ -5,6 +5,7 @@ use Rattle.std.specs.Prelude.{fold, is_some, length, nat_eq, nat_lt, option_map,
 use Rattle.std.specs.Prelude.{unwrap_or}
 use Rattle.std.specs.List.{ends_with, list_any, starts_with}
 use Rattle.std.specs.Option.{option_map_or}
+use Rattle.sock_diag_filters.specs.Rows.{value_of}
 use Rattle.sslist_lister.specs.declared.command_line.arguments.Argument.{Argument}
 use Rattle.sslist_lister.specs.declared.command_line.arguments.Argument.TheVariants as parsed_as
 use Rattle.sslist_lister.specs.declared.command_line.arguments.Place.{Place}
@@ -21,7 +22,6 @@ use Rattle.sslist_lister.specs.declared.command_line.options.AnyFamily.TheVarian
 use Rattle.sslist_lister.specs.declared.command_line.options.AnyFamily.TheVariants.{Unix, Vsock}
 use Rattle.sslist_lister.specs.declared.command_line.options.AnyFamily.TheVariants.{Xdp}
 use Rattle.sslist_lister.specs.declared.command_line.options.Options.{Options}
-use Rattle.sslist_lister.specs.Rows.{Text}
 use Rattle.sslist_lister.specs.command_line.Text.{index_of}
 
 -- ---- letters
@@ -99,12 +99,6 @@ abbrev pub with_letters : List ℕ → Options → Options
 with_letters letters options = with_sockets letters (with_details letters options)
 
 -- ---- options by their names
-
--- `value_of rows name`: the value (`.1`) of the first row with this name (`.0`); None if there is
--- none
-abbrev pub value_of : {Value : Type 0} → List (Text × Value) → List ℕ → Option Value
-value_of [] name = None
-value_of (row ∷ later) name = if bytes_eq name row.0.now then Some row.1 else value_of later name
 
 -- what an option without a value that is a whole argument is parsed as; None for any other argument
 unfoldable pub flag_argument : List ℕ → Option Argument

@@ -1,8 +1,8 @@
 //! Arguments of the command line of a program that lists captures.
 
 ghost use Rattle.std.specs.Prelude.{◌≡◌, map};
-ghost use Rattle.sslist_lister.specs.Rows.{named_row};
-ghost use Rattle.sslist_lister.specs.command_line.Choice.{argument_at, ends_in_f, value_of};
+ghost use Rattle.sock_diag_filters.specs.Rows.{named_row, value_of};
+ghost use Rattle.sslist_lister.specs.command_line.Choice.{argument_at, ends_in_f};
 ghost use Rattle.sslist_lister.specs.command_line.Choice.{family_argument, family_named};
 ghost use Rattle.sslist_lister.specs.command_line.Choice.{first_rejected_letter};
 ghost use Rattle.sslist_lister.specs.command_line.Choice.{first_unknown_letter, flag_argument};

@@ -1,6 +1,5 @@
 use Rattle.std.proofs.Common.{◌≡◌, drop, map}
-use Rattle.sslist_lister.specs.Rows.{named_row}
-use Rattle.sslist_lister.specs.command_line.Choice.{value_of}
+use Rattle.sock_diag_filters.specs.Rows.{named_row, value_of}
 use Rattle.sslist_lister.proofs.command_line.arguments.value_of.Given as goal
 
 -- the first row with the name among the remaining ones is the first among all
