@@ -31,11 +31,83 @@ from concurrent.futures import ThreadPoolExecutor
 from itertools import chain
 from pathlib import Path
 
-from surface import changed_names
+from surface import items, module_of, one_line
 from tidy import TOP, edited_files, text_files
 
 PARTS = ("src", "specs", "proofs")
 REJECTED = TOP / "out/edits-rejected"
+
+
+def words_of(type_, parameters):
+    """Returns the words of a type or trait as the prover joins them in a name: without lifetimes and
+    parameters of the impl. A parameter by itself is `Any`."""
+    type_ = re.sub(r"(?:\w+::)+", "", type_.split(" where ")[0])
+    for sign, word in (("&", "Ref "), ("[", "Slice "), ("()", "Unit")):
+        type_ = type_.replace(sign, word)
+    words = re.findall(r"(?<!')\b[A-Za-z_]\w*", type_)
+    if words and words[0] in parameters:
+        words[0] = "Any"
+    return "".join(word[0].upper() + word[1:] for word in words if word not in parameters)
+
+
+def block_name(item):
+    """Returns the name of an impl or a trait in the prover's names of its functions."""
+    if item.kind == "trait":
+        return item.name
+    head, parameters = one_line(item.text[: item.start]).partition("impl")[2].strip(" {}"), []
+    if head.startswith("<"):
+        signs = (1 if it == "<" else -1 if it == ">" and before not in "-=" else 0
+            for before, it in zip(f" {head}", head))
+        depth, end = 0, 0
+        for end, sign in enumerate(signs, 1):
+            depth += sign
+            if depth == 0:
+                break
+        parameters = re.findall(r"(?:^<|, )(?:const )?(\w+)", head[:end])
+        head = head[end:].strip()
+    trait, _, type_ = head.rpartition(" for ")
+    return words_of(type_, parameters) + words_of(trait, parameters)
+
+
+def functions_of(path, text):
+    """Returns the text of each function of a file by the prover's name, such as
+    `module::Type::function` or `module::TypeTrait::function`, and all other text by the name of the
+    module."""
+    module, parts = module_of(path), {}
+    for item in items(text):
+        block = item.kind in ("impl", "trait")
+        for it in item.members() if block else [item]:
+            name = [module, block and block_name(item), it.name]
+            name = "::".join(filter(None, name)) if it.kind == "fn" else module
+            parts[name] = parts.get(name, "") + it.text + "\n"
+            parts[module] = parts.get(module, "") + it.attributes
+        if block:
+            parts[module] = parts.get(module, "") + item.attributes + item.text[: item.start]
+    return parts
+
+
+def name_in_crate(name, path, files):
+    """Returns the name of a function with the module that declares its type, which may be another
+    one than that of the file."""
+    module = module_of(path)
+    parts = name.removeprefix(module + "::").split("::")
+    declared = re.compile(rf"(?m)^ *(?:pub(?:\(\w+\))? )?(?:struct|enum) {parts[0]}\b")
+    if len(parts) == 1 or declared.search(files[path]):
+        return name
+    source = "/".join(path.split("/")[:3]) + "/"
+    others = [module_of(other) for other in files
+              if other.startswith(source) and declared.search(files[other])]
+    return "::".join(filter(None, [*others, *parts])) if len(others) == 1 else name
+
+
+def changed_names(changed, files):
+    """Returns the functions and modules that differ in the changed files."""
+    names = []
+    for path, text in changed.items():
+        before, after = functions_of(path, files[path]), functions_of(path, text)
+        names += [name_in_crate(name, path, files) for name in after
+                  if after[name] != before.get(name)]
+    return names
 
 
 def crate_of(name):
