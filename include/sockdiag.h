@@ -989,8 +989,8 @@ struct sockdiag_tcp_info {
 /*
  * Returns whether the kernel sent a field of the struct info. value_length is the number that
  * sockdiag_inet_get_tcp_info or sockdiag_inet_get_mptcp_info has stored. The last four fields of
- * struct sockdiag_tcp_info are bit fields, which this macro does not take: the kernel sent them if
- * value_length is at least 280.
+ * struct sockdiag_tcp_info are bit fields, which this macro does not take: they are 0 if the kernel
+ * did not send them.
  */
 #define SOCKDIAG_HAS(value_length, info, field)                                                   \
     ((value_length) >= (size_t)((const char *)&(info).field - (const char *)&(info))              \

@@ -64,18 +64,20 @@ def repeated_code(files):
 
 
 def is_unbreakable(name, line):
-    """Returns whether a line cannot be broken: a string literal, a row of a table in a doc comment,
-    or a crate and its dependencies."""
+    """Returns whether a line cannot be broken: a string literal, a row of a table, code or JSON of a
+    page, or a crate and its dependencies."""
+    if name.endswith(".md"):
+        return line.startswith(("|", "    ", "{"))
     return line.strip().startswith(('"', "//! |", "/// |")) or (
         name == "crates.txt" and not line.startswith("#")
     )
 
 
 def wide_lines(files):
-    """Yields the lines of code with more than COLUMNS columns. Pages, must-fail edits, which quote
-    code, are not checked."""
+    """Yields the lines with more than COLUMNS columns, of pages except for tables and code.
+    Must-fail edits and pages of contracts, which quote code, are not checked."""
     for name, text in files.items():
-        if Path(name).suffix in {".md", ".edit", ".toml"} or name.startswith("docs/"):
+        if Path(name).suffix in {".edit", ".toml", ".svg"} or name.endswith("CALLING.md"):
             continue
         for number, line in enumerate(text.splitlines(), 1):
             if len(line) > COLUMNS and not is_unbreakable(name, line):
