@@ -94,6 +94,7 @@ impl<'a> ReplyDetails<'a> for UnixDetails<'a> {
         }
     }
 
+    #[inline(always)]
     fn set(&mut self, nla: AnyNla<'a>) {
         match nla {
             AnyNla::Name(name) => match name {
@@ -120,6 +121,7 @@ impl<'a> ReplyDetails<'a> for UnixDetails<'a> {
 
 // Returns the error of an attribute with an invalid value. If the checks do not know its kind,
 // returns `AnyNla::Unknown`, and no error.
+#[inline(always)]
 fn reject_if_checked<'a>(nla: &NlaBuffer<'a>) -> Result<AnyNla<'a>, DecodeError>
     // An attribute with a valid value is not passed.
     ensures { let a = buffered_attribute nla.now in (e : DecodeError) → read_any Unix a ≡ Err e
