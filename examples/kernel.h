@@ -21,13 +21,19 @@ static inline int fail(const char *what) {
     return -1;
 }
 
-/* Returns whether standard input, output and error are open, and reports it if one is not. A socket
- * or a pipe would get its number, and the kernel would receive what is written there. */
-static inline int has_streams(void) {
-    if (fcntl(STDIN_FILENO, F_GETFD) >= 0 && fcntl(STDOUT_FILENO, F_GETFD) >= 0
-        && fcntl(STDERR_FILENO, F_GETFD) >= 0)
-        return 1;
-    fputs(PROGRAM ": standard input, output or error is not open\n", stderr);
+/* Opens /dev/null in place of standard input and of standard error if they are closed: a socket or
+ * a pipe would get their numbers, and the kernel would receive what is written there. Returns 0, or
+ * -1 if standard output is closed. */
+static inline int open_streams(void) {
+    int stream;
+    for (stream = STDIN_FILENO; stream <= STDERR_FILENO; stream++) {
+        if (fcntl(stream, F_GETFD) >= 0)
+            continue;
+        if (stream == STDOUT_FILENO)
+            return fputs(PROGRAM ": standard output is not open\n", stderr), -1;
+        if (open("/dev/null", O_RDWR) != stream)
+            return fail("/dev/null");
+    }
     return 0;
 }
 

@@ -318,25 +318,44 @@ static const struct nlmsghdr *find_end(const struct datagram *it, int *is_trunca
     return NULL;
 }
 
-/* Returns whether a datagram is the answer of a kernel without the kind. */
-static int is_unknown_kind(const struct datagram *it) {
-    const struct nlmsghdr *message = &it->data.aligned;
+/* Returns the number of the error with which an answer ends in a datagram, or 0. */
+static int error_of(const struct datagram *it) {
     int32_t error = 0;
     int is_truncated;
-    if (find_end(it, &is_truncated) != message || message->nlmsg_len < NLMSG_LENGTH(sizeof error))
-        return 0;
-    memcpy(&error, NLMSG_DATA(message), sizeof error);
-    return error == -ENOENT || error == -EINVAL;
+    const struct nlmsghdr *end = find_end(it, &is_truncated);
+    if (end != NULL && end->nlmsg_len >= NLMSG_LENGTH(sizeof error))
+        memcpy(&error, NLMSG_DATA(end), sizeof error);
+    return error < 0 ? -error : 0;
 }
 
-/* Requests a kind, and writes the request and its answer, unless the kernel does not have the kind
+/* Returns whether a datagram is the answer of a kernel that does not list sockets of a kind. */
+static int is_missing(const struct kind *kind, const struct datagram *it) {
+    const int error = error_of(it);
+    int is_truncated;
+    return find_end(it, &is_truncated) == &it->data.aligned
+        && (error == ENOENT || (error == EINVAL && !is_inet(kind)));
+}
+
+/* Reports an error with which an answer ends, of both IP versions of a kind once. */
+static void report_error(const struct kind *kind, const struct datagram *it) {
+    static const char *reported;
+    const int error = error_of(it);
+    if (error == 0 || (reported != NULL && strcmp(reported, kind->name) == 0))
+        return;
+    reported = kind->name;
+    fprintf(stderr, "sockdump: %s: %s\n", kind->name,
+            is_missing(kind, it) ? "note: this kernel does not list such sockets"
+                                 : strerror(error));
+}
+
+/* Requests a kind, and writes the request and its answer, unless the kernel does not list the kind
  * and no argument names it. */
 static int dump(int kernel, const struct kind *kind, const struct filter *filter, int is_named) {
     static struct datagram sent, received;
     int is_truncated = 0;
     if (send_request(kernel, kind, filter, &sent) != 0 || receive(kernel, &received) != 0)
         return -1;
-    if (!is_named && is_unknown_kind(&received))
+    if (!is_named && is_missing(kind, &received))
         return 0;
     if (write_packet(&sent) != 0 || write_packet(&received) != 0)
         return -1;
@@ -344,6 +363,7 @@ static int dump(int kernel, const struct kind *kind, const struct filter *filter
            && !is_truncated)
         if (receive(kernel, &received) != 0 || write_packet(&received) != 0)
             return -1;
+    report_error(kind, &received);
     if (is_truncated)
         return fprintf(stderr, "sockdump: %s: truncated message\n", kind->name), -1;
     if (received.length <= sizeof received.data)
@@ -648,7 +668,7 @@ int main(int argc, char **argv) {
         return 2;
     if (isatty(STDOUT_FILENO))
         return fputs("sockdump: standard output is a terminal; try sockdump | sslist\n", stderr), 1;
-    if (!has_streams())
+    if (open_streams() != 0)
         return 1;
     if (selection.name_space != NULL && enter(selection.name_space) != 0)
         return 1;

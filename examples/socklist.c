@@ -142,7 +142,7 @@ static int list_sockets(const struct options *options) {
         || load_services(&listing.names) == 0)
         status = options->has_kill ? close_listed(&options->recorder, &lister, &objects, &listing)
                                    : list_recorded(&options->recorder, &lister, &listing);
-    if (options->is_summary && status == 0 && print_summary(&listing.summary) != 0)
+    if (options->is_summary && status == 0 && print_summary(options, &listing.summary) != 0)
         status = EXIT_FAILURE;
     free(listing.line.bytes);
     free(listing.processes.items);
@@ -152,32 +152,26 @@ static int list_sockets(const struct options *options) {
     return status;
 }
 
-/* Returns whether an argument before -- is this option. */
-static int has_option(char **arguments, const char *letter, const char *name) {
-    for (; *arguments != NULL && strcmp(*arguments, "--") != 0; arguments++)
-        if (strcmp(*arguments, letter) == 0 || strcmp(*arguments, name) == 0)
-            return 1;
-    return 0;
-}
-
 int main(int argc, char **argv) {
     static struct options options;
     int status;
-    if (has_option(argv, "-h", "--help"))
-        return print(usage);
-    if (has_option(argv, "-V", "--version"))
-        return print("socklist " SOCKDIAG_VERSION "\n");
     /* At most two arguments for each one and for each kind, a few options, and the end. */
     options.space = 2 * ((size_t)argc + KINDS) + 16;
     options.recorder = make_arguments("sockdump", options.space);
     options.lister = make_arguments("sslist", options.space);
     options.lister.count = 0;
-    if (read_arguments(&options, argc, argv) != 0 || check(&options) != 0)
+    if (read_arguments(&options, argc, argv) != 0)
         return USAGE_ERROR;
-    if (!has_streams() || (options.name_space != NULL && enter(options.name_space) != 0))
+    if (options.printed != '\0')
+        return print(options.printed == 'h' ? usage : "socklist " SOCKDIAG_VERSION "\n");
+    if (check(&options) != 0)
+        return USAGE_ERROR;
+    if (open_streams() != 0 || (options.name_space != NULL && enter(options.name_space) != 0))
         return EXIT_FAILURE;
     select_closed(&options);
-    if ((status = make_filter(&options)) != 0 || (status = select_conditional(&options)) != 0)
+    if (select_conditional(&options) != 0)
+        return USAGE_ERROR;
+    if ((status = make_filter(&options)) != 0)
         return status;
     append_requests(&options);
     return list_sockets(&options);

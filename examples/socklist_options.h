@@ -41,6 +41,8 @@ struct options {
     int is_numeric;
     int has_hosts;   /* Names of hosts. */
     int has_details; /* -o, -m, -i or -e. */
+    int has_timers;  /* -e, which shows timers too. */
+    char printed;    /* h for the usage, V for the version. */
     int has_processes;
     int has_kill;
     int is_confirmed; /* --yes. */
@@ -66,10 +68,13 @@ static const char usage[] =
     "      --every=SECONDS     a list every SECONDS seconds\n"
     "  -K, --kill              close the TCP and UDP sockets that are listed, which\n"
     "                          needs a filter, such as dport = :443\n"
-    "      --yes               with -K, do not ask\n\n"
-    "All other options are those of sslist, such as -o, -m, -i, -e, -H, -O, --json:\n"
-    "see sslist --help. Words that are no options, and all after --, are a filter as\n"
-    "in ss(8): state established '( dport = :https or dst 10.0.0.0/8 )'.\n";
+    "      --yes               with -K, do not ask\n"
+    "  -o, -m, -i, -e          timers, memory, TCP connections, and all other details\n"
+    "                          with the timers\n"
+    "  -H, -O, --json, --utf8, --requests\n"
+    "                          the format, as of sslist\n\n"
+    "Words that are no options, and all after --, are a filter as in ss(8):\n"
+    "state established '( dport = :https or dst 10.0.0.0/8 )'.\n";
 
 /* Prints a text. Returns the exit status. */
 static int print(const char *text) {
@@ -111,7 +116,8 @@ static int select_kinds(struct options *options, const char *names) {
     do {
         length = strcspn(names, ",");
         if (!select_kind(options, names, length) && !select_group(options, names, length))
-            return reject("unknown kind in a list; kinds are those of sockdump, such as tcp,unix");
+            return reject_word("unknown kind; kinds are tcp, udp, mptcp, raw, unix, packet, "
+                               "netlink, vsock, xdp, inet and all", names), -1;
         names += length;
     } while (*names++ == ',');
     return 0;
@@ -148,7 +154,7 @@ static int read_value(struct options *options, char letter, const char *value) {
     return letter == 'f' ? read_family(options, value) : read_name_space(options, value);
 }
 
-/* Reads a letter. Returns whether it is not one for sslist too. */
+/* Reads a letter. Returns whether sslist does not get it. */
 static int read_letter(struct options *options, char letter) {
     size_t index;
     for (index = 0; index < KINDS; index++)
@@ -156,6 +162,9 @@ static int read_letter(struct options *options, char letter) {
             return options->is_selected[index] = 1;
     options->has_version |= letter == '4' || letter == '6';
     options->has_details |= strchr("omie", letter) != NULL;
+    options->has_timers |= letter == 'e';
+    if (letter == 'h' || letter == 'V')
+        options->printed = letter;
     if (letter == 'a' || letter == 'l')
         options->states = letter == 'a' ? "" : "state listening state closed";
     options->has_processes |= letter == 'p';
@@ -165,7 +174,13 @@ static int read_letter(struct options *options, char letter) {
     options->has_events |= letter == 'E';
     options->is_repeated |= letter == 'E';
     options->has_kill |= letter == 'K';
-    return strchr("alpnrsEK", letter) != NULL;
+    return strchr("alpnrsEKhV", letter) != NULL;
+}
+
+/* Rejects an option that is a letter. Returns -1. */
+static int reject_letter(char letter) {
+    const char option[] = {'-', letter, '\0'};
+    return reject_word("unknown option", option), -1;
 }
 
 /* Reads joined letters. Those for sslist stay in the argument. If a letter has a value, it is the
@@ -173,9 +188,13 @@ static int read_letter(struct options *options, char letter) {
 static int read_letters(struct options *options, char *argument, const char *next) {
     char *letter = argument + 1, *end = argument + 1;
     char last;
-    for (; *letter != '\0' && strchr("AfN", *letter) == NULL; letter++)
-        if (!read_letter(options, *letter))
-            *end++ = *letter;
+    for (; *letter != '\0' && strchr("AfN", *letter) == NULL; letter++) {
+        if (read_letter(options, *letter))
+            continue;
+        if (strchr("46omieHO", *letter) == NULL)
+            return reject_letter(*letter);
+        *end++ = *letter;
+    }
     last = *letter;
     *end = '\0';
     if (end > argument + 1)
@@ -199,15 +218,27 @@ static const struct { const char *name; char letter; } names[] = {
     {"--processes", 'p'}, {"--numeric", 'n'}, {"--resolve", 'r'}, {"--summary", 's'},
     {"--events", 'E'},    {"--kill", 'K'},    {"--options", 'o'}, {"--memory", 'm'},
     {"--info", 'i'},      {"--extended", 'e'}, {"--ipv4", '4'},   {"--ipv6", '6'},
-    {"--all", 'a'},       {"--listening", 'l'},
+    {"--all", 'a'},       {"--listening", 'l'}, {"--no-header", 'H'}, {"--oneline", 'O'},
+    {"--help", 'h'},      {"--version", 'V'},
 };
 
-/* Reads a long option that is not passed to sslist. Returns whether it is one. */
+/* Other long options of sslist. */
+static const char *const of_lister[] = {"--json", "--requests", "--utf8", NULL};
+
+/* Reads a long option that is the same as a letter. Returns whether it is one. */
+static int read_name(struct options *options, const char *argument) {
+    size_t index = 0;
+    while (index < sizeof names / sizeof *names && strcmp(argument, names[index].name) != 0)
+        index++;
+    if (index == sizeof names / sizeof *names)
+        return 0;
+    if (!read_letter(options, names[index].letter))
+        append(&options->lister, argument);
+    return 1;
+}
+
+/* Reads a long option that sslist does not get. Returns whether it is one. */
 static int read_own(struct options *options, const char *argument) {
-    size_t index;
-    for (index = 0; index < sizeof names / sizeof *names; index++)
-        if (strcmp(argument, names[index].name) == 0)
-            return read_letter(options, names[index].letter);
     if (strcmp(argument, "--yes") == 0)
         return options->is_confirmed = 1;
     if (after_name(argument, "--netns=") != NULL)
@@ -239,12 +270,14 @@ static int read_valued(struct options *options, const char *argument, const char
 static int read_long(struct options *options, const char *argument, const char *next) {
     const char *protocols = after_name(argument, "--events=");
     const int step = read_valued(options, argument, next);
-    if (step != 0 || read_own(options, argument))
+    if (step != 0 || read_name(options, argument) || read_own(options, argument))
         return step != 0 ? step : 1;
     if (protocols != NULL) {
         read_letter(options, 'E');
         return select_kinds(options, protocols) == 0 ? 1 : -1;
     }
+    if (!is_among(argument, of_lister))
+        return reject_word("unknown option", argument), -1;
     options->is_json |= strcmp(argument, "--json") == 0;
     append(&options->lister, argument);
     return 1;
@@ -253,7 +286,7 @@ static int read_long(struct options *options, const char *argument, const char *
 /* Reads the arguments. Returns 0, or -1 if one is wrong. */
 static int read_arguments(struct options *options, int count, char **arguments) {
     int index = 1, step = 1;
-    for (; index < count && step > 0; index += step) {
+    for (; index < count && step > 0 && options->printed == '\0'; index += step) {
         char *argument = arguments[index];
         const char *next = index + 1 < count ? arguments[index + 1] : NULL;
         step = 1;
@@ -285,6 +318,8 @@ static int check(const struct options *options) {
                                   && !options->is_selected[RAW];
     if (options->has_events && !has_only_tcp_and_udp)
         return reject("-E lists TCP and UDP sockets: -t and -u");
+    if (options->has_events && options->recorder.count > 1)
+        return reject("-E takes no --every");
     if (options->is_summary && (options->is_repeated || options->is_json || options->has_kill))
         return reject("-s takes no --every, --json, -E and -K");
     if (options->is_confirmed && !options->has_kill)
@@ -329,15 +364,15 @@ static int make_filter(struct options *options) {
     return read_words(&words, options->words.bytes, &options->filter);
 }
 
-/* Selects only kinds to which the conditions of the filter apply, if it has some. Returns 0, or the
- * exit status if no kind is left. */
+/* Selects only kinds to which the conditions of the filter apply, if it has some. Returns 0, or -1
+ * if no kind is left. */
 static int select_conditional(struct options *options) {
+    const char *conditions = after_states(options->words.bytes);
     size_t index;
-    if (!options->filter.has_conditions || !has_selected(options, 0))
+    if (conditions[strspn(conditions, spaces)] == '\0' || !has_selected(options, 0))
         return 0;
     if (!has_selected(options, 1))
-        return reject("conditions such as dport select IPv4 and IPv6 sockets: -t, -u, -M, -w"),
-               USAGE_ERROR;
+        return reject("conditions such as dport select IPv4 and IPv6 sockets: -t, -u, -M, -w");
     for (index = 0; index < KINDS; index++)
         options->is_selected[index] &= kinds[index].is_inet;
     return 0;
@@ -379,11 +414,13 @@ static void append_families(const struct options *options, struct arguments *lis
 }
 
 /* Returns the filter of sslist. The kernel selects by the conditions, also by those on what no
- * reply has, but by the states only for some kinds, and not among events. What is closed both have
- * to select. */
+ * reply has, but by the states only for some kinds, and not among events, which are all in the same
+ * state. What is closed both have to select. */
 static const char *lister_filter(const struct options *options) {
     const struct filter *filter = &options->filter;
-    return options->has_events || options->has_kill ? filter->text.bytes : filter->states.bytes;
+    if (options->has_events)
+        return filter->conditions;
+    return options->has_kill ? filter->text.bytes : filter->states.bytes;
 }
 
 /* Returns the arguments of sslist, with another option if it is not NULL. */
@@ -392,8 +429,9 @@ static struct arguments lister_arguments(const struct options *options, const ch
     append_all(&made, &options->lister);
     if (option != NULL)
         append(&made, option);
-    if (!options->has_details)
-        append(&made, "-o"); /* The fewest details, which are left out. */
+    /* The timer is the fewest details: it is left out if no details are requested. */
+    if (!options->has_details || options->has_timers)
+        append(&made, "-o");
     append_families(options, &made);
     append_filter(lister_filter(options), &made);
     return made;

@@ -5,9 +5,11 @@
 #ifndef SOCKLIST_SUMMARY_H
 #define SOCKLIST_SUMMARY_H
 
+#include "socklist_options.h"
 #include "socklist_table.h"
 
-/* Other kinds than IPv4 and IPv6: the letter with which the column Netid begins, and the name. */
+/* Other kinds than IPv4 and IPv6, in the order of their indices: the letter with which the column
+ * Netid begins, and the name. */
 static const struct { char letter; const char *name; } others[] = {
     {'u', "UNIX"}, {'p', "PACKET"}, {'n', "NETLINK"}, {'v', "VSOCK"}, {'x', "XDP"},
 };
@@ -66,8 +68,17 @@ static void print_row(const char *name, const unsigned long *numbers) {
     printf("%-9s %-9lu %-9lu %lu\n", name, numbers[0] + numbers[1], numbers[0], numbers[1]);
 }
 
-/* Prints the numbers. Returns 0 or -1. */
-static int print_summary(const struct summary *summary) {
+/* Returns whether a kind is counted: all are if none is selected. */
+static int is_counted(const struct options *options, size_t kind) {
+    return options->is_selected[kind] || (!has_selected(options, 0) && !has_selected(options, 1));
+}
+
+/* Prints the numbers of the selected kinds. Returns 0 or -1. */
+static int print_summary(const struct options *options, const struct summary *summary) {
+    static const struct { size_t kind, protocol; const char *name; } rows[] = {
+        {RAW, PROTOCOL_RAW, "RAW"}, {UDP, PROTOCOL_UDP, "UDP"},
+        {TCP, PROTOCOL_TCP, "TCP"}, {MPTCP, PROTOCOL_MPTCP, "MPTCP"},
+    };
     unsigned long inet[2] = {0, 0};
     size_t index;
     for (index = 0; index < PROTOCOLS; index++) {
@@ -78,13 +89,13 @@ static int print_summary(const struct summary *summary) {
            summary->all, summary->tcp, summary->established, summary->closed, summary->orphaned,
            summary->waiting);
     printf("Transport Total     IP        IPv6\n");
-    print_row("RAW", summary->inet[PROTOCOL_RAW]);
-    print_row("UDP", summary->inet[PROTOCOL_UDP]);
-    print_row("TCP", summary->inet[PROTOCOL_TCP]);
-    print_row("MPTCP", summary->inet[PROTOCOL_MPTCP]);
+    for (index = 0; index < sizeof rows / sizeof *rows; index++)
+        if (is_counted(options, rows[index].kind))
+            print_row(rows[index].name, summary->inet[rows[index].protocol]);
     print_row("INET", inet);
     for (index = 0; index < OTHERS; index++)
-        printf("%-9s %lu\n", others[index].name, summary->others[index]);
+        if (is_counted(options, UNIX + index))
+            printf("%-9s %lu\n", others[index].name, summary->others[index]);
     return ferror(stdout) || fflush(stdout) != 0 ? fail("standard output") : 0;
 }
 

@@ -26,8 +26,8 @@ struct words {
 /* A filter in the words of ss(8), with numbers in place of names. */
 struct filter {
     struct text text;
-    struct text states; /* The words that select states, which precede all others. */
-    int has_conditions; /* Whether other words follow. */
+    struct text states;     /* The words that select states, which precede all others. */
+    const char *conditions; /* The other words. */
 };
 
 /* Adds a word. */
@@ -154,22 +154,47 @@ static int is_host(const char *text) {
         && *text != '-' && strpbrk(text, ":/[]") == NULL;
 }
 
+/* Returns whether a word is one of a list. */
+static int is_among(const char *word, const char *const *list) {
+    while (*list != NULL && strcmp(*list, word) != 0)
+        list++;
+    return *list != NULL;
+}
+
+/* Adds the address of a condition. As in ss(8), zeros follow the first numbers of an IPv4 one. */
+static void add_ip(struct text *text, const char *address) {
+    const size_t length = strspn(address, "0123456789.");
+    const int has_end = address[length] == '\0' || address[length] == '/';
+    size_t index, missing = 3;
+    add_bytes(text, address, length);
+    for (index = 0; index < length && missing > 0; index++)
+        missing -= address[index] == '.';
+    if (length > 0 && has_end && address[length - 1] != '.')
+        while (missing-- > 0)
+            add_string(text, ".0");
+    add_string(text, address + length);
+}
+
 /* Adds an address and a port, of which both may be missing: the port follows the last colon, unless
  * a slash or a bracket follows. Returns 0, or the exit status after an error. */
 static int add_end(struct words *words, char *word) {
+    static const char *const any[] = {"any", "all", "default", NULL};
     char *colon = strrchr(word, ':');
     struct text port = {NULL, 0, 0};
     int status = 0;
+    if (colon != strchr(word, ':') && strchr(word, '[') == NULL)
+        return reject_word("an IPv6 address has brackets, such as [::1]:80", word);
     if (colon != NULL && strpbrk(colon, "/]") == NULL) {
         add_byte(&port, ':');
         status = add_service(words, &port, colon + 1);
         *colon = '\0';
     }
     add_byte(&port, '\0');
-    if (status == 0 && is_host(word)) {
+    if (status == 0 && is_host(word) && !is_among(word, any)) {
         status = add_addresses(words, word, port.bytes);
     } else {
-        add_word(&words->text, word);
+        add_word(&words->text, "");
+        add_ip(&words->text, is_among(word, any) ? "*" : word);
         add_string(&words->text, port.bytes);
     }
     free(port.bytes);
@@ -201,13 +226,6 @@ static int add_value(struct words *words, char *word) {
     return add_service(words, &words->text, word + (*word == ':'));
 }
 
-/* Returns whether a word is one of a list. */
-static int is_among(const char *word, const char *const *list) {
-    while (*list != NULL && strcmp(*list, word) != 0)
-        list++;
-    return *list != NULL;
-}
-
 /* Reads a word. Returns 0, or the exit status after an error. */
 static int read_word(struct words *words, char *word) {
     static const char *const fields[] = {"sport", "dport", "src", "dst", "dev", NULL};
@@ -235,6 +253,7 @@ static const struct { const char *field, *why; } values[] = {
     {"sport", "no port from 0 to 65535"}, {"dport", "no port from 0 to 65535"},
     {"src", "no address, such as 192.0.2.0/24, [::1] or *:80"},
     {"dst", "no address, such as 192.0.2.0/24, [::1] or *:80"},
+    {"fwmark", "no mark, such as 1 or 0x1/0x3"}, {"cgroup", "no id of a control group"},
 };
 
 /* Returns where the spaces, or the other bytes, begin that end at an offset of a text. */
@@ -274,14 +293,11 @@ static const char *after_word(const char *text) {
     return text + strcspn(text, spaces);
 }
 
-/* Splits a filter after the words that select states. */
-static void split_filter(struct filter *filter) {
-    const char *end = filter->text.bytes;
-    while (has_states(end))
-        end = after_word(after_word(end));
-    add_bytes(&filter->states, filter->text.bytes, (size_t)(end - filter->text.bytes));
-    add_byte(&filter->states, '\0');
-    filter->has_conditions = *end != '\0';
+/* Returns what follows the words that select states, which are the first ones. */
+static const char *after_states(const char *words) {
+    while (has_states(words))
+        words = after_word(after_word(words));
+    return words;
 }
 
 /* Returns 0 if a text is that of a filter, or the exit status after an error. */
@@ -305,6 +321,7 @@ static int check_filter(char *text) {
  * after an error. */
 static int read_words(struct words *words, char *text, struct filter *filter) {
     char *rest, *word = strtok_r(text, spaces, &rest);
+    const char *end;
     int status = 0;
     for (; word != NULL && status == 0; word = strtok_r(NULL, spaces, &rest))
         status = read_word(words, word);
@@ -312,7 +329,10 @@ static int read_words(struct words *words, char *text, struct filter *filter) {
     if (status != 0 || (status = check_filter(words->text.bytes)) != 0)
         return status;
     filter->text = words->text;
-    split_filter(filter);
+    end = after_states(filter->text.bytes);
+    add_bytes(&filter->states, filter->text.bytes, (size_t)(end - filter->text.bytes));
+    add_byte(&filter->states, '\0');
+    filter->conditions = end + strspn(end, spaces);
     return 0;
 }
 

@@ -46,13 +46,16 @@ ARGUMENTS = [
     ([], [], ["-o"], CONNECTED),
     (["-a"], [], ["-o"], ""),
     (["-tlnp"], ["tcp"], ["-o"], LISTENING),
-    (["-tuna", "-e"], ["tcp", "udp"], ["-e"], ""),
+    (["-tuna", "-e"], ["tcp", "udp"], ["-e", "-o"], ""),
     (["-tr"], ["tcp"], ["-o"], CONNECTED),
     (["-s", "--resolve"], [], ["-o"], ""),
     (["--summary", "-tl"], ["tcp"], ["-o"], LISTENING),
     (["--listening", "--processes", "--numeric", "--mptcp"], ["mptcp"], ["-o"], LISTENING),
     *((["-a", *it], [], it, "") for it in (
-        ["--info"], ["--memory"], ["--options"], ["--extended"], ["-o", "-m"], ["-i"])),
+        ["--info"], ["--memory"], ["--options"], ["-o", "-m"], ["-i"])),
+    (["--extended", "--no-header", "--oneline", "-a"], [],
+     ["--extended", "--no-header", "--oneline", "-o"], ""),
+    (["-a", "--requests", "--utf8", "-HO"], [], ["--requests", "--utf8", "-HO", "-o"], ""),
     (["--all"], [], ["-o"], ""),
     (["-la"], [], ["-o"], ""),
     (["-al"], [], ["-o"], LISTENING),
@@ -100,9 +103,9 @@ EVENTS = [
     (["-tuE", "-i"], ["--events"], ["-i"]),
     (["--events=tcp,udp"], ["--events"], ["-o"]),
     (["--events=udp"], ["--events=udp"], ["-o"]),
-    (["-E", "state all dport", "=", ":443"], ["--events"],
-     ["-o", "--", "state all dport = :443"]),
-    (["-El"], ["--events"], ["-o", "--", LISTENING]),
+    # All events are in one state.
+    (["-E", "state all dport", "=", ":443"], ["--events"], ["-o", "--", "dport = :443"]),
+    *((["-E", it], ["--events"], ["-o"]) for it in ("-l", "state established")),
 ]
 # Words with names, and with numbers in their place. A name in braces is that of a service of TCP.
 WORDS = [
@@ -118,6 +121,9 @@ WORDS = [
     ("dev 7 fwmark = 0x1/0x3 cgroup = 5", "dev 7 fwmark = 0x1/0x3 cgroup = 5"),
     ("not src one.example", "not src [192.0.2.1]"),
     ("src 1.example:22", "src [192.0.2.1]:22"),
+    *((f"dst {it}", "dst *") for it in ("any", "all", "default")), ("src any:{http}", "src *:80"),
+    ("dst 10/8 or src 193.233.7/24", "dst 10.0.0.0/8 or src 193.233.7.0/24"),
+    ("dst 127.1 or dst 10:80", "dst 127.1.0.0 or dst 10.0.0.0:80"),
     ("src = one.example:{ssh} autobound", "src = [192.0.2.1]:22 autobound"),
     ("autobound dst many.example", "autobound ( dst [192.0.2.1] or dst [2001:db8::1] )"),
     ("( ! dst == many.example:80 )",
@@ -141,22 +147,32 @@ NO_WORDS = [
     *((f"dport = :443 {it}", f"filter: unexpected word: {it.split()[0]}") for it in (
         ")", "state established", "= 5")),
     *((f"dst {it}", f"filter: {NO_ADDRESS}: {it}") for it in (
-        "::1", "10", "0x7f", "1.2.3", "a.1", "-n.example", "none.example/24")),
-    ("dst fe80::1%lo", "unknown service: 1%lo"),
+        "0x7f", "1.2.", ".", "1.2.3.4.5", "a.1", "-n.example", "none.example/24")),
+    *((f"src {it}", f"an IPv6 address has brackets, such as [::1]:80: {it}") for it in (
+        "::1", "fe80::1%lo", "::ffff:127.0.0.1")),
     ("dst != one.example", f"filter: {NO_ADDRESS}: !="),
     ("src = 1.2.3.4/33", f"filter: {NO_ADDRESS}: 1.2.3.4/33"),
     *((f"{it} :65536", "filter: no port from 0 to 65535: :65536") for it in (
         "sport", "dport =", "( dport", "sport >=")),
     ("state 7", "filter: unknown state: 7"), ("exclude up", "filter: unknown state: up"),
-    ("cgroup = /user.slice", "filter: unexpected word: /user.slice"),
+    ("cgroup = /user.slice", "filter: no id of a control group: /user.slice"),
+    ("fwmark x", "filter: no mark, such as 1 or 0x1/0x3: x"),
     ("state dst src", "unknown host: src"),
     (" ".join(129 * ["sport = 1"]), "filter: more than 256 conditions and operators: 1"),
 ]
 # Arguments that are rejected before a program starts, and the text.
+KINDS = "tcp, udp, mptcp, raw, unix, packet, netlink, vsock, xdp"
 REJECTED = [
-    *((it, "unknown kind in a list; kinds are those of sockdump, such as tcp,unix") for it in (
-        ["-A", "tcp,nope"], ["-A", ""], ["--query=tcp,"], ["-Aal"], ["-A", "inet6"],
-        ["--events="], ["--events=none"])),
+    *((it, f"unknown kind; kinds are {KINDS}, inet and all{f': {name}' * bool(name)}")
+      for it, name in (
+        (["-A", "tcp,nope,x"], "nope,x"), (["-A", ""], ""), (["--query=tcp,"], ""),
+        (["-Aal"], "al"), (["-A", "inet6"], "inet6"), (["--events="], ""),
+        (["--events=none"], "none"))),
+    *((it, f"unknown option: {option}") for it, option in (
+        (["--nope", "--help"], "--nope"), (["-K", "dport = 1", "--nope"], "--nope"),
+        (["-F", "file"], "-F"), (["-tqh"], "-q"), (["-E=tcp"], "-="), (["--every", "1"], "--every"),
+        (["--utf8=1"], "--utf8=1"), (["--"[:1] + "\x1b"], r"-\x1b"))),
+    (["-E", "--every=1"], "-E takes no --every"),
     (["--events=unix"], "-E lists TCP and UDP sockets: -t and -u"),
     *(([it], "-A, -f and -N need a value") for it in (
         "-f", "-tA", "-N", "--net", "--family", "--query", "--socket")),
@@ -174,7 +190,6 @@ REJECTED = [
     *(([it, "dev lo"], "conditions such as dport select IPv4 and IPv6 sockets: -t, -u, -M, -w")
       for it in ("-0", "-4x", "--netlink", "-Avsock,xdp")),
 ]
-SSLIST_ERROR = "sslist: unknown option --nope; try sslist --help\n"
 
 
 def capture(datagrams):
@@ -278,10 +293,10 @@ def test_usage(runs):
     """Prints the usage and the version, and starts no program."""
     runs.use(sockdump="exit 9", sslist="exit 9")
     version = (kernels.HERE.parent.parent / "VERSION").read_text()
-    for argument in ("-V", "--version"):
-        compare(argument, runs.end("-t", argument), (0, f"socklist {version}", ""))
-    for argument in ("-h", "--help"):
-        status, usage, errors = runs.end("--nope", argument, "-V")
+    for argument in ("-V", "--version", "-xV"):
+        compare(argument, runs.end("-t", argument, "--nope"), (0, f"socklist {version}", ""))
+    for argument in ("-h", "--help", "-tnh"):
+        status, usage, errors = runs.end("-K", argument, "-V")
         compare(argument, (status, usage[:16], errors), (0, "usage: socklist ", ""))
 
 
@@ -364,7 +379,7 @@ last 14/tcp
 TWO_PORTS = "-t or -u has to select one of the two ports of the service: both"
 # Options, the name of a service of SERVICES, and its port, or an error.
 PORTS = [
-    ("-t", "both", 10), ("-u", "both", 11), ("-tu", "both", TWO_PORTS), ("-x", "both", TWO_PORTS),
+    ("-t", "both", 10), ("-u", "both", 11), ("-tu", "both", TWO_PORTS),
     ("-M", "both", 10), ("-M", "only", "unknown service: only"), ("-u", "only", 12),
     ("-wn", "only", 12), ("-tu", "second", 13), ("-u", "second", "unknown service: second"),
     ("-tu", "last", 13), *(("-t", it, f"unknown service: {it}") for it in (
@@ -407,9 +422,6 @@ def test_rejections(runs):
     runs.use(sockdump="echo started >&2", sslist="echo started >&2")
     for arguments, text in REJECTED:
         compare(f"{arguments}", runs.end(*arguments), (2, "", f"socklist: {text}{TRY}"))
-    runs.record()
-    compare("--nope", runs.end("--nope"), (2, "", SSLIST_ERROR))
-    compare("-K --nope", runs.end("-K", "dport = 1", "--nope"), (2, "", SSLIST_ERROR))
     runs.use()
     status, _, errors = runs.end("--every=0")
     assert status == 2 and errors.startswith(sockdump.SECONDS), f"--every=0: {status} {errors}"
@@ -625,6 +637,8 @@ def test_summary(runs):
     compare("--summary", runs.end("--summary", "-noiemp"), (0, SUMMARY, ""))
     for arguments, total in (("-sl", "Total: 10"), ("-s4", "Total: 14")):
         compare(arguments, runs.end(arguments)[1].split("\n")[0], total)
+    rows = [it.split()[0] for it in runs.end("-sutx")[1].splitlines()[4:]]
+    compare("-sutx", rows, ["UDP", "TCP", "INET", "UNIX"])
 
 
 # Names of processes: the bytes, what the table shows, and the member of JSON.
@@ -916,10 +930,11 @@ def test_hostile(runs):
         for most in range(4, 14):
             found = runs.end(*arguments, env=environment, preexec_fn=with_descriptors(most))
             assert found == expected or found[0] != 0 and found[2], f"{arguments} {most}: {found}"
+    expected = runs.end(env=environment)
+    assert expected[::2] == (0, "") and expected[1], expected
     for closed in range(3):
-        error = "" if closed == 2 else f"socklist: {kernels.NOT_OPEN}\n"
         compare(f"without {closed}", runs.end(env=environment, preexec_fn=kernels.without(closed)),
-                (1, "", error))
+                expected if closed != 1 else (1, "", "socklist: standard output is not open\n"))
     for arguments in ([], ["--help"], ["--version"], ["--every=1"], ["-ap", "--json"], ["-s"],
                       ["-p", words]):
         with open("/dev/full", "wb") as full:
