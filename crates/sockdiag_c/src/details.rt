@@ -158,7 +158,8 @@ pub(crate) fn strict_details<'a, T: ReplyDetails<'a>>(payload: &'a [u8]) -> Resu
     ensures error { IfErr result (IsFirstError T.family payload.entry.now) }
 {
     let (mut details, attributes) = T::parse_header(payload)?;
-    let errors = set_values(attributes, &mut details);
+    let mut errors = Errors::default();
+    set_values(attributes, &mut details, &mut errors);
     match errors.first {
         Some(error) => Err(error),
         None => Ok(details),
@@ -186,7 +187,9 @@ pub(crate) fn store_lenient_details<'a, T: ReplyDetails<'a>>(
     };
     // The struct of the caller is filled in place: it is not copied.
     *details = found;
-    *rejections = set_values(attributes, details).rejections;
+    let mut errors = Errors::default();
+    set_values(attributes, details, &mut errors);
+    *rejections = errors.rejections;
     copy_padded(&[], later);
     OK
 }
@@ -208,7 +211,7 @@ fn clear_later(code: u32, later: &mut [u8]) -> u32
 // Reads each attribute up to a framing error. Sets the fields of the valid ones, unless they are
 // set already, and returns the errors of the others. The details have to be without values before
 // the call, as `parse_header` returns them.
-fn set_values<'a, T: ReplyDetails<'a>>(bytes: &'a [u8], details: &mut T) -> Errors
+fn set_values<'a, T: ReplyDetails<'a>>(bytes: &'a [u8], details: &mut T, errors: &mut Errors)
     // If the details have no values (`[]`) before the call: `parts` are the header that they have,
     // and the attributes and the framing error of the bytes. After the call the details have the
     // values of these attributes, and the errors have their codes and the first one.
@@ -217,10 +220,10 @@ fn set_values<'a, T: ReplyDetails<'a>>(bytes: &'a [u8], details: &mut T) -> Erro
         × SplitsWithError parts.attributes parts.framing_error bytes.entry.now
         × (parts.header ≡ T.family.header details.old)
         × HasHeaderAndValuesOf T.family details.new parts
-        × HasRejections T.family result.rejections parts
-        × (result.first ≡ first_error T.family parts) }
+        × HasRejections T.family errors.new.rejections parts
+        × (errors.new.first ≡ first_error T.family parts) }
 {
-    let mut errors = Errors::default();
+    *errors = Errors::default();
     for item in NlasIterator::new(bytes) {
         match item {
             Ok(nla) => match T::read(&nla) {
@@ -230,9 +233,8 @@ fn set_values<'a, T: ReplyDetails<'a>>(bytes: &'a [u8], details: &mut T) -> Erro
             Err(error) => {
                 errors.rejections.framing = u32::from(error.number());
                 errors.add(error);
-                return errors;
+                return;
             }
         }
     }
-    errors
 }

@@ -12,7 +12,7 @@ use Rattle.sockdiag_c.proofs.Rows.{until_framing_error, values_after, values_unc
 use Rattle.sockdiag_c.proofs.details.set_values.Goals as goal
 
 pub loop-item-init : goal.loop-item-init
-loop-item-init g c = let none = c.default-errors.ensures in record {
+loop-item-init g c = let none = c.default.ensures in record {
   so_far = [];
   walk = no_attributes_yet _ _
       (rw (c.into_iter-item-iterator.ensures.into_iter_gives, c.new-item-items.ensures) refl);
