@@ -173,6 +173,8 @@ exported "$prefix" | sed 's/@@.*//' | diff "$work/calls" - ||
     fail "tools/libsockdiag.map differs from the header: add new functions in a new entry"
 [ "$(exported "$prefix" | sed 's/.*@@//' | sort -u)" = SOCKDIAG_1.0 ] ||
     fail "the versions of the functions"
+grep -qF "| soname | \`$(readlink "$prefix/lib/libsockdiag.so")\` " docs/STABILITY.md ||
+    fail "docs/STABILITY.md has another soname"
 
 # A program that is linked with this version starts with the next MINOR, whose soname is the same. A
 # program that needs a function of that version does not start with this one.

@@ -3,8 +3,9 @@
 # made here. Needs no kit, and takes one or two minutes.
 #
 # - tests/release.txt lists the members of the archive in order, with modes, owners and times, and
-#   the files that tools/install and the Debian packages install. The sources of the package for
-#   Rust, which cargo compiles here, are one line. --write writes a new list.
+#   the files that tools/install and the Debian packages install, and what these depend on. The
+#   sources of the package for Rust, which cargo compiles here, are one line. --write writes a new
+#   list.
 # - Two copies at different paths, with other times and modes, are packed to the same bytes, also
 #   with another umask and locale, and variables that gzip and tar read. A link at the path of the
 #   archive is replaced. CDPATH has no effect.
@@ -155,6 +156,7 @@ fi
     # The files of the package for Rust, which the archive has too, are compared below.
     for package in $(find packages -name '*.deb' | LC_ALL=C sort); do
         echo "== ${package##*/}"
+        dpkg-deb -f "$package" Section Multi-Arch Depends | sed 's/libc6 ([^)]*)/libc6/'
         dpkg-deb -c "$package" | awk '!/^d|sockdiag\/rust\/./ { print $1, $6, $8 }' |
             LC_ALL=C sort -k 2
     done
@@ -165,6 +167,9 @@ diff expected list || fail "run it with --write if the difference is intended"
 python3 "$top/tests/tidy.py" --links "$unpacked" || fail "the archive for users has broken links"
 for page in "$unpacked"/docs/*.md; do
     grep -q "(docs/$(basename "$page")" "$unpacked/INSTALL.md" || fail "INSTALL.md lacks $page"
+done
+for file in $(sed -n 's/^Files: \(.*[^*]\)$/\1/p' "$top/debian/copyright"); do
+    [ -e "$unpacked/$file" ] || fail "debian/copyright: $file is not in the archive"
 done
 cd "$unpacked"
 ${CC:-cc} -Iinclude -o "$work/static" examples/list_sockets.c lib/libsockdiag.a
@@ -217,6 +222,8 @@ if [ -n "$debs" ] && [ "$(id -u)" -eq 0 ]; then
     for program in sockdump socklist; do
         [ "$(root/usr/bin/$program --version)" = "$program $version" ] ||
             fail "$program of a package"
+        nm -D "root/usr/bin/$program" | grep -q __fprintf_chk ||
+            fail "$program of a package is compiled without the flags of dpkg-buildflags"
     done
     ${CC:-cc} -Iroot/usr/include -o linked root/usr/share/doc/libsockdiag-dev/examples/list_rtt.c \
         root/usr/lib/*/libsockdiag.so
@@ -252,9 +259,12 @@ chmod +x bin/rt
 git -C one init -q
 touch one/out/gate-passed
 
-# A C compiler that needs flags at both ends, by default only -O2, for the programs in C.
-printf '#!/bin/sh\ncase "$* " in "${CFLAGS--O2} "*" ${LDFLAGS-}"*) exec %s "$@" ;; esac\nexit 1\n' \
-    "${CC:-cc}" >bin/cc_flags
+# A C compiler that needs flags at both ends, by default only -O2, for static programs in C.
+cat >bin/cc_flags <<END
+#!/bin/sh
+case "\$* " in "\${CFLAGS--O2} -static "*" \${LDFLAGS-}"*) exec ${CC:-cc} "\$@" ;; esac
+exit 1
+END
 chmod +x bin/cc_flags
 # release LOGIC EDITS ARGUMENT..: runs tools/release, with a kit of this logic, and with an edits.py
 # that has the exit status EDITS.

@@ -1,5 +1,6 @@
 #!/usr/bin/env python3
-"""Compares what is public in the libraries of crates.txt with the list tests/surface.txt.
+"""Compares what is public in the libraries of crates.txt, and what the package for Rust adds to them
+by hand (`package`), with the list tests/surface.txt.
 
     tests/surface.py             prints the differences, and exits with status 1 if there are any
     tests/surface.py --write     writes the list
@@ -28,15 +29,18 @@ import believed
 
 TOP = Path(__file__).resolve().parent.parent
 LIST = TOP / "tests/surface.txt"
+# The files of tools/erased/src with what the package for Rust adds to the libraries.
+BY_HAND = ("*.rs", "kernel/*.rs", "kit/memory.rs", "kit/smallvec.rs")
 # The first line of an item after its attributes: its visibility, its kind and its name.
 ITEM = re.compile(
     r"(pub(?:\(\w+\))? )?(?:(?:unsafe|const(?= (?:unsafe )?(?:extern )?fn\b)|extern \"C\") )*"
-    r"(mod|use|fn|struct|enum|union|trait|type|const|static|impl|ghost use|ghost|[\w:]+!)\s*(\w*)"
+    r"(mod|use|fn|struct|enum|union|trait|type|const|static|impl|ghost use|ghost|extern \"C\""
+    r"|extern|[\w:]+!)\s*(\w*)"
 )
-ATTRIBUTE = re.compile(r"\s*#!?\[[^\n]*?\]\s*?(?=\n|$)|\s*#!?\[.*?\)\]", re.S)
+ATTRIBUTE = re.compile(r"\s*#!?\[[^\n]*?\]\s*?(?=\n|$)|\s*#!?\[.*?\)\]|\s*//[^\n]*", re.S)
 # Attributes that concern a user.
 USED = re.compile(r"#\[(?:derive|repr|unsafe|must_use|non_exhaustive|error|cfg)\b.*?\]", re.S)
-GENERICS = re.compile(r"<(?:[^<>]|<[^<>]*>)*>")
+GENERICS = re.compile(r"<(?:->|[^<>]|<[^<>]*>)*>")
 CLAUSE = re.compile(r"\s(ghost|requires|ensures)\*?(?: (\w+))?(?::| =|) \{")
 EXPORTED = "#[unsafe(no_mangle)]"
 
@@ -123,14 +127,13 @@ def module_of(path):
 
 
 class Crate:
-    """The files of a crate: the path of each, and its items."""
+    """The files of a crate, in a folder `src`: the path of each, and its items."""
 
-    def __init__(self, name):
-        paths = sorted((TOP / "crates" / name / "src").rglob("*.rt"))
+    def __init__(self, name, paths):
         self.name, self.files = name, []
         specs = (TOP / "crates").glob("*/specs/**/*.antt")
         self.cited = {word for it in specs for word in re.findall(r"\w+", it.read_text("utf-8"))}
-        for path in paths:
+        for path in sorted(paths):
             text = path.read_text("utf-8")
             module = module_of(path.relative_to(TOP))
             full = "::".join(filter(None, (name, module)))
@@ -190,8 +193,9 @@ def shown(item):
     if item.kind not in ("struct", "union"):
         return one_line(re.sub(r"(?m)^\s*ghost .*$", "", item.text)).rstrip(";")
     if item.start == len(item.text):
-        fields = re.sub(r"(?<=[(,])(?! ?pub)[^,)]+", "private", item.text)
-        return one_line(fields).rstrip(";")
+        name, bracket, fields = item.text.partition("(")
+        fields = re.sub(r"(?<=[(,])(?! ?pub)[^,)]+", "private", bracket + fields)
+        return one_line(name + fields).rstrip(";")
     lines = [it for it in item.text[item.start:].splitlines() if it.startswith("    pub ")]
     hidden = re.search(r"(?m)^    (?!pub |ghost |//|requires|ensures|#)\w+: ", item.text)
     return one_line("\n".join([item.text[: item.start], *lines, "}"])) + "; private" * bool(hidden)
@@ -209,7 +213,9 @@ def main():
     if sys.argv[1:] not in ([], ["--write"]):
         print("usage: tests/surface.py [--write]", file=sys.stderr)
         return 2
-    lines = [line for it in libraries() for line in Crate(it).lines()]
+    crates = {it: (TOP / "crates" / it / "src").rglob("*.rt") for it in libraries()}
+    crates["package"] = [path for it in BY_HAND for path in (TOP / "tools/erased/src").glob(it)]
+    lines = [line for name, paths in crates.items() for line in Crate(name, paths).lines()]
     lines = sorted({*lines, *definition_lines()})
     if sys.argv[1:]:
         LIST.write_text("\n".join(lines) + "\n", "utf-8")

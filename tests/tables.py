@@ -6,10 +6,13 @@ the program at this path. Without it the members of JSON are not compared.
 - include/sockdiag.h: the calls and structs that its comments name, and the functions of laws.rt
   that the first one names, exist.
 - man/sslist.1, man/sockdiag.1, man/sockdump.1 and man/socklist.1: each diagnostic is in the
-  sources. Of the first two, tools/usage writes --help from the options.
+  sources. Of the first two, tools/usage writes --help from the options; those of the other two are
+  in --help and in the sources.
 - man/sslist-json.5: the members of each list are those that the program prints for replies with
   each attribute; those of `info` are in the same order.
 - docs/LINES.md: the names and the decode errors.
+- docs/pictures: the bytes of a reply and its canonical form are a stored line of `sockdiag` and its
+  answer, numbers and addresses are those of their bytes, and bars those of docs/SPEED.md.
 - INSTALL.md: the files of a release, and the installed files.
 - LICENSES.md: the kit's crates that crates.txt allows, and those whose names are in the symbols of
   a built program; and the copyright notices in the kit's licence files (skipped without a kit).
@@ -218,6 +221,26 @@ def diagnostic_errors(program):
             yield page, f"no source has the text {item}"
 
 
+def option_errors(program):
+    """Compares the options in the manual page of a program in C with its usage and its source. It
+    passes those of sslist on."""
+    page = (TOP / f"man/{program}.1").read_text("utf-8")
+    files = TOP.glob(f"examples/{program}*.[ch]")
+    source = "".join(it.read_text("utf-8") for it in files)
+    usage = re.search(r'(?s) usage\[\] =(.*?)";\n', source)[1]
+    shown = {*re.findall(r"(?<![\w-])--?\w+", usage)}
+    known = {it.partition("=")[0] for it in options("sslist")}
+    read = {f"--{it}" for it in re.findall(r'"(?:--)?(\w+)=?"', source)} | known
+    for row in re.findall(r"(?m)^\.It Fl (.*)$", page):
+        names = {f"-{it}" for it in re.findall(r"(?:^|, (?:Fl )?)(-?\w+)", row)}
+        known |= names
+        if not names & shown:
+            yield f"man/{program}.1", f"the usage lacks {row}"
+        yield from ((f"man/{program}.1", f"no source has the option {it}") for it in names - read
+                    if it[1] == "-")
+    yield from ((f"man/{program}.1", f"the option {it} is missing") for it in shown - known)
+
+
 def line_errors():
     page = "docs/LINES.md"
     usage = (TOP / "tests/help/sockdiag").read_text(encoding="utf-8")
@@ -235,6 +258,33 @@ def line_errors():
     shown = rows(section(page, "Decode errors"), "code ")[2:]
     found = [(row[0], spans(row[1])[0], spans(row[2])) for row in shown]
     yield from differences(page, found, expected)
+
+
+def picture_errors():
+    """Compares the pictures with the stored lines of `sockdiag`, and with the tables of SPEED.md."""
+    stored = [(TOP / f"crates/sockdiag/{it}").read_text("utf-8") for it in ("stdin", "stdout")]
+    answers = dict(zip(*(it.splitlines() for it in stored)))
+    pictures = {it.stem: it.read_text("utf-8") for it in TOP.glob("docs/pictures/*.svg")}
+    shown = re.findall(r"echo '(.*)' \| \./sockdiag(?:</text>)?\n(?:<text.*>)?(\w+ \w+)",
+                       pictures["first-run"]) or [("", "first-run.svg")]
+    for name, kind in ("unix-reply", "unix"), ("tcp-reply", "inet"):
+        fields = re.findall(r'middle ink strong"[^>]*>(.*)</text>\n<.*>.*</text>'
+                            r'(?:\n<.* dim"[^>]*>([\d.]+)\b)?', pictures[name])
+        line, answer = ("".join(it.split(" → ")[at] for it, _ in fields) for at in (0, -1))
+        shown.append((f"{kind} {line.replace(' ', '')}", f"ok {answer.replace(' ', '')}"))
+        for digits, value in fields:
+            read = bytes.fromhex(digits.split("→")[-1])
+            numbers = [str(int.from_bytes(read, order)) for order in ("little", "big")]
+            if value and value not in (*numbers, ".".join(map(str, read))):
+                yield f"docs/pictures/{name}.svg", f"the bytes {digits} are not {value}"
+    yield from (("docs/pictures", f"not a stored line and its answer: {line}, {answer}")
+                for line, answer in shown if answers.get(line) != answer)
+    tables = rows((TOP / "docs/SPEED.md").read_text("utf-8").replace("`", ""))
+    lines = {", ".join(row[:length]) for row in tables for length in (2, 3)}
+    bar = r'end">(.*)</text>\n<rect.* width="(.*?)".*\n.*\n<text.*>(.*)</text>'
+    for label, width, ratio in re.findall(bar, pictures["speed"]) or [("no bars", "0", "0")]:
+        if f"{label}, {ratio}" not in lines or abs(float(width) / 198 - float(ratio[:4])) > 0.01:
+            yield "docs/pictures/speed.svg", f"docs/SPEED.md lacks {label}, {ratio}, width {width}"
 
 
 def file_errors():
@@ -314,9 +364,11 @@ def warnings():
 
 def main():
     wrong = [*library_errors(), *comment_errors(), *licence_errors(), *line_errors(),
-             *file_errors(), *warnings()]
+             *picture_errors(), *file_errors(), *warnings()]
     for program in ("sslist", "sockdiag", "sockdump", "socklist"):
         wrong += diagnostic_errors(program)
+    for program in ("sockdump", "socklist"):
+        wrong += option_errors(program)
     for sslist in sys.argv[1:]:
         wrong += [*json_errors(sslist), *linked_errors(sslist)]
     print(*(f"{page}: {text}" for page, text in wrong), sep="\n", end="\n" * bool(wrong))

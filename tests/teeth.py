@@ -73,6 +73,7 @@ esac
 case $1 in --version) echo 'rustc 1.95.0' ;; *) echo "${0%/*}" ;; esac
 """,
     "objdump": """#!/bin/sh
+[ "$FAILS" = overflow ] || echo 'call <add_overflow>'
 [ "$FAILS" != panics ] || yes 'call <panic>' | head -n 1000
 """,
     "lib/rustlib/src/rust/library/vendor/empty": "",
@@ -227,14 +228,17 @@ ROWS = [
         "tests/planted.py:1: more than 20 lines as at tests/planted.sh:2",
         "tests/planted.sh:23: cd without CDPATH=''",
         "include/sockdiag.h: 9", "man/sslist.1: .Dd 9", "debian/changelog: 9", "the date Sat, ",
-        "debian/copyright: not the text of LICENSE-MIT",
+        "debian/copyright: not the text of LICENSE-MIT", "tests/appended.sh: not executable",
+        "debian/control: 91.",
     ), (
-        EDIT[1], ("docs/PLANTED.md", None, "[a](nowhere.md) `tests/nowhere.py`\n"),
+        EDIT[1], ("tests/appended.sh", "", "#!/bin/sh\n"),
+        ("docs/PLANTED.md", None, "[a](nowhere.md) `tests/nowhere.py`\n"),
         ("tests/planted.py", None, LINES + 101 * "x"),
         ("tests/planted.sh", None, f'#!/bin/sh\n{LINES}cd -- "$(dirname -- "$0")"\n'),
         ("include/sockdiag.h", '#define SOCKDIAG_VERSION "', '#define SOCKDIAG_VERSION "9'),
         ("man/sslist.1", ".Dd ", ".Dd 9"),
         ("debian/changelog", "sockdiag (", "sockdiag (9"),
+        ("debian/control", "rustc (>= ", "rustc (>= 9"),
         ("debian/changelog", ">  ", ">  Sat, "),
         ("LICENSE-MIT", "Permission ", "Permission planted "),
     )),
@@ -252,8 +256,16 @@ ROWS = [
         "sockdiag_nowhere is not both declared and named", "has the text sockdiag: out of planted",
         "LICENSES.md: planted is missing", "docs/LINES.md: planted is missing",
         "INSTALL.md: planted is missing", "man/sslist-json.5: unexpected ",
-        "planted, which is linked into", "groff: planted::it",
+        "planted, which is linked into", "groff: planted::it", "the option --planted is missing",
+        "man/socklist.1: no source has the option --yesplanted",
+        "tcp-reply.svg: the bytes a8 da 29 00 are not 42", "a stored line and its answer: inet 020102",
+        "speed.svg: docs/SPEED.md lacks checked and traversed, the worst reply, 9.87, width 370.26",
     ), (
+        ("examples/sockdump.c", '"usage: sockdump ', '"usage: sockdump --planted '),
+        ("man/socklist.1", ".It Fl -yes", ".It Fl -yesplanted"),
+        ("docs/pictures/tcp-reply.svg", ">2742952<", ">42<"),
+        ("docs/pictures/tcp-reply.svg", ">c0 a8 b2 3c<", ">c0 a8 b2 3d<"),
+        ("docs/pictures/speed.svg", ">1.87<", ">9.87<"),
         ("include/sockdiag.h", "", "int sockdiag_planted(void);\n/* sockdiag_nowhere */\n"),
         ("man/sockdiag.3", ".It 2 Dv SOCKDIAG_", ".It 99 Dv SOCKDIAG_"),
         ("man/sockdiag.1", ".It sockdiag: out of ", ".It sockdiag: out of planted"),
@@ -264,7 +276,9 @@ ROWS = [
     Row("python3 tests/surface.py", (
         "+netlink_core::planted: pub fn planted() -> u8; ensures planted; ",
         "+netlink_core.specs.Bytes: IsBytes; ", "the list is out of date",
+        "+package::errors::planted: pub fn planted()",
     ), (
+        ("tools/erased/src/errors.rs", "", "\npub fn planted() {}\n"),
         ("crates/netlink_core/src/lib.rt", "",
          "\npub fn planted() -> u8\n    ensures planted { result ≡ 1 }\n{\n    1\n}\n"),
         ("crates/netlink_core/specs/Bytes.antt", " index < 256", " index < 257"),
@@ -375,7 +389,8 @@ ROWS = [
                  "c_api.sh", "compare_libraries.py *")),
     *(Row(ERASED, (reported,), ERASER, fails, "ar")
       for reported, fails in (("sockdiag/stdin differ", "sockdiag"), ("libsockdiag_c.so", "other"),
-                              ("panics at 1000 places", "panics"))),
+                              ("panics at 1000 places", "panics"),
+                              ("overflow is not checked", "overflow"))),
     *(Row(TARGETS, (f"planted: {it.split('*')[0]}", f"{TARGETS}: failed"), (*ERASER, COMPARED), it,
           "ar")
       for it in ("c_api", "c_values", "c_messages", "fuzz_c 20000 *", "print_replies",
@@ -418,7 +433,7 @@ def plant(top, planted, old_bytes):
         path.parent.mkdir(parents=True, exist_ok=True)
         changed = new if old is None else text.replace(old, new) if old else text + new
         path.write_text(changed, "utf-8")
-        if new.startswith("#!"):
+        if old is None and new.startswith("#!"):
             path.chmod(0o755)
 
 

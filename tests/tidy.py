@@ -5,6 +5,7 @@
     tests/tidy.py --links FOLDER   only the links of the pages in FOLDER, an unpacked release
 """
 
+import os
 import re
 import subprocess
 import sys
@@ -42,6 +43,16 @@ VERSIONS = {
     "include/sockdiag.h": r'(?m)^#define SOCKDIAG_VERSION "([^"]*)"$',
     "tools/erased/Cargo.toml": r'(?m)^version = "([^"]*)"$',
     "tools/erased/c/Cargo.toml": r'(?m)^version = "([^"]*)"$',
+}
+
+# The same for the oldest version of Rust that compiles the package.
+RUST = r'(?m)^rust-version = "([^"]*)"$'
+RUST_VERSIONS = {
+    "tools/erased/Cargo.toml": RUST,
+    "tools/erased/c/Cargo.toml": RUST,
+    "debian/control": r"\brustc \(>= ([^)]*)\)",
+    "docs/ERASED.md": r"(?m)^\| Rust \| Version (\S+) or later",
+    "INSTALL.md": r"\brustc (\S+) or newer",
 }
 
 
@@ -93,6 +104,13 @@ def misled_scripts(files):
                     yield f"{name}:{number}: cd without CDPATH=''"
 
 
+def unstartable(files):
+    """Yields the scripts that are not executable."""
+    for name, text in files.items():
+        if text.startswith("#!/") and not os.access(TOP / name, os.X_OK):
+            yield f"{name}: not executable"
+
+
 def anchors(page):
     """Returns the anchors of the page's headings: lower case, hyphens for spaces, without
     punctuation."""
@@ -127,12 +145,14 @@ def broken_links(top, files):
 
 
 def wrong_versions(files):
-    """Yields the files that have another version than VERSION."""
+    """Yields the files that have another version than VERSION, or another one of Rust."""
     version = (TOP / "VERSION").read_text(encoding="utf-8").strip()
-    for name, pattern in VERSIONS.items():
-        found = re.search(pattern, files[name])
-        if not found or found[1] != version:
-            yield f"{name}: {found[1] if found else 'no version'}, expected {version}"
+    rust = re.search(RUST, files["tools/erased/Cargo.toml"])
+    for patterns, expected in (VERSIONS, version), (RUST_VERSIONS, rust and rust[1]):
+        for name, pattern in patterns.items():
+            found = re.search(pattern, files[name])
+            if not found or found[1] != expected:
+                yield f"{name}: {found[1] if found else 'no version'}, expected {expected}"
 
 
 def wrong_dates(files):
@@ -218,8 +238,8 @@ def main():
     else:
         files = text_files()
         wrong = [*repeated_code(files), *wide_lines(files), *misled_scripts(files),
-                 *broken_links(TOP, files), *wrong_versions(files), *wrong_dates(files),
-                 *wrong_licences(files), *unusable_edits(files)]
+                 *unstartable(files), *broken_links(TOP, files), *wrong_versions(files),
+                 *wrong_dates(files), *wrong_licences(files), *unusable_edits(files)]
     print(*wrong, f"tests/tidy.py: {len(wrong)} errors", sep="\n")
     return 1 if wrong else 0
 

@@ -179,6 +179,7 @@ static void reads_a_part_of_a_field(void) {
     check(SOCKDIAG_HAS(length, tcp, delivery_rate_app_limited) && !SOCKDIAG_HAS(length, tcp, rto) &&
           !SOCKDIAG_HAS(length, tcp, ato) && SOCKDIAG_HAS(length, mptcp, add_addr_accepted_max) &&
           !SOCKDIAG_HAS(length, mptcp, flags), "whether a value of 10 bytes has a field");
+    check(SOCKDIAG_HAS(12, tcp, rto) && !SOCKDIAG_HAS(11, tcp, rto), "whether a field is whole");
 }
 
 /* Values of several lengths, each with structs of several sizes: of an older header, of this one,

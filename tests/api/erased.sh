@@ -82,10 +82,11 @@ cmp "$built/libsockdiag_c.so" "$work/other/target/release/libsockdiag_c.so"
 
 # The places where a broken precondition of a function would end the process. With this version of
 # Rust there must not be more.
-panics=$(objdump -d --no-show-raw-insn "$built/libsockdiag_c.so" |
-    grep -cE 'call.*(panic|_fail)') || :
+objdump -d --no-show-raw-insn "$built/libsockdiag_c.so" >"$work/code"
+panics=$(grep -cE 'call.*(panic|_fail)' "$work/code") || :
 echo "erased: the C library calls a function that panics at $panics places"
 case $(rustc --version) in 'rustc 1.95.'*) [ "$panics" -le 113 ] || exit 1 ;; esac
+grep -q 'call.*overflow' "$work/code" || { echo "erased: overflow is not checked" >&2; exit 1; }
 
 # Cargo adds objects of Rust's own library, of which the one of the library needs nothing.
 mkdir "$work/object" "$work/library"
