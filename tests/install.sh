@@ -70,6 +70,7 @@ for character in '"' '#' '$' '(' ')' ':' "\\" '`' '
 done
 fails 1 "a compiler that fails" env CC=false "$install" "$work/none"
 fails 1 "no compiler" env CC="$work/none/cc" "$install" "$work/none"
+grep -q 'SHARED=no' "$work/out" || fail "no compiler: $(cat "$work/out")"
 for signal in INT TERM HUP; do
     # shellcheck disable=SC2016
     printf '#!/bin/sh\nkill -%s $PPID\n' "$signal" >"$work/killer"
@@ -270,6 +271,7 @@ for source in lib.rt specs/Sockets.antt; do
     touch -d '1 hour' "$tree/crates/sslist/$source"
     fails 1 "without rt" env PATH=/usr/bin:/bin "$install" "$work/none"
     grep -q 'rt not found' "$work/out" || fail "without rt: $(cat "$work/out")"
+    fails 1 "an old library in BUILT" env BUILT="$work/cargo" "$install" "$work/none"
     PATH="$work/commands:$PATH" "$install" "$work/again" >"$work/out" 2>&1 ||
         fail "an old library: $(cat "$work/out")"
     [ ! -e "$work/again/bin/sslist" ] || fail "an old program is installed"

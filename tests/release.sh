@@ -135,6 +135,9 @@ chmod +x no_cargo/cargo
 cp "$top/tests/release.txt" expected
 if has dh; then
     cp -R "$unpacked" packages
+    # What a user built in the folder of the release before.
+    mkdir "packages/$users/rust/target"
+    touch "packages/$users/rust/target/built" "packages/$users/examples/list_rtt"
     (cd "packages/$users" && unset SOURCE_DATE_EPOCH && PATH=$work/no_cargo:$PATH \
         DEB_BUILD_OPTIONS='nocheck noautodbgsym' dpkg-buildpackage -b -d -us -uc) >said 2>&1 ||
         fail "dpkg-buildpackage: $(cat said)"
