@@ -211,7 +211,7 @@ GATE = "PATH=$STAND_INS/gate:$PATH .ci/run"
 STUBS = tuple((it, None, PASSED) for it in (
     "tools/bindings", "tools/build", "tools/usage", *(it for it in SCRIPTS if it[-3:] == ".sh")))
 CALLS = ("python3 tests/pages.py out/static/sockdiag", "python3 tests/tables.py out/static/sslist",
-         "python3 tests/answers/answers.py check", "build rattle arm64 wasm",
+         "python3 tests/answers/answers.py check", "build rattle arm64 wasm lister",
          "build sockdiag sslist",
          "bindings --check", "usage --check",
          *(f"python3 {it}" if it.endswith(".py") else Path(it).name
@@ -402,7 +402,8 @@ ROWS = [
     *(Row(TARGETS, (f"{it}/stdout differ",), (*ERASER, COMPARED), it, "ar")
       for it in ("sockdiag", "sslist")),
     Row(BUILDS, (f"{BUILDS}: failed",), (("out/static/sockdiag", None, PROGRAM),), ""),
-    Row("python3 tests/page.py VERSION $STAND_INS/sockdiag", ("10 replies, 10 wrong",), (), ""),
+    Row("python3 tests/page.py VERSION $STAND_INS/sockdiag VERSION $STAND_INS/sslist",
+        ("10 replies, 10 wrong", "3 lists, 3 wrong"), (), ""),
     Row("tests/answers/answers.py check $STAND_INS/sockdiag $STAND_INS/sslist",
         ("the corpus has {'reply': '",), (), ""),
     Row("sh libraries.sh tests/api/compare_libraries.py",

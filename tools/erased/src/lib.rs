@@ -88,7 +88,8 @@ extern crate alloc;
 #[cfg(feature = "std")]
 extern crate std;
 
-#[cfg(not(target_pointer_width = "64"))]
+// WASI has 32 bits. There only the program `sslist` is compiled, for a page for browsers.
+#[cfg(not(any(target_pointer_width = "64", target_os = "wasi")))]
 compile_error!("the contracts are about a `usize` of 64 bits: with another one they say nothing");
 
 #[cfg(not(target_endian = "little"))]

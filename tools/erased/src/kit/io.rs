@@ -4,6 +4,7 @@ use crate::kit::host::HostRuntime;
 use crate::kit::memory::AllocError;
 use crate::kit::prelude::{TryVec, Vec};
 use core::fmt;
+#[cfg(not(target_os = "wasi"))]
 use std::os::fd::AsFd;
 
 pub type Result<T> = core::result::Result<T, Error>;
@@ -128,9 +129,19 @@ impl File {
         Ok(File(Ok(std::fs::File::open(name)?)))
     }
 
+    #[cfg(not(target_os = "wasi"))]
     pub fn of_stream(stream: impl AsFd) -> Self {
         let owned = stream.as_fd().try_clone_to_owned();
         File(owned.map(std::fs::File::from).map_err(Error::from))
+    }
+
+    /// Opens a stream by its name, which the page for browsers has: WASI duplicates no descriptor.
+    #[cfg(target_os = "wasi")]
+    pub fn of_stream(stream: impl std::os::fd::AsRawFd) -> Self {
+        let number = stream.as_raw_fd() as usize;
+        let name = ["/dev/stdin", "/dev/stdout", "/dev/stderr"][number];
+        let opened = std::fs::File::options().read(number == 0).write(number != 0).open(name);
+        File(opened.map_err(Error::from))
     }
 
     fn file(&mut self) -> Result<&mut std::fs::File> {

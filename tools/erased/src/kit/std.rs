@@ -66,7 +66,6 @@ pub mod fs {
 #[cfg(feature = "std")]
 pub mod rt {
     use crate::kit::host::HostRuntime;
-    use std::os::unix::ffi::OsStrExt;
 
     /// The arguments of the process, as bytes.
     pub trait Env {
@@ -78,7 +77,7 @@ pub mod rt {
     impl Env for HostRuntime {
         fn arg(&self, index: usize, bytes: &mut [u8]) -> Result<usize, ()> {
             let argument = std::env::args_os().nth(index).ok_or(())?;
-            let argument = argument.as_bytes();
+            let argument = argument.as_encoded_bytes();
             bytes.get_mut(..argument.len()).ok_or(())?.copy_from_slice(argument);
             Ok(argument.len())
         }
