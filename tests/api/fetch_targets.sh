@@ -65,10 +65,12 @@ cp -t "$library/self-contained" "$root/usr/lib/wasm32-wasi/crt1-command.o" \
     "$root/usr/lib/wasm32-wasi/libc.a"
 printf '[package]\nname = "empty"\n' >"$empty/Cargo.toml"
 : >"$empty/src/lib.rs"
-# -Z is for nightly versions otherwise. Programs are optimized together with the library.
+# -Z is for nightly versions otherwise. Programs are optimized together with the library, and do not
+# contain the name of the folder.
 (cd "$empty" && PATH=$root/bin:$PATH RUSTC=$root/bin/rustc RUSTC_BOOTSTRAP=1 \
-    RUSTFLAGS='-C embed-bitcode' CARGO_TARGET_DIR=$empty/target cargo build --quiet --release \
-    --offline --target "$target" -Z build-std=std,panic_abort -Z build-std-features= \
+    CARGO_ENCODED_RUSTFLAGS=$(printf -- '-Cembed-bitcode\037--remap-path-prefix=%s=library' \
+        "$sources") CARGO_TARGET_DIR=$empty/target cargo build --quiet --release --offline \
+    --target "$target" -Z build-std=std,panic_abort -Z build-std-features= \
     --config 'source.crates-io.replace-with="vendored"' \
     --config "source.vendored.directory=\"$(CDPATH='' cd -- "$sources/vendor" && pwd -P)\"")
 rm "$empty/target/$target/release/deps/libempty"*
