@@ -132,9 +132,8 @@ static int close_listed(const struct arguments *recorder, const struct arguments
 static int list_sockets(const struct options *options) {
     const struct arguments lister = lister_arguments(options, NULL);
     const struct arguments objects = lister_arguments(options, "--json");
-    struct listing listing;
+    static struct listing listing;
     int status = EXIT_FAILURE;
-    memset(&listing, 0, sizeof listing);
     listing.options = options;
     listing.names.is_numeric = options->is_numeric;
     listing.names.has_hosts = options->has_hosts;
@@ -155,11 +154,7 @@ static int list_sockets(const struct options *options) {
 int main(int argc, char **argv) {
     static struct options options;
     int status;
-    /* At most two arguments for each one and for each kind, a few options, and the end. */
-    options.space = 2 * ((size_t)argc + KINDS) + 16;
-    options.recorder = make_arguments("sockdump", options.space);
-    options.lister = make_arguments("sslist", options.space);
-    options.lister.count = 0;
+    options.recorder = make_arguments("sockdump");
     if (read_arguments(&options, argc, argv) != 0)
         return USAGE_ERROR;
     if (options.printed != '\0')

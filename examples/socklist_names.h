@@ -9,6 +9,7 @@
 #include "socklist_programs.h"
 
 #include <limits.h>
+#include <linux/if_ether.h>
 #include <net/if.h>
 
 /* What the column Netid of IPv4 and IPv6 sockets has. Services have none of the last two. */
@@ -124,7 +125,7 @@ static const char *find_service(const struct names *names, size_t protocol, unsi
 static int get_host(const char *database, const char *key, int (*take)(void *, const char *),
                     void *context) {
     const char *items[] = {"getent", database, key, NULL};
-    const struct arguments getent = {items, 3};
+    const struct arguments getent = {items, 3, 0};
     const int input = fcntl(STDIN_FILENO, F_DUPFD_CLOEXEC, 0);
     int status;
     if (input < 0)
@@ -199,22 +200,45 @@ static void add_owner(struct text *text, struct names *names, const char *port_i
     add_bytes(text, port_id, length);
 }
 
-/* Names of netlink protocols, by their numbers. */
-static const char *const netlink_protocols[] = {
-    "rtnl",    "unused", "usersock", "fw",    "tcpdiag",   "nflog",     "xfrm", "selinux",
-    "iscsi",   "audit",  "fiblookup", "connector", "nft",  "ip6fw",     "dec-rt", "uevent",
-    "genl",    NULL,     "scsi-trans", "ecryptfs", "rdma", "crypto",
+/* A number of the kernel, and the name that ss(8) has for it. */
+struct named {
+    const char *name;
+    unsigned number;
+};
+
+/* Adds the name of a number that digits show, or the digits if it has none. */
+static void add_named(struct text *text, const struct named *names, size_t count,
+                      const char *digits, size_t length) {
+    const unsigned long number = strtoul(digits, NULL, 10);
+    size_t index = 0;
+    while (index < count && names[index].number != number)
+        index++;
+    if (index < count)
+        add_string(text, names[index].name);
+    else
+        add_bytes(text, digits, length);
+}
+
+/* Netlink protocols. */
+static const struct named netlink_protocols[] = {
+    {"rtnl", NETLINK_ROUTE},           {"unused", NETLINK_UNUSED},
+    {"usersock", NETLINK_USERSOCK},    {"fw", NETLINK_FIREWALL},
+    {"tcpdiag", NETLINK_SOCK_DIAG},    {"nflog", NETLINK_NFLOG},
+    {"xfrm", NETLINK_XFRM},            {"selinux", NETLINK_SELINUX},
+    {"iscsi", NETLINK_ISCSI},          {"audit", NETLINK_AUDIT},
+    {"fiblookup", NETLINK_FIB_LOOKUP}, {"connector", NETLINK_CONNECTOR},
+    {"nft", NETLINK_NETFILTER},        {"ip6fw", NETLINK_IP6_FW},
+    {"dec-rt", NETLINK_DNRTMSG},       {"uevent", NETLINK_KOBJECT_UEVENT},
+    {"genl", NETLINK_GENERIC},         {"scsi-trans", NETLINK_SCSITRANSPORT},
+    {"ecryptfs", NETLINK_ECRYPTFS},    {"rdma", NETLINK_RDMA},
+    {"crypto", NETLINK_CRYPTO},
 };
 
 /* Adds the protocol and the port id of a netlink socket. */
 static void add_netlink(struct text *text, struct names *names, const char *local,
                         const char *colon, const char *end) {
-    const unsigned long number = strtoul(local, NULL, 10);
-    const size_t count = sizeof netlink_protocols / sizeof *netlink_protocols;
-    if (number < count && netlink_protocols[number] != NULL)
-        add_string(text, netlink_protocols[number]);
-    else
-        add_bytes(text, local, (size_t)(colon - local));
+    add_named(text, netlink_protocols, sizeof netlink_protocols / sizeof *netlink_protocols, local,
+              (size_t)(colon - local));
     add_byte(text, ':');
     if (end == colon + 2 && colon[1] == '0')
         add_string(text, "kernel");
@@ -222,36 +246,33 @@ static void add_netlink(struct text *text, struct names *names, const char *loca
         add_owner(text, names, colon + 1, (size_t)(end - colon - 1));
 }
 
-/* Names of the protocols of packet sockets (linux/if_ether.h), as ss(8) has them. The first one is
- * all protocols, which has no number there. */
-static const struct { const char *name; unsigned number; } ethertypes[] = {
-    {"*", 0x3},             {"802_3", 0x1},         {"ax25", 0x2},          {"802_2", 0x4},
-    {"snap", 0x5},          {"ddcmp", 0x6},         {"wan_ppp", 0x7},       {"ppp_mp", 0x8},
-    {"localtalk", 0x9},     {"can", 0xc},           {"ppptalk", 0x10},      {"tr_802_2", 0x11},
-    {"mobitex", 0x15},      {"control", 0x16},      {"irda", 0x17},         {"econet", 0x18},
-    {"loop", 0x60},         {"pup", 0x200},         {"pupat", 0x201},       {"ip", 0x800},
-    {"x25", 0x805},         {"arp", 0x806},         {"ieeepup", 0xa00},     {"ieeepupat", 0xa01},
-    {"dec", 0x6000},        {"dna_dl", 0x6001},     {"dna_rc", 0x6002},     {"dna_rt", 0x6003},
-    {"lat", 0x6004},        {"diag", 0x6005},       {"cust", 0x6006},       {"sca", 0x6007},
-    {"teb", 0x6558},        {"rarp", 0x8035},       {"atalk", 0x809b},      {"aarp", 0x80f3},
-    {"802.1Q", 0x8100},     {"ipx", 0x8137},        {"ipv6", 0x86dd},       {"mpls_uc", 0x8847},
-    {"mpls_mc", 0x8848},    {"atmmpoa", 0x884c},    {"ppp_disc", 0x8863},   {"ppp_ses", 0x8864},
-    {"atmfate", 0x8884},    {"profinet", 0x8892},   {"aoe", 0x88a2},        {"ethercat", 0x88a4},
-    {"802.1ad", 0x88a8},    {"tipc", 0x88ca},       {"LLDP", 0x88cc},
+/* Protocols of packet sockets. The first one is all protocols, which has no number in ss(8). Older
+ * headers of the kernel lack those that are numbers here. */
+static const struct named ethertypes[] = {
+    {"*", ETH_P_ALL},               {"802_3", ETH_P_802_3},         {"ax25", ETH_P_AX25},
+    {"802_2", ETH_P_802_2},         {"snap", ETH_P_SNAP},           {"ddcmp", ETH_P_DDCMP},
+    {"wan_ppp", ETH_P_WAN_PPP},     {"ppp_mp", ETH_P_PPP_MP},       {"localtalk", ETH_P_LOCALTALK},
+    {"can", ETH_P_CAN},             {"ppptalk", ETH_P_PPPTALK},     {"tr_802_2", ETH_P_TR_802_2},
+    {"mobitex", ETH_P_MOBITEX},     {"control", ETH_P_CONTROL},     {"irda", ETH_P_IRDA},
+    {"econet", ETH_P_ECONET},       {"loop", ETH_P_LOOP},           {"pup", ETH_P_PUP},
+    {"pupat", ETH_P_PUPAT},         {"ip", ETH_P_IP},               {"x25", ETH_P_X25},
+    {"arp", ETH_P_ARP},             {"ieeepup", ETH_P_IEEEPUP},     {"ieeepupat", ETH_P_IEEEPUPAT},
+    {"dec", ETH_P_DEC},             {"dna_dl", ETH_P_DNA_DL},       {"dna_rc", ETH_P_DNA_RC},
+    {"dna_rt", ETH_P_DNA_RT},       {"lat", ETH_P_LAT},             {"diag", ETH_P_DIAG},
+    {"cust", ETH_P_CUST},           {"sca", ETH_P_SCA},             {"teb", ETH_P_TEB},
+    {"rarp", ETH_P_RARP},           {"atalk", ETH_P_ATALK},         {"aarp", ETH_P_AARP},
+    {"802.1Q", ETH_P_8021Q},        {"ipx", ETH_P_IPX},             {"ipv6", ETH_P_IPV6},
+    {"mpls_uc", ETH_P_MPLS_UC},     {"mpls_mc", ETH_P_MPLS_MC},     {"atmmpoa", ETH_P_ATMMPOA},
+    {"ppp_disc", ETH_P_PPP_DISC},   {"ppp_ses", ETH_P_PPP_SES},     {"atmfate", ETH_P_ATMFATE},
+    {"profinet", 0x8892},           {"aoe", ETH_P_AOE},             {"ethercat", 0x88a4},
+    {"802.1ad", ETH_P_8021AD},      {"tipc", ETH_P_TIPC},           {"LLDP", 0x88cc},
 };
 
 /* Adds the protocol of a packet socket. */
 static void add_ethertype(struct text *text, const struct names *names, const char *number,
                           size_t length) {
     const size_t count = names->is_numeric ? 1 : sizeof ethertypes / sizeof *ethertypes;
-    const unsigned long value = strtoul(number, NULL, 10);
-    size_t index = 0;
-    while (index < count && ethertypes[index].number != value)
-        index++;
-    if (index < count)
-        add_string(text, ethertypes[index].name);
-    else
-        add_bytes(text, number, length);
+    add_named(text, ethertypes, count, number, length);
 }
 
 #endif

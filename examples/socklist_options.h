@@ -24,7 +24,6 @@ static const struct kind kinds[] = {
 enum { TCP, UDP, MPTCP, RAW, UNIX, PACKET, NETLINK, VSOCK, XDP, KINDS };
 
 struct options {
-    size_t space;              /* For how many arguments each array has space. */
     struct arguments recorder; /* Of sockdump. */
     struct arguments lister;   /* The options for sslist. */
     struct text words;         /* The words of a filter, as they were read. */
@@ -425,7 +424,7 @@ static const char *lister_filter(const struct options *options) {
 
 /* Returns the arguments of sslist, with another option if it is not NULL. */
 static struct arguments lister_arguments(const struct options *options, const char *option) {
-    struct arguments made = make_arguments("sslist", options->space);
+    struct arguments made = make_arguments("sslist");
     append_all(&made, &options->lister);
     if (option != NULL)
         append(&made, option);

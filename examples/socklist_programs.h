@@ -21,12 +21,15 @@
 /* Arguments of a program, which end with a null pointer. */
 struct arguments {
     const char **items;
-    size_t count;
+    size_t count, capacity;
 };
 
-/* Appends an argument. Space for all is made at the start. */
+/* Appends an argument, and the null pointer after it. */
 static void append(struct arguments *arguments, const char *argument) {
+    arguments->items = (const char **)grown(arguments->items, arguments->count + 1,
+                                            &arguments->capacity, sizeof *arguments->items);
     arguments->items[arguments->count++] = argument;
+    arguments->items[arguments->count] = NULL;
 }
 
 /* Appends arguments to others. */
@@ -36,12 +39,9 @@ static void append_all(struct arguments *arguments, const struct arguments *adde
         append(arguments, added->items[index]);
 }
 
-/* Makes arguments, which begin with the name of a program, with space for further ones. Ends the
- * program if there is no memory. */
-static struct arguments make_arguments(const char *program, size_t space) {
-    struct arguments made;
-    made.items = (const char **)allocated(calloc(space, sizeof *made.items));
-    made.count = 0;
+/* Makes arguments, which begin with the name of a program. */
+static struct arguments make_arguments(const char *program) {
+    struct arguments made = {NULL, 0, 0};
     append(&made, program);
     return made;
 }

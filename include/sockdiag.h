@@ -6,8 +6,8 @@
  *    sockdiag_write_inet_request and its siblings, and send it.
  * 2. Receive datagrams. recv(2) with MSG_TRUNC returns the length of a datagram that exceeds the
  *    buffer, and fails with ENOBUFS if datagrams were lost: request the dump again.
- * 3. Iterate over the messages of each by sockdiag_next_any_message. Skip a message for which
- *    sockdiag_is_answer is 0, and end at one for which sockdiag_ends_answer is 1.
+ * 3. Iterate over the messages of each by sockdiag_next_any_message. sockdiag_is_answer and
+ *    sockdiag_ends_answer test which ones belong to the answer, and which one ends it.
  * 4. Parse the payload of each message of type SOCK_DIAG_BY_FAMILY by the lenient call of its
  *    family, the first byte, such as sockdiag_inet_get_lenient_details.
  * A payload is the bytes of a message after its netlink header. dump.h of the examples does the
@@ -271,8 +271,8 @@ enum sockdiag_message_flag {
 };
 
 /*
- * Socket states. A request selects a state by its bit, such as 1u << SOCKDIAG_TCP_LISTEN. UNIX,
- * UDP and other sockets have these states too: a UNIX socket is in state 1, 7 or 10.
+ * Socket states. UNIX, UDP and other sockets have these states too: a UNIX socket is in state 1, 7
+ * or 10.
  */
 enum sockdiag_state {
     SOCKDIAG_TCP_ESTABLISHED = 1,    /* The connection is open. */
@@ -327,10 +327,8 @@ enum sockdiag_unix_attribute {
 };
 
 /*
- * Kinds of attributes in replies about IPv4 and IPv6 sockets. A request selects a kind up to 8 by
- * its bit, such as 1u << (SOCKDIAG_INET_DIAG_INFO - 1). The bit of INET_DIAG_VEGASINFO selects what
- * the socket's algorithm has: also INET_DIAG_DCTCPINFO or INET_DIAG_BBRINFO. The kernel sends some
- * others unasked.
+ * Kinds of attributes in replies about IPv4 and IPv6 sockets. A request selects those up to 8 by
+ * its field extensions. The kernel sends some others unasked.
  */
 enum sockdiag_inet_attribute {
     SOCKDIAG_INET_DIAG_NONE = 0,             /* No attribute. */
@@ -1370,8 +1368,8 @@ static inline uint32_t sockdiag_xdp_get_details(const uint8_t *payload, size_t l
 
 /* ---- lenient calls
  *
- * After such a call this prints each kind that is rejected, with its first error, and the framing
- * error:
+ * end_line of the example list_sockets.c ends a line: prints the kinds of the attributes that are
+ * rejected, with their errors:
  *
  *     static void end_line(const struct sockdiag_rejections *rejections) {
  *         unsigned kind;
@@ -1726,14 +1724,16 @@ uint32_t sockdiag_ends_answer(const struct sockdiag_message *message);
  * attribute.type_word & SOCKDIAG_NLA_TYPE_MASK. A value that is longer than the struct is accepted,
  * since newer kernels may append fields. A shorter one is SOCKDIAG_WRONG_LENGTH.
  *
- * A value that is an array is read from a cursor with the offset 0, while the call returns
- * SOCKDIAG_ITEM. If the rest of the value is shorter than an item, the call returns
- * SOCKDIAG_WRONG_LENGTH, and no bytes are left. The time for all items of a value is proportional
- * to its length.
+ * A value that is an array is read by a call that iterates over its items. If the rest of the value
+ * is shorter than an item, the call returns SOCKDIAG_WRONG_LENGTH, and no bytes are left. The time
+ * for all items of a value is proportional to its length.
  *
  * The values of INET_DIAG_ULP_INFO, INET_DIAG_SK_BPF_STORAGES and attributes in them consist of
- * attributes: iterate over a value by sockdiag_next_attribute from the offset 0, and read a number
- * by sockdiag_get_number. This prints the items of an array, whose attribute is among others:
+ * attributes: iterate over all bytes of a value by sockdiag_next_attribute, and read a number by
+ * sockdiag_get_number.
+ *
+ * print_pending of the example list_sockets.c prints the inodes of the sockets that connected and
+ * were not yet accepted. They are the value of an attribute that the details lack:
  *
  *     static void print_pending(const uint8_t *payload, size_t length) {
  *         struct sockdiag_cursor cursor = {SOCKDIAG_UNIX_ATTRIBUTES}, step = {0};
@@ -2215,11 +2215,27 @@ uint32_t sockdiag_write_inet_request_with_attributes(const struct sockdiag_inet_
  * hexadecimal after 0x. Names of hosts, services, interfaces and paths are not known.
  *
  * To request the sockets of a filter, pass its program to
- * sockdiag_write_inet_request_with_attributes as an attribute: the four bytes of its header, which
- * are the length of the program plus 4 and the kind INET_DIAG_REQ_BYTECODE, each in two bytes,
- * little-endian, and then the program. write_filter of the example list_sockets.c writes it. A
- * program of no bytes needs no attribute. Pass the states of the filter, if it has some, as those
- * of the request.
+ * sockdiag_write_inet_request_with_attributes as an attribute, and its states, if it has some, as
+ * those of the request.
+ *
+ * write_filter of the example list_sockets.c writes the filter for a local port, or for all if it
+ * is 0: an attribute INET_DIAG_REQ_BYTECODE. Returns its length, or 0 if there is no filter:
+ *
+ *     static size_t write_filter(uint16_t port, uint8_t *attribute, size_t size) {
+ *         char text[40] = "";
+ *         struct nlattr head = {0, SOCKDIAG_INET_DIAG_REQ_BYTECODE};
+ *         struct sockdiag_filter_details filter;
+ *         if (port != 0)
+ *             sprintf(text, "sport >= :%u and sport <= :%u", (unsigned)port, (unsigned)port);
+ *         if (sockdiag_parse_filter((const uint8_t *)text, strlen(text), attribute + sizeof head,
+ *                                   size - sizeof head, &filter, sizeof filter)
+ *                 != SOCKDIAG_OK
+ *             || filter.program_length == 0)
+ *             return 0;
+ *         head.nla_len = (uint16_t)(sizeof head + filter.program_length);
+ *         memcpy(attribute, &head, sizeof head);
+ *         return head.nla_len;
+ *     }
  */
 
 /* What sockdiag_parse_filter stores about a filter. */

@@ -1,7 +1,9 @@
 #!/usr/bin/env python3
 """Compares the C header with the source, and compiles it without the C library.
 
-- The header has the doc comments of the source, whole.
+- The header has the doc comments of the source, whole, or their first paragraphs: of each struct,
+  field, function, constant, option, record and error. Code in its comments is that of functions of
+  examples, whole.
 - The number of a version has the weights that the header states.
 - With a C compiler, `$CC` or `cc`, it compiles the examples as C99 and as C++.
 
@@ -21,20 +23,60 @@ TOP = Path(__file__).resolve().parent.parent
 # Do not create tools/__pycache__.
 sys.dont_write_bytecode = True
 sys.path.append(str(TOP / "tools"))
-from declarations import Library, filter_grammar, summary
+from declarations import Library, constants_in, decode_errors, record_names, socket_options
+
+HEADER = (TOP / "include/sockdiag.h").read_text("utf-8")
+CRATES = TOP / "crates"
+
+
+def words(text):
+    """Returns a text as one line, without code marks and names of structs, which differ in C."""
+    text = " ".join(text.replace("`", "").split())
+    return re.sub(r"\[[A-Z]\w*\]|struct sockdiag_\w+", "STRUCT", text)
+
+
+def paragraphs(doc):
+    """Returns the paragraphs of a doc comment, each as one line."""
+    return [words(it) for it in "\n".join(doc).split("\n\n")]
+
+
+def grammar():
+    """Returns the paragraphs about the texts of filters."""
+    text = (CRATES / "sock_diag_filters/src/text/parsed.rt").read_text("utf-8")
+    doc = re.search(r"(?m)((?:^ +///.*\n)+) +pub fn parse\(", text)[1]
+    found = paragraphs(line.strip(" /") for line in doc.splitlines())
+    return [it for it in found if not it.startswith(("Parses ", "Fails "))]
+
+
+def constants():
+    """Returns the constants of the crates that the header has by their names."""
+    found = [it for path in CRATES.glob("*/src/**/*.rt")
+             for it in constants_in(path.read_text("utf-8")).values()]
+    return [it for it in found if re.search(rf"\bSOCKDIAG_{it.name}(?: = | \d)", HEADER)]
 
 
 def comment_errors():
-    """Returns the doc comments of structs, fields and functions that the header lacks, as lines."""
-    header = (TOP / "include/sockdiag.h").read_text("utf-8")
-    shown = [re.sub(r"(?m)^ *\*", "", it) for it in re.findall(r"(?s)/\*(.*?)\*/", header)]
-    text = " ".join(" ".join(shown).split())
+    """Returns the doc comments that the header lacks, as lines."""
+    shown = [re.sub(r"(?m)^ *\*", "", it) for it in re.findall(r"(?s)/\*(.*?)\*/", HEADER)]
+    text = words(" ".join(shown))
     library = Library()
-    docs = [it.doc for it in library.functions.values()] + [filter_grammar()]
-    for it in library.structs.values():
-        docs += [summary(it.doc), *(field.doc for field in it.fields)]
-    words = [" ".join(" ".join(doc).replace("`", "").split()) for doc in docs]
-    return [f"the header lacks the comment: {it}" for it in words if it not in text]
+    structs = library.structs.values()
+    docs = [*grammar(), *(it for function in library.functions.values()
+                          for it in paragraphs(function.doc))]
+    docs += [words(" ".join(field.doc)) for it in structs for field in it.fields]
+    docs += [paragraphs(it.doc)[0] for rows in (
+        structs, constants(), decode_errors(), record_names(), socket_options()) for it in rows]
+    return [f"the header lacks the comment: {it}" for it in docs if it not in text]
+
+
+def code_errors():
+    """Returns what is wrong with the code in the comments of the header, as lines: a block is a
+    function, from its first line to its last one."""
+    examples = "".join(it.read_text("utf-8") for it in sorted((TOP / "examples").glob("*.[ch]")))
+    functions = re.findall(r"(?m)^(?:static|int) .*\{\n(?:(?!\}$).*\n)*\}$", examples)
+    blocks = re.findall(r"(?m)(?:^ \*     .*\n)+", HEADER)
+    code = [re.sub(r"(?m)^ \*     ", "", it).rstrip("\n") for it in blocks]
+    return [f"no function of an example: {it}" for it in code if it not in functions]
 
 
 def version_errors():
@@ -78,7 +120,7 @@ def compile_c(compiler):
 
 
 def main():
-    if errors := comment_errors() + version_errors():
+    if errors := comment_errors() + code_errors() + version_errors():
         print(*errors, "tests/bindings.py: failed", sep="\n")
         return 1
     compiler = os.environ.get("CC", "cc")

@@ -10,6 +10,7 @@ Each line is about one declaration. It has the crate, the module and the name, a
 - the declaration, of a struct without its private fields, of a trait without its members;
 - the names of its clauses, ghost members and invariants, and a sum of their text, so that a changed
   contract is a difference;
+- the constants of each enum of include/sockdiag.h;
 - of a definition in specs/ that a promise reaches, by the rules of believed.py, and of a constant
   or a macro that one may depend on, a sum of its text.
 
@@ -209,6 +210,13 @@ def definition_lines():
             yield f"{module.name}: {item.name}; {short_sum(module.text_of(item))}"
 
 
+def header_lines():
+    """Yields a line for each enum of the C header."""
+    text = (TOP / "include/sockdiag.h").read_text("utf-8")
+    for name, inside in re.findall(r"(?m)^enum (\w+) \{\n((?s:.*?))^\}", text):
+        yield f"sockdiag.h: enum {name}; " + ", ".join(re.findall(r"SOCKDIAG_(\w+ = \w+)", inside))
+
+
 def main():
     if sys.argv[1:] not in ([], ["--write"]):
         print("usage: tests/surface.py [--write]", file=sys.stderr)
@@ -216,7 +224,7 @@ def main():
     crates = {it: (TOP / "crates" / it / "src").rglob("*.rt") for it in libraries()}
     crates["package"] = [path for it in BY_HAND for path in (TOP / "tools/erased/src").glob(it)]
     lines = [line for name, paths in crates.items() for line in Crate(name, paths).lines()]
-    lines = sorted({*lines, *definition_lines()})
+    lines = sorted({*lines, *definition_lines(), *header_lines()})
     if sys.argv[1:]:
         LIST.write_text("\n".join(lines) + "\n", "utf-8")
     listed = LIST.read_text("utf-8").splitlines()

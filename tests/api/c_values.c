@@ -582,6 +582,11 @@ static void has_offsets(void) {
           offset_of(SOCKDIAG_EXPLAIN_INET_ATTRIBUTE, bytes, 20) == 0, "an item by itself");
 }
 
+/* dump_replies, for a request that was not written. */
+static void requests_no_bytes(void) {
+    check(dump_replies(NULL, 0, NULL, NULL) == EINVAL, "a request without bytes");
+}
+
 /* Bits of the options, as struct inet_diag_sockopt of linux/inet_diag.h has them. */
 static void has_numbers(void) {
     check(SOCKDIAG_OPTION_RECV_ERR == 1 && SOCKDIAG_OPTION_IS_ICSK == 2 &&
@@ -616,6 +621,7 @@ int main(void) {
     explains_framing();
     explains_attributes();
     has_offsets();
+    requests_no_bytes();
     has_numbers();
     return end_of_tests("c_values");
 }

@@ -57,7 +57,7 @@
  * exec(2) does not close it, or if the previous one is still open. A socket has to be connected to
  * the kernel before it sends and receives. If FAKE_KERNEL_REFUSES is set, connect fails. Requests
  * are answered all the same, as a kernel does, so a lister that ignores the failure lists sockets.
- * If FAKE_KERNEL_DENIES is set, recv fails with EPERM.
+ * If FAKE_KERNEL_DENIES is set, recv fails with EPERM, and so does joining a group.
  */
 #define _DEFAULT_SOURCE /* For syscall. */
 #include "sockdiag.h"
@@ -157,6 +157,9 @@ int setsockopt(int fd, int level, int name, const void *value, socklen_t length)
         return 0;
     if (fd != kernel || length != sizeof number || !has_buffer)
         abort();
+    errno = EPERM;
+    if (getenv("FAKE_KERNEL_DENIES") != NULL)
+        return -1;
     memcpy(&number, value, sizeof number);
     joined |= 1u << number;
     if (replies != NULL)

@@ -45,6 +45,10 @@ EXCESSES = ("1", "4", "60000")
 LACKS = ("1", "4", "19")
 # The error if standard input, output or error is not open.
 NOT_OPEN = "standard input, output or error is not open"
+# Files, and a reply of a protocol that is too short.
+SHORT = (("tcp-info", "tcp", "020100"), ("linux-6.18", "unix", "010100"),
+         ("linux-6.18", "udp", "020100"), ("linux-6.18", "mptcp", "020100"),
+         ("netlink-and-packet", "netlink", "100000"), ("netlink-and-packet", "packet", "110000"))
 # How often a dump is requested, if it is always interrupted.
 ATTEMPTS = 10
 # Numbers with which a dump ends, and the texts of the errors. Error numbers are -4095 to -1.
@@ -180,12 +184,12 @@ def fails(lister, library, file, error="", **variables):
     return report(lister, done, variables, [f"no line, an error {error}, and status 1"])
 
 
-def reports_short_reply(lister, library, file, folder):
-    """Runs the lister with the replies of the file and one that is too short, before the last one.
-    Returns whether it prints the others, and ends with status 1."""
+def reports_short_reply(lister, library, file, folder, protocol, digits):
+    """Runs the lister with the replies of the file and one that is too short, before the last one
+    of a protocol. Returns whether it prints the others, and ends with status 1."""
     changed = Path(folder, "short")
-    start, mark, end = file.read_text().rpartition("\ntcp ")
-    changed.write_text(f"{start}{mark}020100{mark}{end}")
+    start, mark, end = file.read_text().rpartition(f"\n{protocol} ")
+    changed.write_text(f"{start}{mark}{digits}{mark}{end}")
     return compare(lister, library, changed, status=1)
 
 
@@ -237,7 +241,8 @@ def is_right(lister, library, files, folder, is_rust):
     results.append(repeats_dumps(lister, library, files[0], FAKE_KERNEL_OVERRUN="1"))
     results += [compare(lister, library, files[0], status=1, error=error, FAKE_KERNEL_END=it)
                 for it, error in ENDS]
-    results.append(reports_short_reply(lister, library, HERE / "kernels/tcp-info", folder))
+    results += [reports_short_reply(lister, library, HERE / "kernels" / file, folder, *short)
+                for file, *short in SHORT if short[0] == "tcp" or not is_list_rtt(lister)]
     results.append(reports_full_disk(lister, library, files[0]))
     results.append(opens_no_stream(lister, library, files[0], is_rust))
     if not is_list_rtt(lister):

@@ -63,7 +63,7 @@ UNKNOWN = "sockdump: unknown kind, or a filter without -- before it: {}; try soc
 # Arguments, variables of the kernel, the exit status, and standard error.
 FAILURES = [
     (["every"], {}, 2, UNKNOWN.format("every")),
-    (["tcp", "a\033b"], {}, 2, UNKNOWN.format("a?b")),
+    (["tcp", "a\033\177\udc9bb"], {}, 2, UNKNOWN.format("a???b")),
     *(([*kinds, f"--every{it}"], {}, 2, SECONDS) for kinds in ([], ["unix"]) for it in (
         "", "=", "=0", "=86401", "=1s", "=-1", "=+1", "= 1", "=1 ", "=18446744073709551617", "s1")),
     (["--every=1", "nope"], {}, 2, UNKNOWN.format("nope")),
@@ -82,7 +82,9 @@ FAILURES = [
     (["--netns=/none", "tcp"], {}, 1, "sockdump: /none: No such file or directory\n"),
     *(([f"--netns={it}", "tcp"], {}, 1, f"sockdump: {it}: Invalid argument\n")
       for it in ("/dev/null", "/proc/self/ns/uts")),
-    (["--events"], {"FAKE_KERNEL_REFUSES": "1"}, 1, "sockdump: connect: Operation not permitted\n"),
+    *((["--events"], {f"FAKE_KERNEL_{name}": "1"}, 1,
+       f"sockdump: {call}: Operation not permitted\n")
+      for name, call in (("REFUSES", "connect"), ("DENIES", "setsockopt"))),
     *((arguments, *how) for arguments in (["unix"], ["--every=1", "unix"]) for how in (
         ({"FAKE_KERNEL_REFUSES": "1"}, 1, "sockdump: connect: Operation not permitted\n"),
         ({"FAKE_KERNEL_LACK": "1"}, 1, "sockdump: unix: truncated message\n"),

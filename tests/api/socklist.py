@@ -60,6 +60,7 @@ ARGUMENTS = [
     (["-la"], [], ["-o"], ""),
     (["-al"], [], ["-o"], LISTENING),
     (["-xH"], ["unix"], ["-H", "-o"], CONNECTED),
+    *(([f"--{it}"], [it], ["-o"], WAITING) for it in ("packet", "netlink", "xdp")),
     (["-0"], ["packet"], ["-o"], WAITING),
     (["-t", "--vsock", "--xdp"], ["tcp", "vsock", "xdp"], ["-o"], WAITING),
     (["-wa"], ["raw"], ["-o"], ""),
@@ -109,8 +110,10 @@ EVENTS = [
 ]
 # Words with names, and with numbers in their place. A name in braces is that of a service of TCP.
 WORDS = [
-    *((f"{field} {sign} {it}", f"{field} {sign} {it}") for field, sign in (
-        ("sport", "="), ("dport", ">="), ("sport", "neq")) for it in (":443", "443", "0x1bb")),
+    *((f"{field} = {it}", f"{field} = {it}") for field in ("sport", "dport") for it in (
+        ":443", "443", "0x1bb")),
+    *((f"sport {it} :443", f"sport {it} :443") for it in (
+        "== eq != ne neq >= ge geq <= le leq > gt < lt".split())),
     ("sport = :{http} or dport {https}", "sport = :80 or dport 443"),
     ("sport != {www}", "sport != 80"),
     ("src :{ssh} or src = *:{ssh}", "src :22 or src = *:22"),
@@ -281,10 +284,11 @@ class Runs:
             finally:
                 running.kill()
 
-    def end(self, *arguments, **how):
-        """Runs socklist. Returns its exit status, standard output and standard error."""
+    def end(self, *arguments, under=(), **how):
+        """Runs socklist, under another program if that is named. Returns its exit status, standard
+        output and standard error."""
         how = {"stdout": subprocess.PIPE, "stderr": subprocess.PIPE, "timeout": LIMIT} | how
-        done = subprocess.run([self.program, *arguments], check=False, **how)
+        done = subprocess.run([*under, self.program, *arguments], check=False, **how)
         written = None if done.stdout is None else done.stdout.decode()
         return done.returncode, written, done.stderr.decode()
 
@@ -440,6 +444,8 @@ def ephemeral_port():
     return next((it for it in map(int, found) if low <= it <= high), low)
 
 
+# Reports memory errors and leaks of socklist, but not of what it runs.
+VALGRIND = ("valgrind", "-q", "--leak-check=full", "--error-exitcode=99")
 # An end of a connection.
 FAR = ("192.0.2.1", 443)
 
@@ -521,6 +527,8 @@ def test_table(runs):
             if "p" in letters:
                 heading = table.splitlines()[0]
                 compare("heading", heading.index("Process"), lines[0].index("users:"))
+        for letter, name in ("n", "--numeric"), ("p", "--processes"):
+            compare(name, runs.end("-a", name), runs.end(f"-a{letter}"))
 
 
 def test_columns(runs):
@@ -608,10 +616,11 @@ COUNTED = [
     *(("unix", struct.pack("<BBBBIQ", 1, kind, 1, 0, 7, 2)) for kind in (1, 2, 5, 9)),
     ("netlink", struct.pack("<4B4IQ", 16, 3, 0, 7, 0, 0, 0, 5, 3)),
     *(("packet", struct.pack("<BBHIQ", 17, kind, 3, 6, 4)) for kind in (2, 3)),
+    *(("vsock", struct.pack("<BBBB5IQ", 40, kind, 1, 0, 2, 1, 2, 2, 7, 6)) for kind in (1, 5)),
     *(("xdp", struct.pack("<BBHIQ", 44, 3, 0, 7, 5)) for _ in range(3)),
 ]
 SUMMARY = """\
-Total: 27
+Total: 29
 TCP:   15 (estab 4, closed 1, orphaned 4, timewait 2)
 
 Transport Total     IP        IPv6
@@ -623,7 +632,7 @@ INET      16        13        3
 UNIX      4
 PACKET    2
 NETLINK   1
-VSOCK     0
+VSOCK     2
 XDP       3
 """
 
@@ -648,6 +657,10 @@ NAMES = [
     (b"a\n", r"a\x0a", {"name": "a\n"}),
     ("ä猫".encode(), r"\xc3\xa4\xe7\x8c\xab", {"name": "ä猫"}),
     (b"\xf0\x9f\x90\xb1", r"\xf0\x9f\x90\xb1", {"name": "\U0001f431"}),
+    # The first and the last character of each form of UTF-8.
+    *((it.encode(), "".join(rf"\x{byte:02x}" for byte in it.encode()), {"name": it}) for it in (
+        "\u0080\u07ff", "\u0800\u0fff", "\u1000\ucfff", "\ud000\ud7ff", "\ue000\uffff",
+        "\U00010000\U0003ffff", "\U00040000\U000fffff", "\U00100000\U0010ffff")),
     # Not valid UTF-8: too few bytes, too many, a surrogate, and above U+10FFFF.
     *((it, "".join(rf"\x{byte:02x}" for byte in it), {"name_hex": it.hex()}) for it in (
         b"\xff", b"\xc3", b"\xe7\x8c", b"\xc0\x80", b"\xe0\x9f\x80", b"\xed\xa0\x80",
@@ -838,7 +851,8 @@ def test_fresh(runs):
     """A list shows the processes of its time."""
     with socket.socket() as opened:
         runs.record(*dump("tcp", inet_reply(FAR, FAR, inode=os.fstat(opened.fileno()).st_ino)))
-        runs.use(sockdump=f"cat {runs.folder}/capture; sleep 2; tail -c +25 {runs.folder}/capture")
+        file = runs.folder / "capture"
+        runs.use(sockdump=f"cat {file}; sleep 1.2; tail -c +25 {file}")
         with runs.start("-aHp", "--every=1") as running:
             one = running.stdout.readline()
             opened.close()
@@ -847,11 +861,14 @@ def test_fresh(runs):
 
 
 def test_many(runs):
-    """Few descriptors suffice for many hosts and processes."""
+    """Few descriptors suffice for many hosts and processes. If valgrind is installed, each host
+    leaves only its address and its name in memory, and no other memory is accessed."""
     runs.record(*dump("tcp", *(inet_reply((f"192.0.2.{it}", 22), FAR) for it in range(10, 40))))
     with hosts(runs):
-        expected = runs.end("-tanrH")
+        expected = runs.end("-tanH", "--resolve")
         compare("hosts", runs.end("-tanrH", preexec_fn=with_descriptors(20)), expected)
+        if shutil.which("valgrind"):
+            compare("memory", runs.end("-tanrH", under=VALGRIND), expected)
     compare("hosts", expected[::2], (0, ""))
     with socket.socket() as opened, contextlib.ExitStack() as ended:
         for _ in range(30):
