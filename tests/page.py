@@ -95,9 +95,12 @@ def main():
         for (digits, more), answer in zip(REPLIES.items(), found, strict=True):
             text = shown(page, digits)
             lacking = [it for it in (expected(answer), *more) if it not in text]
-            if lacking:
+            # No reply has these.
+            absent = [it for it in ("has_", "legacy_memory", "cgroup_id") if it in text]
+            if lacking or absent:
                 wrong += 1
-                print(f"page: {digits}: {answer}: the page lacks {lacking}: {text[:300]}")
+                print(f"page: {digits}: {answer}: the page lacks {lacking}, and has {absent}:"
+                      f" {text[:300]}")
         print(f"page: {len(REPLIES)} replies, {wrong} wrong")
         if lister:
             unlike = wrong_lists(page, lister[1])

@@ -11,11 +11,11 @@ example list_sockets prints with the C library (list_sockets.txt). The guest has
 families, protocols and states (rare_sockets.py). A kernel that has these files is not booted again.
 
 For each kernel the script compares the C library with the independent reader of tests/api over all
-replies, and prints what sslist and ss show differently. It also prints what a kernel sends and the
-one before it in the table does not, and the reverse: states, timers, kinds of attributes and their
-lengths, words of struct tcp_info that are not 0, and answers to requests. docs/KERNELS.md has to
-explain these lines. With --keep the captures are also stored in tests/api/kernels, where the gate
-reads them.
+replies, and prints what sslist and ss show differently, and the words of sslist about what has no
+name. It also prints what a kernel sends and the one before it in the table does not, and the
+reverse: states, timers, kinds of attributes and their lengths, words of struct tcp_info that are
+not 0, and answers to requests. docs/KERNELS.md has to explain these lines. With --keep the captures
+are also stored in tests/api/kernels, where the gate reads them.
 
 The programs are the static sslist for each processor, out/static/sslist of tools/build and
 out/arm64/sslist, and SOCKDIAG_LIBRARY may be another C library for x86-64. Needs apt, dpkg,
@@ -29,7 +29,7 @@ import shutil
 import subprocess
 import sys
 import tarfile
-from collections import defaultdict
+from collections import Counter, defaultdict
 from pathlib import Path
 from typing import NamedTuple
 
@@ -317,6 +317,18 @@ def print_listed(at):
     return bool(lines) and lines[-1].startswith("sockdump ")
 
 
+def print_unknown(at):
+    """Prints the words of sslist about what has no name, and how many there are of each."""
+    words = Counter()
+    for it in ("all", "requests"):
+        listed = subprocess.run([TOP / "out/static/sslist", at / f"{it}.pcap"], check=False,
+                                capture_output=True, text=True).stdout
+        words.update(re.sub(r"\d+ms", "..", word) for word in listed.split()
+                     if "unknown" in word.lower())
+    for word, count in sorted(words.items()):
+        print(f"{at.name}: sslist prints {word}: {count} times")
+
+
 def keep(at):
     """Stores both captures of a kernel in one file."""
     first, second = ((at / f"{it}.pcap").read_bytes() for it in ("all", "requests"))
@@ -350,6 +362,7 @@ def main():
         at = folder / it.name
         wrong += compare_reader(at, program)
         wrong += (not print_listed(at)) + (not is_listed_in_guest(at))
+        print_unknown(at)
         if "--keep" in sys.argv:
             keep(folder / it.name)
         now = census(folder / it.name)

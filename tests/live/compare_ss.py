@@ -203,6 +203,8 @@ def shown(line):
     columns = {"netid": words.pop(0)} if words[0] in NETIDS else {}
     columns |= dict(zip(("state", "recv", "send"), words))
     local, peer = (end(it, columns.get("netid", "")) for it in words[3:5])
+    # ss takes an SCTP socket for an association if the kernel lists it twice, and has no name then.
+    columns = {name: it for name, it in columns.items() if it != "(null)"}
     # An XDP socket that is not bound.
     local = "*:0" if (local, peer) == ("*", "*") else local
     return (local, peer), columns, words[5:]
