@@ -4,7 +4,8 @@
 - The header has the doc comments of the source, whole, or their first paragraphs: of each struct,
   field, function, constant, option, record and error. Code in its comments is that of functions of
   examples, whole.
-- The number of a version has the weights that the header states.
+- The number of a version has the weights that the header states, and structs that can grow have
+  the sizes of version 1.0.
 - With a C compiler, `$CC` or `cc`, it compiles the examples as C99 and as C++.
 
 It prints which of these parts it skips. tools/bindings writes the header. With the library,
@@ -26,6 +27,9 @@ sys.path.append(str(TOP / "tools"))
 from declarations import Library, constants_in, decode_errors, record_names, socket_options
 
 HEADER = (TOP / "include/sockdiag.h").read_text("utf-8")
+SIZES_1_0 = {"unix_details": 168, "inet_details": 264, "netlink_details": 136,
+             "packet_details": 248, "vsock_header": 32, "xdp_details": 240, "error_details": 64,
+             "filter_details": 24}
 CRATES = TOP / "crates"
 
 
@@ -79,6 +83,14 @@ def code_errors():
     return [f"no function of an example: {it}" for it in code if it not in functions]
 
 
+def size_errors():
+    """Returns the sizes of version 1.0 that the header does not have, as lines. A program that was
+    compiled with 1.0 passes structs of these sizes, so they never change in 1.N."""
+    found = {name.lower(): int(size) for name, size in
+             re.findall(r"#define SOCKDIAG_(\w+)_SIZE_1_0 (\d+)", HEADER)}
+    return [] if found == SIZES_1_0 else [f"the sizes of version 1.0 are {found}"]
+
+
 def version_errors():
     """Returns the errors of the number that tools/bindings makes of a version, as lines."""
     number = runpy.run_path(str(TOP / "tools/bindings"))["number_of"]("12.34.56")
@@ -120,7 +132,7 @@ def compile_c(compiler):
 
 
 def main():
-    if errors := comment_errors() + code_errors() + version_errors():
+    if errors := comment_errors() + code_errors() + version_errors() + size_errors():
         print(*errors, "tests/bindings.py: failed", sep="\n")
         return 1
     compiler = os.environ.get("CC", "cc")

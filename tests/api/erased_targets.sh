@@ -7,14 +7,15 @@
 #
 # Needs cargo, cc and Python, and these tools: rustc and rustdoc with Rust's library for arm64 and
 # with its sources, aarch64-linux-gnu-gcc, qemu-aarch64-static and musl-gcc. fetch_targets.sh gets
-# them into a folder. ERASED_TOOLS is this folder. Without it out/tools is, if it exists.
+# them into a folder, which ERASED_TOOLS names.
 set -eu
 top=$(CDPATH='' cd -- "$(dirname -- "$0")/../.." && pwd)
 work=$(mktemp -d)
 trap '[ $? = 0 ] || echo "$0: failed" >&2; rm -rf "$work"' EXIT
 trap 'exit 130' INT TERM HUP
-tools=${ERASED_TOOLS-$top/out/tools}
-if [ -d "$tools/bin" ]; then PATH=$(CDPATH='' cd -- "$tools/bin" && pwd):$PATH; fi
+if [ -n "${ERASED_TOOLS-}" ]; then
+    PATH=$(CDPATH='' cd -- "$ERASED_TOOLS/bin" && pwd):$PATH
+fi
 unset CARGO_BUILD_TARGET CARGO_ENCODED_RUSTFLAGS CARGO_TARGET_DIR RUSTFLAGS RUSTDOCFLAGS
 # Without these variables cargo, if it is that of rustup, takes those of rustup.
 RUSTC=$(command -v rustc || :) RUSTDOC=$(command -v rustdoc || :)
