@@ -69,7 +69,8 @@ static const char usage[] =
     "                          needs a filter, such as dport = :443\n"
     "      --yes               with -K, do not ask\n"
     "  -o, -m, -i, -e          timers, memory, TCP connections, and all other details\n"
-    "                          with the timers\n"
+    "                          with the timers; of connections most times are in\n"
+    "                          microseconds, and rates in bytes per second\n"
     "  -H, -O, --json, --utf8, --requests\n"
     "                          the format, as of sslist\n\n"
     "Words that are no options, and all after --, are a filter as in ss(8):\n"
@@ -97,14 +98,14 @@ static int select_kind(struct options *options, const char *name, size_t length)
     return 0;
 }
 
-/* Selects the kinds of a group: all, or those of IPv4 and IPv6 except MPTCP, as in ss(8). Returns
- * whether there is one with a name of this length. */
+/* Selects the kinds of a group: all, or those of IPv4 and IPv6. Returns whether there is one with a
+ * name of this length. */
 static int select_group(struct options *options, const char *name, size_t length) {
     const int is_all = length == 3 && strncmp(name, "all", length) == 0;
     const int is_inet = length == 4 && strncmp(name, "inet", length) == 0;
     size_t index;
     for (index = 0; index < KINDS; index++)
-        if (is_all || (is_inet && kinds[index].is_inet && index != MPTCP))
+        if (is_all || (is_inet && kinds[index].is_inet))
             options->is_selected[index] = 1;
     return is_all || is_inet;
 }
@@ -122,13 +123,17 @@ static int select_kinds(struct options *options, const char *names) {
     return 0;
 }
 
-/* Reads a family. Those of IPv4 and IPv6, and unknown ones, are left to sslist. */
+/* Reads a family. Those of IPv4 and IPv6 are left to sslist. */
 static int read_family(struct options *options, const char *name) {
+    static const char *const inet[] = {"inet", "inet6", NULL};
     const char *kind = strcmp(name, "link") == 0 ? "packet" : name;
     size_t index;
     for (index = 0; index < KINDS; index++)
         if (!kinds[index].is_inet && strcmp(kinds[index].name, kind) == 0)
             return options->is_selected[index] = 1, 0;
+    if (!is_among(name, inet))
+        return reject_word("unknown family; families are inet, inet6, unix, link, netlink, vsock "
+                           "and xdp", name), -1;
     options->has_version = 1;
     append(&options->lister, "-f");
     append(&options->lister, name);

@@ -183,7 +183,8 @@ static int add_end(struct words *words, char *word) {
     struct text port = {NULL, 0, 0};
     int status = 0;
     if (colon != strchr(word, ':') && strchr(word, '[') == NULL)
-        return reject_word("an IPv6 address has brackets, such as [::1]:80", word);
+        return reject_word("an IPv6 address has brackets, such as [::1]:80 or [2001:db8::/32]",
+                           word);
     if (colon != NULL && strpbrk(colon, "/]") == NULL) {
         add_byte(&port, ':');
         status = add_service(words, &port, colon + 1);
@@ -251,8 +252,8 @@ static int read_word(struct words *words, char *word) {
 static const struct { const char *field, *why; } values[] = {
     {"state", "unknown state"},          {"exclude", "unknown state"},
     {"sport", "no port from 0 to 65535"}, {"dport", "no port from 0 to 65535"},
-    {"src", "no address, such as 192.0.2.0/24, [::1] or *:80"},
-    {"dst", "no address, such as 192.0.2.0/24, [::1] or *:80"},
+    {"src", "no address, such as 192.0.2.0/24, [2001:db8::/32] or *:80"},
+    {"dst", "no address, such as 192.0.2.0/24, [2001:db8::/32] or *:80"},
     {"fwmark", "no mark, such as 1 or 0x1/0x3"}, {"cgroup", "no id of a control group"},
 };
 

@@ -67,7 +67,7 @@ ARGUMENTS = [
     (["-A", "unix,tcp", "--query=raw", "-a"], ["tcp", "raw", "unix"], ["-o"], ""),
     (["-tAraw", "--socket", "xdp", "--query", "udp", "-a"], ["tcp", "udp", "raw", "xdp"], ["-o"],
      ""),
-    (["-A", "inet"], ["tcp", "udp", "raw"], ["-o"], CONNECTED),
+    (["-A", "inet"], ["tcp", "udp", "mptcp", "raw"], ["-o"], CONNECTED),
     (["--socket=unix,all"], ["tcp", "udp", "mptcp", "raw", "unix", "packet", "netlink", "vsock",
                              "xdp"], ["-o"], WAITING),
     (["-af", "link"], ["packet"], ["-o"], ""),
@@ -76,7 +76,6 @@ ARGUMENTS = [
     (["-f", "netlink", "-a"], ["netlink"], ["-o"], ""),
     (["--family=unix", "-a"], ["unix"], ["-o"], ""),
     (["-f", "inet", "-a"], [], ["-f", "inet", "-o"], ""),
-    (["-f", "none", "-a"], [], ["-f", "none", "-o"], ""),
     (["-4a"], [], ["-4", "-o"], ""),
     (["-4ta"], ["tcp"], ["-4", "-o"], ""),
     (["--ipv6", "-xa"], [], ["--ipv6", "-o", "-f", "unix"], ""),
@@ -132,7 +131,7 @@ WORDS = [
     ("( ! dst == many.example:80 )",
      "( ! ( dst == [192.0.2.1]:80 or dst == [2001:db8::1]:80 ) )"),
 ]
-NO_ADDRESS = "no address, such as 192.0.2.0/24, [::1] or *:80"
+NO_ADDRESS = "no address, such as 192.0.2.0/24, [2001:db8::/32] or *:80"
 # Words that are rejected, and the text.
 NO_WORDS = [
     ("sport = :nope", "unknown service: nope"),
@@ -151,7 +150,8 @@ NO_WORDS = [
         ")", "state established", "= 5")),
     *((f"dst {it}", f"filter: {NO_ADDRESS}: {it}") for it in (
         "0x7f", "1.2.", ".", "1.2.3.4.5", "a.1", "-n.example", "none.example/24")),
-    *((f"src {it}", f"an IPv6 address has brackets, such as [::1]:80: {it}") for it in (
+    *((f"src {it}",
+       f"an IPv6 address has brackets, such as [::1]:80 or [2001:db8::/32]: {it}") for it in (
         "::1", "fe80::1%lo", "::ffff:127.0.0.1")),
     ("dst != one.example", f"filter: {NO_ADDRESS}: !="),
     ("src = 1.2.3.4/33", f"filter: {NO_ADDRESS}: 1.2.3.4/33"),
@@ -176,6 +176,8 @@ REJECTED = [
         (["-F", "file"], "-F"), (["-tqh"], "-q"), (["-E=tcp"], "-="), (["--every", "1"], "--every"),
         (["--utf8=1"], "--utf8=1"), (["--"[:1] + "\x1b"], r"-\x1b"))),
     (["-E", "--every=1"], "-E takes no --every"),
+    *((it, "unknown family; families are inet, inet6, unix, link, netlink, vsock and xdp: tipc")
+      for it in (["-f", "tipc"], ["-ftipc"], ["--family=tipc"])),
     (["--events=unix"], "-E lists TCP and UDP sockets: -t and -u"),
     *(([it], "-A, -f and -N need a value") for it in (
         "-f", "-tA", "-N", "--net", "--family", "--query", "--socket")),
