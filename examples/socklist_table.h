@@ -19,6 +19,7 @@
 struct columns {
     const char *start[COLUMNS];
     size_t length[COLUMNS];
+    int is_for_both; /* The details say that an IPv6 socket also accepts IPv4. */
 };
 
 /* Splits a line. Returns whether it is the heading or a socket: it has all columns, and begins with
@@ -33,6 +34,7 @@ static int split(const char *line, struct columns *columns) {
         columns->length[index] = strcspn(line, " ");
         line += columns->length[index];
     }
+    columns->is_for_both = strstr(line, " v6only:0") != NULL;
     return columns->length[COLUMNS - 1] > 0;
 }
 
@@ -75,14 +77,20 @@ static void add_host(struct text *text, struct names *names, const char *address
         add_bytes(text, address, length);
 }
 
-/* Adds an address of an IPv4 or IPv6 socket: after a percent sign the interface, and after the last
- * colon the port. */
-static void add_address(struct text *text, struct names *names, size_t protocol, const char *start,
-                        size_t length) {
+/* Adds an address of an IPv4 or IPv6 socket, by the index of its column: after a percent sign the
+ * interface, and after the last colon the port. The address of all interfaces of both IP versions
+ * is an asterisk, as in ss(8). */
+static void add_address(struct text *text, struct names *names, size_t protocol,
+                        const struct columns *columns, int index) {
+    const char *start = columns->start[index];
+    const size_t length = columns->length[index];
     const char *percent = (const char *)memchr(start, '%', length);
     const char *colon = (const char *)memrchr(start, ':', length);
     const char *end = colon != NULL ? colon : start + length;
-    add_host(text, names, start, (size_t)((percent != NULL ? percent : end) - start));
+    if (columns->is_for_both && begins(columns, index, "[::]"))
+        add_byte(text, '*');
+    else
+        add_host(text, names, start, (size_t)((percent != NULL ? percent : end) - start));
     if (percent != NULL) {
         add_byte(text, '%');
         add_interface(text, names, percent + 1, (size_t)(end - percent - 1));
@@ -100,7 +108,7 @@ static void add_local(struct text *text, struct names *names, const struct colum
     const char *local = columns->start[LOCAL], *end = local + columns->length[LOCAL];
     const char *colon = (const char *)memrchr(local, ':', columns->length[LOCAL]);
     if (protocol < PROTOCOLS) {
-        add_address(text, names, protocol, local, columns->length[LOCAL]);
+        add_address(text, names, protocol, columns, LOCAL);
     } else if (colon != NULL && begins(columns, NETID, "p_")) {
         add_ethertype(text, names, local, (size_t)(colon - local));
         add_byte(text, ':');
@@ -142,7 +150,7 @@ static void add_row(struct text *text, struct names *names, const struct process
         pad(text, start);
     peer = text->length;
     if (protocol < PROTOCOLS)
-        add_address(text, names, protocol, columns->start[PEER], columns->length[PEER]);
+        add_address(text, names, protocol, columns, PEER);
     else
         add_bytes(text, columns->start[PEER], columns->length[PEER]);
     if (processes != NULL)

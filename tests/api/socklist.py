@@ -40,72 +40,74 @@ LISTENING = "state listening state closed"
 # The states of connections, and these with the state of sockets that are no connections.
 WAITING = "exclude listening exclude bucket"
 CONNECTED = f"{WAITING} exclude closed"
+# The details that sslist writes if none are requested.
+FEW = ["-e", "-O"]
 # Arguments, those that sockdump and sslist get, the filter that both get after --, and conditions
 # after it that only sockdump gets.
 ARGUMENTS = [
-    ([], [], ["-o"], CONNECTED),
-    (["-a"], [], ["-o"], ""),
-    (["-tlnp"], ["tcp"], ["-o"], LISTENING),
+    ([], [], FEW, CONNECTED),
+    (["-a"], [], FEW, ""),
+    (["-tlnp"], ["tcp"], FEW, LISTENING),
     (["-tuna", "-e"], ["tcp", "udp"], ["-e", "-o"], ""),
-    (["-tr"], ["tcp"], ["-o"], CONNECTED),
-    (["-s", "--resolve"], [], ["-o"], ""),
-    (["--summary", "-tl"], ["tcp"], ["-o"], LISTENING),
-    (["--listening", "--processes", "--numeric", "--mptcp"], ["mptcp"], ["-o"], LISTENING),
+    (["-tr"], ["tcp"], FEW, CONNECTED),
+    (["-s", "--resolve"], [], FEW, ""),
+    (["--summary", "-tl"], ["tcp"], FEW, LISTENING),
+    (["--listening", "--processes", "--numeric", "--mptcp"], ["mptcp"], FEW, LISTENING),
     *((["-a", *it], [], it, "") for it in (
         ["--info"], ["--memory"], ["--options"], ["-o", "-m"], ["-i"])),
     (["--extended", "--no-header", "--oneline", "-a"], [],
      ["--extended", "--no-header", "--oneline", "-o"], ""),
-    (["-a", "--requests", "--utf8", "-HO"], [], ["--requests", "--utf8", "-HO", "-o"], ""),
-    (["--all"], [], ["-o"], ""),
-    (["-la"], [], ["-o"], ""),
-    (["-al"], [], ["-o"], LISTENING),
-    (["-xH"], ["unix"], ["-H", "-o"], CONNECTED),
-    *(([f"--{it}"], [it], ["-o"], WAITING) for it in ("packet", "netlink", "xdp")),
-    (["-0"], ["packet"], ["-o"], WAITING),
-    (["-t", "--vsock", "--xdp"], ["tcp", "vsock", "xdp"], ["-o"], WAITING),
-    (["-wa"], ["raw"], ["-o"], ""),
-    (["-A", "unix,tcp", "--query=raw", "-a"], ["tcp", "raw", "unix"], ["-o"], ""),
-    (["-tAraw", "--socket", "xdp", "--query", "udp", "-a"], ["tcp", "udp", "raw", "xdp"], ["-o"],
+    (["-a", "--requests", "--utf8", "-HO"], [], ["--requests", "--utf8", "-HO", *FEW], ""),
+    (["--all"], [], FEW, ""),
+    (["-la"], [], FEW, ""),
+    (["-al"], [], FEW, LISTENING),
+    (["-xH"], ["unix"], ["-H", *FEW], CONNECTED),
+    *(([f"--{it}"], [it], FEW, WAITING) for it in ("packet", "netlink", "xdp")),
+    (["-0"], ["packet"], FEW, WAITING),
+    (["-t", "--vsock", "--xdp"], ["tcp", "vsock", "xdp"], FEW, WAITING),
+    (["-wa"], ["raw"], FEW, ""),
+    (["-A", "unix,tcp", "--query=raw", "-a"], ["tcp", "raw", "unix"], FEW, ""),
+    (["-tAraw", "--socket", "xdp", "--query", "udp", "-a"], ["tcp", "udp", "raw", "xdp"], FEW,
      ""),
-    (["-A", "inet"], ["tcp", "udp", "mptcp", "raw"], ["-o"], CONNECTED),
+    (["-A", "inet"], ["tcp", "udp", "mptcp", "raw"], FEW, CONNECTED),
     (["--socket=unix,all"], ["tcp", "udp", "mptcp", "raw", "unix", "packet", "netlink", "vsock",
-                             "xdp"], ["-o"], WAITING),
-    (["-af", "link"], ["packet"], ["-o"], ""),
-    (["-aHflink"], ["packet"], ["-H", "-o"], ""),
-    (["-a", "--family", "inet6"], [], ["-f", "inet6", "-o"], ""),
-    (["-f", "netlink", "-a"], ["netlink"], ["-o"], ""),
-    (["--family=unix", "-a"], ["unix"], ["-o"], ""),
-    (["-f", "inet", "-a"], [], ["-f", "inet", "-o"], ""),
-    (["-4a"], [], ["-4", "-o"], ""),
-    (["-4ta"], ["tcp"], ["-4", "-o"], ""),
-    (["--ipv6", "-xa"], [], ["--ipv6", "-o", "-f", "unix"], ""),
-    (["-6uxa"], ["udp", "unix"], ["-6", "-o", "-f", "unix"], ""),
-    (["--json", "-l"], [], ["--json", "-o"], LISTENING),
-    (["--every=5", "-a"], ["--every=5"], ["-o"], ""),
-    *(([*it, "-t"], ["tcp"], ["-o"], CONNECTED, "dport = :443") for it in (
+                             "xdp"], FEW, WAITING),
+    (["-af", "link"], ["packet"], FEW, ""),
+    (["-aHflink"], ["packet"], ["-H", *FEW], ""),
+    (["-a", "--family", "inet6"], [], ["-f", "inet6", *FEW], ""),
+    (["-f", "netlink", "-a"], ["netlink"], FEW, ""),
+    (["--family=unix", "-a"], ["unix"], FEW, ""),
+    (["-f", "inet", "-a"], [], ["-f", "inet", *FEW], ""),
+    (["-4a"], [], ["-4", *FEW], ""),
+    (["-4ta"], ["tcp"], ["-4", *FEW], ""),
+    (["--ipv6", "-xa"], [], ["--ipv6", *FEW, "-f", "unix"], ""),
+    (["-6uxa"], ["udp", "unix"], ["-6", *FEW, "-f", "unix"], ""),
+    (["--json", "-l"], [], ["--json", *FEW], LISTENING),
+    (["--every=5", "-a"], ["--every=5"], FEW, ""),
+    *(([*it, "-t"], ["tcp"], FEW, CONNECTED, "dport = :443") for it in (
         ["dport", "=", ":443"], ["dport = :443"], ["dport", " =\t:443 "])),
-    (["-t", "state", "all", "-H"], ["tcp"], ["-H", "-o"], "state all"),
-    (["-l", "--", " excl closed"], [], ["-o"], "excl closed"),
-    (["-l", "not", "autobound"], [], ["-o"], LISTENING, "not autobound"),
-    (["exclude listening state", "closed dev 1"], [], ["-o"], "exclude listening state closed",
+    (["-t", "state", "all", "-H"], ["tcp"], ["-H", *FEW], "state all"),
+    (["-l", "--", " excl closed"], [], FEW, "excl closed"),
+    (["-l", "not", "autobound"], [], FEW, LISTENING, "not autobound"),
+    (["exclude listening state", "closed dev 1"], [], FEW, "exclude listening state closed",
      "dev 1"),
-    (["-a", "( dport = :443 or", "! src 10.0.0.0/8 )"], [], ["-o"], "",
+    (["-a", "( dport = :443 or", "! src 10.0.0.0/8 )"], [], FEW, "",
      "( dport = :443 or ! src 10.0.0.0/8 )"),
     # Conditions apply to internet sockets only.
-    (["-taxM0", "fwmark", "1"], ["tcp", "mptcp"], ["-o"], "", "fwmark 1"),
-    (["-6xua", "dev = 1"], ["udp"], ["-6", "-o"], "", "dev = 1"),
+    (["-taxM0", "fwmark", "1"], ["tcp", "mptcp"], FEW, "", "fwmark 1"),
+    (["-6xua", "dev = 1"], ["udp"], ["-6", *FEW], "", "dev = 1"),
 ]
 # Arguments with events, and those that sockdump and sslist get.
 EVENTS = [
-    (["-E"], ["--events"], ["-o"]),
-    (["-Et"], ["--events=tcp"], ["-o"]),
-    (["-u", "--events"], ["--events=udp"], ["-o"]),
+    (["-E"], ["--events"], FEW),
+    (["-Et"], ["--events=tcp"], FEW),
+    (["-u", "--events"], ["--events=udp"], FEW),
     (["-tuE", "-i"], ["--events"], ["-i"]),
-    (["--events=tcp,udp"], ["--events"], ["-o"]),
-    (["--events=udp"], ["--events=udp"], ["-o"]),
+    (["--events=tcp,udp"], ["--events"], FEW),
+    (["--events=udp"], ["--events=udp"], FEW),
     # All events are in one state.
-    (["-E", "state all dport", "=", ":443"], ["--events"], ["-o", "--", "dport = :443"]),
-    *((["-E", it], ["--events"], ["-o"]) for it in ("-l", "state established")),
+    (["-E", "state all dport", "=", ":443"], ["--events"], [*FEW, "--", "dport = :443"]),
+    *((["-E", it], ["--events"], FEW) for it in ("-l", "state established")),
 ]
 # Words with names, and with numbers in their place. A name in braces is that of a service of TCP.
 WORDS = [
@@ -363,7 +365,7 @@ def test_words(runs):
             words, expected = re.sub("[{}]", "", words), ["--", f"state all {expected}".rstrip()]
             for arguments in ([f"state all {words}"], ["--", "state", "all", *words.split()]):
                 compare(f"{arguments}", passed(runs, "-n", *arguments),
-                        (0, "", expected, ["-o", "--", "state all"]))
+                        (0, "", expected, [*FEW, "--", "state all"]))
         for words, text in NO_WORDS:
             compare(words, passed(runs, words), (2, f"socklist: {text}{TRY}", [], []))
         compare("lost", passed(runs, "dst lost.example"), (1, "socklist: getent failed\n", [], []))
@@ -531,6 +533,17 @@ def test_table(runs):
                 compare("heading", heading.index("Process"), lines[0].index("users:"))
         for letter, name in ("n", "--numeric"), ("p", "--processes"):
             compare(name, runs.end("-a", name), runs.end(f"-a{letter}"))
+
+
+def test_both_versions(runs):
+    """The address of all interfaces is an asterisk if an IPv6 socket also accepts IPv4."""
+    runs.record(*dump("tcp", *(inet_reply(("::", port), ("::", 0), 10, interface)
+                               + attribute(11, bytes([only]))
+                               for port, interface, only in ((81, 0, 0), (82, 0, 1), (83, 1, 0)))))
+    for arguments in (["-tanH"], ["-tlnpH"], ["-taneOH"]):
+        status, table, errors = runs.end(*arguments)
+        compare(f"{arguments}", (status, errors, [it.split()[6:8] for it in table.splitlines()]),
+                (0, "", [["*:81", "*:*"], ["[::]:82", "[::]:*"], ["*%lo:83", "*:*"]]))
 
 
 def test_columns(runs):

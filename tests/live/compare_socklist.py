@@ -105,8 +105,6 @@ def theirs(line, only_kind, only_state):
     local = re.sub(r"^\[(\d+)\]:", r"\1:", local.replace("ipv4:", "ip:"))
     if netid == "nl":
         local = compare_ss.end(local, netid)
-    elif not netid.startswith("p_"):
-        local, peer = (re.sub(r"^\*:", "[::]:", it) for it in (local, peer))
     return netid, state, received, sent, local, peer, users(line)
 
 
