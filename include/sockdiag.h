@@ -96,9 +96,9 @@ extern "C" {
 uint32_t sockdiag_version(void);
 
 /*
- * Return values of the calls. 2 to 18 are decode errors: why bytes are rejected. If bytes have
- * several errors, a call returns the first. The only text that has to be valid UTF-8 is the name of
- * a congestion control algorithm.
+ * Return values of the calls. Those between SOCKDIAG_OK and SOCKDIAG_ITEM are decode errors: why
+ * bytes are rejected. If bytes have several errors, a call returns the first. The only text that
+ * has to be valid UTF-8 is the name of a congestion control algorithm.
  */
 enum sockdiag_code {
     SOCKDIAG_OK = 0,                        /* The call has succeeded. */

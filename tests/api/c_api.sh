@@ -117,7 +117,7 @@ CFLAGS="$*" SOCKDIAG_LIBRARY="$library" "$top/tests/api/compare_replies.sh"
 build fake_list "$top/examples/list_sockets.c" "$top/tests/api/fake_kernel.c" "$@"
 "$work/fake_list" >"$work/found" 2>"$work/errors" && exit 1
 "$work/fake_list" -l >>"$work/found" 2>>"$work/errors" && exit 1
-"$work/fake_list" 443 >>"$work/found" 2>>"$work/errors" && exit 1
+"$work/fake_list" 65535 >>"$work/found" 2>>"$work/errors" && exit 1
 sort "$work/errors" | uniq -c | sed 's/^ *//' >>"$work/found"
 diff "$work/found" /dev/fd/3 3<<'END'
 unix type 1 state 7 inode 2

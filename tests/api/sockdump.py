@@ -95,6 +95,10 @@ FAILURES = [
       for kind in ("xdp", "unix") for it in ("0", "1", "4", "12", "15")),
     (["unix", "tcp"], {"FAKE_KERNEL_END": "-1"}, 0,
      "".join(f"sockdump: {it}: Operation not permitted\n" for it in ("unix", "tcp"))),
+    # A kernel that knows no such sockets, and one that rejects a filter.
+    (["unix", "tcp"], {"FAKE_KERNEL_END": str(-EINVAL)}, 0,
+     "sockdump: unix: note: this kernel does not list such sockets\n"
+     "sockdump: tcp: Invalid argument\n"),
     # Without a file, this kernel loses the first datagram about UDP sockets.
     (["udp"], {"FAKE_KERNEL_REPLIES": None}, 1, "sockdump: recv: No buffer space available\n"),
 ]
@@ -251,6 +255,14 @@ def test_failures(runs, files):
     _, written, _ = runs.end(["unix"], subprocess.PIPE, files[0], FAKE_KERNEL_EXCESS="4")
     lengths = struct.unpack_from("<2I", written, len(written) - 65536 - 24)
     compare("excess", lengths, (65536 + 16, 65540 + 16))
+
+
+def test_name_space(runs, files):
+    """Enters a network namespace, which is its own one, if the system permits it."""
+    found = runs.end(["--netns=/proc/self/ns/net", "unix"], subprocess.PIPE, files[0])
+    if found != (1, b"", "sockdump: /proc/self/ns/net: Operation not permitted\n"):
+        compare("--netns", found[::2], (0, expected_notes(files[0], ["unix"])))
+        compare_datagrams("--netns", found[1], expected_round(files[0], ["unix"]))
 
 
 def test_not_open(runs, files):

@@ -884,6 +884,8 @@ def test_many(runs):
         compare("hosts", runs.end("-tanrH", preexec_fn=with_descriptors(20)), expected)
         if shutil.which("valgrind"):
             compare("memory", runs.end("-tanrH", under=VALGRIND), expected)
+            # The array of arguments is full: the null pointer after them needs a larger one.
+            compare("arguments", runs.end("-tanrH", *64 * ["--utf8"], under=VALGRIND), expected)
     compare("hosts", expected[::2], (0, ""))
     with socket.socket() as opened, contextlib.ExitStack() as ended:
         for _ in range(30):
