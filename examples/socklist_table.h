@@ -157,19 +157,43 @@ static void add_row(struct text *text, struct names *names, const struct process
         add_process_column(text, processes, columns, peer);
 }
 
+/* Adds details, with the units of times and rates of a TCP connection. */
+static void add_details(struct text *text, const char *details) {
+    static const struct { const char *name, *unit; } units[] = {
+        {"rto:", "us"}, {"ato:", "us"}, {"rtt:", "us"}, {"rttvar:", "us"}, {"rcv_rtt:", "us"},
+        {"minrtt:", "us"}, {"busy:", "us"}, {"rwnd_limited:", "us"}, {"sndbuf_limited:", "us"},
+        {"lastsnd:", "ms"}, {"lastrcv:", "ms"}, {"lastack:", "ms"}, {"total_rto_time:", "ms"},
+        {"pacing_rate:", "B/s"}, {"max_pacing_rate:", "B/s"}, {"delivery_rate:", "B/s"},
+    };
+    size_t index, length;
+    for (; *details != '\0'; details += length) {
+        length = strspn(details, " \t");
+        add_bytes(text, details, length);
+        details += length;
+        length = strcspn(details, " ");
+        add_bytes(text, details, length);
+        for (index = 0; index < sizeof units / sizeof *units; index++)
+            if (strncmp(units[index].name, details, strlen(units[index].name)) == 0)
+                add_string(text, units[index].unit);
+    }
+}
+
 /* Adds a line of the table, with the processes unless they are NULL. Returns whether it is shown:
  * a line of details is not if none are selected. */
 static int add_line(struct text *text, int has_details, struct names *names,
                     const struct processes *processes, const char *line) {
     struct columns columns;
     if (!split(line, &columns)) {
-        add_string(text, line);
+        if (*line != '\t')
+            add_string(text, line);
+        else if (has_details)
+            add_details(text, line);
         return has_details || *line != '\t';
     }
     add_bytes(text, line, (size_t)(columns.start[LOCAL] - line));
     add_row(text, names, processes, &columns);
     if (has_details)
-        add_string(text, columns.start[PEER] + columns.length[PEER]);
+        add_details(text, columns.start[PEER] + columns.length[PEER]);
     return 1;
 }
 

@@ -535,6 +535,18 @@ def test_table(runs):
             compare(name, runs.end("-a", name), runs.end(f"-a{letter}"))
 
 
+def test_units(runs):
+    """Times and rates of a TCP connection have units."""
+    numbers = {8: 204000, 44: 480, 68: 29, 72: 16, 80: 10, 104: 7}
+    info = b"".join(struct.pack("<I", numbers.get(it, 0)) for it in range(0, 232, 4))
+    runs.record(*dump("tcp", inet_reply(FAR, FAR) + attribute(2, info)))
+    for arguments in (["-tinH"], ["-tinHO"]):
+        status, table, errors = runs.end(*arguments)
+        compare(f"{arguments}", (status, errors, table.split()[8:]), (0, "", [
+            "rto:204000us", "lastsnd:480ms", "rtt:29us", "rttvar:16us", "cwnd:10",
+            "pacing_rate:7B/s"]))
+
+
 def test_both_versions(runs):
     """The address of all interfaces is an asterisk if an IPv6 socket also accepts IPv4."""
     runs.record(*dump("tcp", *(inet_reply(("::", port), ("::", 0), 10, interface)

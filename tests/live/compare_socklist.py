@@ -157,7 +157,7 @@ def values_of(line):
     netid, state, received, sent, inode, _, local, peer, *words = line.split()
     found = {"netid": netid, "words": words}
     for word in words:
-        name, _, value = word.partition(":")
+        name, _, value = re.sub(r"(?<=\d)([um]s|B/s)$", "", word).partition(":")
         found.setdefault(name, value)
     is_unix = netid.startswith("u_")
     return inode if is_unix else (compare_ss.end(local, netid), compare_ss.end(peer, "")), found
