@@ -374,7 +374,7 @@ static int select_conditional(struct options *options) {
     size_t index;
     if (conditions[strspn(conditions, spaces)] == '\0' || !has_selected(options, 0))
         return 0;
-    if (!has_selected(options, 1))
+    if (!has_selected(options, 1) || options->is_selected[PACKET])
         return reject("conditions such as dport select IPv4 and IPv6 sockets: -t, -u, -M, -w");
     for (index = 0; index < KINDS; index++)
         options->is_selected[index] &= kinds[index].is_inet;

@@ -164,13 +164,15 @@ static void add_details(struct text *text, const char *details) {
         {"minrtt:", "us"}, {"busy:", "us"}, {"rwnd_limited:", "us"}, {"sndbuf_limited:", "us"},
         {"lastsnd:", "ms"}, {"lastrcv:", "ms"}, {"lastack:", "ms"}, {"total_rto_time:", "ms"},
         {"pacing_rate:", "B/s"}, {"max_pacing_rate:", "B/s"}, {"delivery_rate:", "B/s"},
+        {"bw:", "B/s"}, {"mrtt:", "us"}, {"pacing_gain:", "/256"}, {"cwnd_gain:", "/256"},
     };
+    static const char between[] = " \t,()";
     size_t index, length;
     for (; *details != '\0'; details += length) {
-        length = strspn(details, " \t");
+        length = strspn(details, between);
         add_bytes(text, details, length);
         details += length;
-        length = strcspn(details, " ");
+        length = strcspn(details, between);
         add_bytes(text, details, length);
         for (index = 0; index < sizeof units / sizeof *units; index++)
             if (strncmp(units[index].name, details, strlen(units[index].name)) == 0)
@@ -190,6 +192,10 @@ static int add_line(struct text *text, int has_details, struct names *names,
             add_details(text, line);
         return has_details || *line != '\t';
     }
+    /* The details are on this line, although they are not shown. As in ss(8), a socket is for both
+     * if they do not say that it is for IPv6 only. */
+    if (!has_details)
+        columns.is_for_both = strstr(columns.start[PEER], " v6only:1") == NULL;
     add_bytes(text, line, (size_t)(columns.start[LOCAL] - line));
     add_row(text, names, processes, &columns);
     if (has_details)

@@ -94,7 +94,7 @@ ARGUMENTS = [
     (["-a", "( dport = :443 or", "! src 10.0.0.0/8 )"], [], FEW, "",
      "( dport = :443 or ! src 10.0.0.0/8 )"),
     # Conditions apply to internet sockets only.
-    (["-taxM0", "fwmark", "1"], ["tcp", "mptcp"], FEW, "", "fwmark 1"),
+    (["-taxM", "fwmark", "1"], ["tcp", "mptcp"], FEW, "", "fwmark 1"),
     (["-6xua", "dev = 1"], ["udp"], ["-6", *FEW], "", "dev = 1"),
 ]
 # Arguments with events, and those that sockdump and sslist get.
@@ -195,7 +195,7 @@ REJECTED = [
     (["-KE", "dport = 1"], "-K takes no --every and no -E"),
     (["-N", 5000 * "x"], "the name of the namespace is too long"),
     *(([it, "dev lo"], "conditions such as dport select IPv4 and IPv6 sockets: -t, -u, -M, -w")
-      for it in ("-0", "-4x", "--netlink", "-Avsock,xdp")),
+      for it in ("-0", "-4x", "--netlink", "-Avsock,xdp", "-0t")),
 ]
 
 
@@ -539,23 +539,27 @@ def test_units(runs):
     """Times and rates of a TCP connection have units."""
     numbers = {8: 204000, 44: 480, 68: 29, 72: 16, 80: 10, 104: 7}
     info = b"".join(struct.pack("<I", numbers.get(it, 0)) for it in range(0, 232, 4))
-    runs.record(*dump("tcp", inet_reply(FAR, FAR) + attribute(2, info)))
+    bbr = struct.pack("<5I", 9, 0, 31, 739, 739)
+    runs.record(*dump("tcp", inet_reply(FAR, FAR) + attribute(2, info) + attribute(16, bbr)))
     for arguments in (["-tinH"], ["-tinHO"]):
         status, table, errors = runs.end(*arguments)
         compare(f"{arguments}", (status, errors, table.split()[8:]), (0, "", [
             "rto:204000us", "lastsnd:480ms", "rtt:29us", "rttvar:16us", "cwnd:10",
-            "pacing_rate:7B/s"]))
+            "pacing_rate:7B/s",
+            "bbr:(bw:9B/s,mrtt:31us,pacing_gain:739/256,cwnd_gain:739/256)"]))
 
 
 def test_both_versions(runs):
     """The address of all interfaces is an asterisk if an IPv6 socket also accepts IPv4."""
+    sockets = ((81, 0, b"\0"), (82, 0, b"\1"), (83, 1, b"\0"))
     runs.record(*dump("tcp", *(inet_reply(("::", port), ("::", 0), 10, interface)
-                               + attribute(11, bytes([only]))
-                               for port, interface, only in ((81, 0, 0), (82, 0, 1), (83, 1, 0)))))
+                               + attribute(11, only) for port, interface, only in sockets)))
     for arguments in (["-tanH"], ["-tlnpH"], ["-taneOH"]):
         status, table, errors = runs.end(*arguments)
         compare(f"{arguments}", (status, errors, [it.split()[6:8] for it in table.splitlines()]),
                 (0, "", [["*:81", "*:*"], ["[::]:82", "[::]:*"], ["*%lo:83", "*:*"]]))
+    runs.record(*dump("tcp", inet_reply(("::", 81), ("::", 0), 10)))
+    compare("no attribute", runs.end("-tanH")[1].split()[6:8], ["*:81", "*:*"])
 
 
 def test_columns(runs):
@@ -618,8 +622,8 @@ def test_hosts(runs):
         assert runs.end("-tan")[0] == 0 and not log.exists(), "getent runs without -r"
         compare("hosts", (status, errors, [it.split()[6:8] for it in table.splitlines()]), (0, "", [
             ["example.org%lo:22", "192.0.2.2:22"], ["192.0.2.2:22", "example.org:22"],
-            ["0.0.0.0:22", "0.0.0.0:22"], [r"six\x1b.example.org:22", "[::]:22"],
-            ["example.org:22", "[::]:22"]]))
+            ["0.0.0.0:22", "0.0.0.0:22"], [r"six\x1b.example.org:22", "*:22"],
+            ["example.org:22", "*:22"]]))
         compare("getent", found, ["hosts 192.0.2.1", "hosts 192.0.2.2", "hosts 2001:db8::1"])
         runs.record(*dump("tcp", inet_reply(other, none), inet_reply(one, none)))
         failed = "socklist: getent failed\n"
