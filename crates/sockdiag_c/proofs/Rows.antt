@@ -1,7 +1,7 @@
 -- The values and the errors of a reply after one more attribute.
 use Rattle.std.proofs.Common.{◌≡◌, ◌≢◌, ◌∙◌, ℕ, List, [], ◌∷◌, ◌++◌, Option, Some, None, refl, sym}
 use Rattle.std.proofs.Common.{Err, Ok, Result, ap, arith, drop, slice_get, subst}
-use Rattle.std.specs.Prelude.{◌==◌, Bool, IfErr, IfOk, MatchResult, false, if◌then◌else◌, length}
+use Rattle.std.specs.Prelude.{◌==◌, Bool, false, if◌then◌else◌}
 use Rattle.std.specs.Prelude.{MatchOption, option_and_then, true}
 use Rattle.std.proofs.lemmas.List.{append_assoc, append-nil}
 use Rattle.std.specs.List.{filter_map, cons_option}
@@ -12,8 +12,7 @@ use Rattle.netlink_core.specs.Attribute.{attribute_kind}
 use Rattle.netlink_core.specs.Errors.{error_code}
 use Rattle.netlink_core.specs.declared.error.DecodeError.{DecodeError}
 use Rattle.sock_diag_replies.specs.UnixGetters.{first_content_of}
-use Rattle.sockdiag_c.specs.Answers.{FillsStruct, padded_or_truncated}
-use Rattle.sockdiag_c.specs.Family.{ArePartsOf, IsCodeOf, SplitsWithError, Family, HasValues}
+use Rattle.sockdiag_c.specs.Family.{ArePartsOf, SplitsWithError, Family, HasValues}
 use Rattle.sockdiag_c.specs.Family.{ReplyParts}
 use Rattle.sockdiag_c.specs.Family.{StructRow, error_of_kind, part_in, value_error}
 use Rattle.sock_diag_values.specs.declared.inet.mem_info.MemInfo.{MemInfo}
@@ -140,30 +139,6 @@ module _ {D : Type 0} (family : Family D) where
 pub code_is_not_zero : (e : DecodeError) → error_code e ≢ 0
 code_is_not_zero e =
     grind arith
-
--- A call that stores what was parsed fills a struct. `before` and `after` are the bytes of later
--- fields.
-module _ {D : Type 0} (Holds : D → Type 0) (rejects : DecodeError → Type 0) where
-  pub filled : (r : Result D DecodeError) (old new : D) (before after : List ℕ)
-      (code answer : ℕ)
-      → MatchResult r (λ found. (code ≡ 0) × (new ≡ found))
-      (λ e. (code ≡ error_code e) × (new ≡ old))
-      → IfOk r Holds → IfErr r rejects → answer ≡ code
-      → (code ≡ 0 → after ≡ padded_or_truncated (length before) [])
-      → (code ≢ 0 → after ≡ before)
-      → FillsStruct Holds (IsCodeOf rejects)
-      (record { old = (old, before); new = (new, after); returned = answer })
-  filled (Ok found) old new before after code answer how holds rejected same zeros kept = (
-    λ ok. (subst Holds (sym how.1) holds, zeros how.0),
-    λ bad. absurd (bad (same ∙ how.0)),
-  )
-  filled (Err e) old new before after code answer how holds rejected same zeros kept = (
-    λ ok. absurd (code_is_not_zero e (sym how.0 ∙ sym same ∙ ok)),
-    λ bad. (
-      (e, rejected, same ∙ how.0),
-      λ i. (how.1 i, kept (λ zero. code_is_not_zero e (sym how.0 ∙ zero)) i),
-    ),
-  )
 
 -- ---- the attributes so far
 

@@ -1,2 +1,3 @@
 -- Definitions that only the contracts of private functions use.
+pub mod Headers
 pub mod Rows

@@ -5,11 +5,10 @@
 //! has the code 0.
 
 ghost use Rattle.std.specs.Prelude.{◌≡◌, ◌≢◌, ℕ, [], drop, Err, IfErr, IfOk, None, Ok, Option};
-ghost use Rattle.std.specs.Prelude.{Some, length};
+ghost use Rattle.std.specs.Prelude.{Some};
 ghost use Rattle.std.specs.Option.{option_or};
 ghost use Rattle.netlink_core.specs.Errors.{map_ok};
 ghost use Rattle.netlink_core.specs.Walk.{buffered_attribute};
-ghost use Rattle.sockdiag_c.specs.Answers.{padded_or_truncated};
 ghost use Rattle.sockdiag_c.specs.Details.{optional_number, text_parts};
 ghost use Rattle.sockdiag_c.specs.Family.{AreDetailsOf, HasHeaderAndValuesOf, SplitsWithError};
 ghost use Rattle.sockdiag_c.specs.Family.{Family};
@@ -20,7 +19,7 @@ ghost use Rattle.sockdiag_c.specs.Family.{first_error};
 ghost use Rattle.sockdiag_c.specs.private.Rows.{AddsParts};
 
 use crate::lenient::{Errors, Rejections};
-use crate::results::{OK, copy_padded, store_parsed};
+use crate::results::{OK, copy_padded};
 use netlink_core::{DecodeError, NlaBuffer, NlasIterator};
 
 /// A number that a reply may contain.
@@ -101,7 +100,7 @@ impl<'a> Text<'a> {
 }
 
 /// The contents of replies about the sockets of one family, as a C struct.
-pub(crate) trait ReplyDetails<'a>: Copy {
+pub(crate) trait ReplyDetails<'a>: Copy + Default {
     /// A decoded attribute, borrowed.
     type Nla: Drop;
 
@@ -148,21 +147,34 @@ pub(crate) fn store_details<'a, T: ReplyDetails<'a>>(
       returned = result;
     } }
 {
-    let code = store_parsed(strict_details::<T>(payload), details);
-    clear_later(code, later)
+    match fill_details(payload, details) {
+        Ok(()) => {
+            copy_padded(&[], later);
+            OK
+        }
+        Err(error) => u32::from(error.number()),
+    }
 }
 
-/// Parses the reply, and returns its contents, or fails with its first error.
-pub(crate) fn strict_details<'a, T: ReplyDetails<'a>>(payload: &'a [u8]) -> Result<T, DecodeError>
-    ensures details { IfOk result (AreDetailsOf T.family payload.entry.now) }
+/// Stores the contents of the reply in the details. Fails with the first error of the reply; then
+/// nothing is stored.
+pub(crate) fn fill_details<'a, T: ReplyDetails<'a>>(
+    payload: &'a [u8],
+    details: &mut T,
+) -> Result<(), DecodeError>
+    ensures details { IfOk result (λ done. AreDetailsOf T.family payload.entry.now details.new) }
     ensures error { IfErr result (IsFirstError T.family payload.entry.now) }
+    ensures unchanged { IfErr result (λ e. details.new ≡ details.old) }
 {
-    let (mut details, attributes) = T::parse_header(payload)?;
+    let (mut found, attributes) = T::parse_header(payload)?;
     let mut errors = Errors::default();
-    set_values(attributes, &mut details, &mut errors);
+    set_values(attributes, &mut found, &mut errors);
     match errors.first {
         Some(error) => Err(error),
-        None => Ok(details),
+        None => {
+            *details = found;
+            Ok(())
+        }
     }
 }
 
@@ -192,20 +204,6 @@ pub(crate) fn store_lenient_details<'a, T: ReplyDetails<'a>>(
     *rejections = errors.rejections;
     copy_padded(&[], later);
     OK
-}
-
-// Stores the fields of later versions, of which the library knows none, if the code is that of
-// success. Returns the code.
-#[inline(always)]
-fn clear_later(code: u32, later: &mut [u8]) -> u32
-    ensures code { result ≡ code }
-    ensures zeros { code ≡ 0 → later.new ≡ padded_or_truncated (length later.old) [] }
-    ensures unchanged { code ≢ 0 → later.new ≡ later.old }
-{
-    if code == OK {
-        copy_padded(&[], later);
-    }
-    code
 }
 
 // Reads each attribute up to a framing error. Sets the fields of the valid ones, unless they are

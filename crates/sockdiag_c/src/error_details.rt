@@ -17,7 +17,7 @@ ghost use Rattle.sockdiag_c.specs.ExplainedReplies.{IsErrorExplained, IsReplyExp
 ghost use Rattle.sockdiag_c.specs.ErrorDetails.{record_code, record_family, record_kind};
 ghost use Rattle.sockdiag_c.specs.Family.{AreDetailsOf, IsFirstError};
 
-use crate::details::{Number, ReplyDetails, strict_details};
+use crate::details::{Number, ReplyDetails, fill_details};
 use crate::error_offsets::error_offset;
 use crate::netlink_details::NetlinkDetails;
 use crate::packet_details::PacketDetails;
@@ -254,7 +254,7 @@ fn explain_details<'a, T: ReplyDetails<'a>>(payload: &'a [u8], error: &mut Error
         (IsFirstError T.family payload.entry.now)
         record { old = error.old; new = error.new; returned = result } }
 {
-    explain(strict_details::<T>(payload), error)
+    explain(fill_details(payload, &mut T::default()), error)
 }
 
 // Explains the first error of the payload of a message.

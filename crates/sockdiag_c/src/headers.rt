@@ -1,11 +1,13 @@
 //! The headers of replies, as C structs.
 
-ghost use Rattle.std.specs.Prelude.{◌≡◌, ◌≤◌, length};
+ghost use Rattle.std.specs.Prelude.{◌≡◌, ◌+◌, ◌≤◌, Ok, length};
+ghost use Rattle.netlink_core.specs.Layout.{parse_record};
+ghost use Rattle.sock_diag_records.specs.InetResponse.{inet_response_header};
 ghost use Rattle.sock_diag_extras.specs.AnyHeader.{timer_at};
 ghost use Rattle.sockdiag_c.specs.Headers.{address_octets_of, inet_header_of, unix_header_of};
+ghost use Rattle.sockdiag_c.specs.private.Headers.{HasAddressAt};
 
-use byteorder::{BigEndian, ByteOrder};
-use netlink_packet_sock_diag::inet::{INET_RESPONSE_HEADER_LEN, InetResponseHeader};
+use netlink_packet_sock_diag::inet::InetResponseHeader;
 use netlink_packet_sock_diag::unix::UnixResponseHeader;
 use sock_diag_extras::any::RawTimer;
 use std::net::IpAddr;
@@ -95,6 +97,12 @@ pub(crate) const UNIX: u32 = 1;
 /// Kind of a reply about an IPv4 or IPv6 socket.
 pub(crate) const INET: u32 = 2;
 
+// Offset of the local address in the header of a reply (`idiag_src`).
+const SOURCE_ADDRESS: usize = 8;
+
+// Offset of the remote address in the header of a reply (`idiag_dst`).
+const DESTINATION_ADDRESS: usize = 24;
+
 impl From<UnixResponseHeader> for UnixHeader {
     ghost from_gives = { λ header found. found ≡ unix_header_of header };
 
@@ -109,10 +117,10 @@ impl From<UnixResponseHeader> for UnixHeader {
     }
 }
 
-/// Returns the struct of a header, with its timer as the kernel sends it. The payload begins with
-/// the header.
+/// Returns the struct of the header that the payload begins with, with its timer as the kernel
+/// sends it.
 pub(crate) fn inet_header(payload: &[u8], header: InetResponseHeader) -> InetHeader
-    requires { INET_RESPONSE_HEADER_LEN ≤ length payload.now }
+    requires { parse_record inet_response_header tt payload.now ≡ Ok header }
     ensures { result ≡ inet_header_of (timer_at payload.now) header }
 {
     let id = header.socket_id;
@@ -126,8 +134,8 @@ pub(crate) fn inet_header(payload: &[u8], header: InetResponseHeader) -> InetHea
         expires: timer.expires,
         source_port: id.source_port,
         destination_port: id.destination_port,
-        source_address: address_octets(id.source_address),
-        destination_address: address_octets(id.destination_address),
+        source_address: address_octets(payload, SOURCE_ADDRESS, id.source_address),
+        destination_address: address_octets(payload, DESTINATION_ADDRESS, id.destination_address),
         interface_id: id.interface_id,
         cookie,
         recv_queue: header.recv_queue,
@@ -137,15 +145,18 @@ pub(crate) fn inet_header(payload: &[u8], header: InetResponseHeader) -> InetHea
     }
 }
 
-// Returns the 16 bytes of an address field, in network byte order. An IPv4 address is followed by
-// twelve zeros.
-fn address_octets(address: IpAddr) -> [u8; 16]
+// Returns the 16 bytes of an address field, in network byte order: those of the payload at this
+// offset. An IPv4 address is followed by twelve zeros, whatever the payload has there.
+fn address_octets(payload: &[u8], offset: usize, address: IpAddr) -> [u8; 16]
+    requires within { offset + 16 ≤ length payload.now }
+    requires address { HasAddressAt offset payload.now address }
     ensures { result ≡ address_octets_of address }
 {
+    let field = &payload[offset..offset + 16];
     let mut octets = [0; 16];
     match address {
-        IpAddr::V4(ip) => octets[..4].copy_from_slice(&ip.octets()),
-        IpAddr::V6(ip) => BigEndian::write_u16_into(&ip.segments(), &mut octets),
+        IpAddr::V4(_) => octets[..4].copy_from_slice(&field[..4]),
+        IpAddr::V6(_) => octets.copy_from_slice(field),
     }
     octets
 }

@@ -1,5 +1,4 @@
-use Rattle.std.proofs.Common.{inl, refl}
-use Rattle.sock_diag_replies.specs.laws.InetResponseSpec.{inet_header_bytes_suffice}
+use Rattle.std.proofs.Common.{◌∙◌, Ok, ap, inl, refl, sym}
 use Rattle.netlink_packet_sock_diag.specs.MessageViewModel.{message_view_model}
 use Rattle.sockdiag_c.proofs.check.sockdiag_check_message.Goals as goal
 
@@ -35,4 +34,4 @@ pub inet_header-reply-requires : goal.inet_header-reply-requires
 inet_header-reply-requires c =
     let read = c.in-Ok-InetResponse in
     let value = rw read.field-0-is at read.ensures.value in
-    inet_header_bytes_suffice _ _ value.1.0
+    value.1.0 ∙ ap Ok (sym c.header-in-Ok-InetResponse.ensures)

@@ -3,5 +3,5 @@ use Rattle.sockdiag_c.proofs.error_details.explain_details.Goals as goal
 
 pub returns : goal.returns
 returns g c =
-    explained _ _ (λ d. d) c.strict_details.result _ _ _ c.explain.ensures
-    c.strict_details.ensures.details c.strict_details.ensures.error
+    explained _ _ (λ done. c.fill_details.new.details) c.fill_details.result _ _ _ c.explain.ensures
+    c.fill_details.ensures.details c.fill_details.ensures.error
