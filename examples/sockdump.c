@@ -5,9 +5,9 @@
  *
  *     sockdump | sslist
  *
- * It needs no privileges and no module. With KIND, only sockets of these kinds are requested: unix,
- * tcp, udp, mptcp, raw, netlink, packet, vsock and xdp. A kernel without a kind answers ENOENT or
- * EINVAL. Such an answer is written only if KIND names the kind.
+ * It needs no privileges, and not the module nlmon. With KIND, only sockets of these kinds are
+ * requested: unix, tcp, udp, mptcp, raw, netlink, packet, vsock and xdp. A kernel without a kind
+ * answers ENOENT or EINVAL. Such an answer is written only if KIND names the kind.
  *
  * With FILTER, in the words of ss(8) that sockdiag.h describes, the kernel sends only the sockets
  * in its states, and of internet sockets only those that meet its conditions. If it has conditions,
