@@ -11,7 +11,8 @@ use std::time::Duration;
 
 use sockdiag::any::{AnyHeader, InfoFormat, Rejected};
 use sockdiag::extras::constants::{INET_DIAG_REQ_PROTOCOL, NLM_F_DUMP_INTR, NLM_F_MULTI};
-use sockdiag::families::netlink::{NetlinkRequest, NDIAG_PROTO_ALL};
+use sockdiag::families::netlink::{NetlinkRequest, NetlinkResponseHeader};
+use sockdiag::families::netlink::{NDIAG_PROTO_ALL, NETLINK_DIAG_GROUPS};
 use sockdiag::families::packet::PacketRequest;
 use sockdiag::families::vsock::VsockRequest;
 use sockdiag::filters::{RequestAttribute, RequestWithAttributes};
@@ -180,6 +181,79 @@ fn answer_by<T>(
     (result, requests.take())
 }
 
+/// Returns the answer to a dump request, as one datagram: the replies, and the end.
+fn dump_answer<I: NetlinkSerializable>(request: &[u8], port: u32, replies: Vec<I>) -> Vec<u8> {
+    let sequence_number = NetlinkHeader::from_prefix(request).unwrap().sequence_number;
+    let (flags, port_number) = (NLM_F_MULTI, port);
+    let end = NetlinkPayload::Done(vec![0; 4]);
+    let mut datagram = Vec::new();
+    for payload in replies.into_iter().map(NetlinkPayload::InnerMessage).chain([end]) {
+        let header = NetlinkHeader { flags, sequence_number, port_number, ..Default::default() };
+        let mut message = NetlinkMessage::new(header, payload);
+        assert!(message.is_writable());
+        message.finalize();
+        let start = datagram.len();
+        datagram.resize(start + padded(message.buffer_len()), 0);
+        message.serialize(&mut datagram[start..]);
+    }
+    datagram
+}
+
+/// A reply about a socket of any family, as bytes.
+#[derive(PartialEq)]
+struct Payload(Vec<u8>);
+
+impl HasCodec for Payload {
+    type Param = u16;
+}
+
+impl NetlinkSerializable for Payload {
+    fn is_writable(&self) -> bool {
+        true
+    }
+
+    fn message_type(&self) -> u16 {
+        SOCK_DIAG_BY_FAMILY
+    }
+
+    fn buffer_len(&self) -> usize {
+        self.0.len()
+    }
+
+    fn serialize(&self, buffer: &mut [u8]) {
+        buffer[..self.0.len()].copy_from_slice(&self.0);
+    }
+}
+
+/// A socket of a test double that writes its answers by `dump_answer`.
+struct Writing<F> {
+    answer: F,
+    datagram: Vec<u8>,
+}
+
+impl<F: FnMut(&[u8]) -> Vec<u8>> Connection for Writing<F> {
+    fn port_number(&self) -> u32 {
+        PORT
+    }
+
+    fn send(&mut self, message: &[u8]) -> io::Result<()> {
+        self.datagram = (self.answer)(message);
+        Ok(())
+    }
+
+    fn receive(&mut self, buffer: &mut [u8]) -> io::Result<usize> {
+        buffer[..self.datagram.len()].copy_from_slice(&self.datagram);
+        Ok(self.datagram.len())
+    }
+}
+
+/// Returns the payloads of a dump that is answered by this function.
+fn written(answer: fn(&[u8]) -> Vec<u8>) -> Vec<Vec<u8>> {
+    let open = || Ok(Writing { answer, datagram: Vec::new() });
+    let answer = Kernel::with(open).dump(&unix_request()).unwrap();
+    payloads(&answer).into_iter().map(<[u8]>::to_vec).collect()
+}
+
 /// Requests a dump. Checks that each attempt has another sequence number and otherwise the same
 /// request, and the flags of the request.
 fn dump(sockets: &[&[Step]]) -> Result<Answer, Incomplete> {
@@ -234,6 +308,37 @@ fn replies_of_two_datagrams() {
     let error = reader.feed(answer.as_bytes()).unwrap_err();
     assert_eq!(error, DumpError::Fault(answer.messages().nth(1).unwrap().unwrap_err()));
     assert_eq!(reader.messages().len(), 1);
+}
+
+#[test]
+fn an_answer_of_unix_sockets_is_written() {
+    let replies = written(|request| {
+        let header = UnixResponseHeader::from_prefix(&UNIX).unwrap();
+        let name = unix::nlas::UnixDiagName::Pathname(b"/a".to_vec());
+        let nlas = [unix::nlas::Nla::Name(name)].into();
+        let named = UnixResponse { header: header.clone(), nlas };
+        let bare = UnixResponse { header, nlas: SmallVec::new() };
+        let replies = [named, bare].map(|it| SockDiagMessage::UnixResponse(Box::new(it)));
+        dump_answer(request, PORT, replies.into())
+    });
+    assert_eq!(replies, [[&UNIX[..], &[7, 0, 0, 0], b"/a\0\0"].concat(), UNIX.to_vec()]);
+}
+
+#[test]
+fn an_answer_of_netlink_sockets_is_written() {
+    let replies = written(|request| {
+        let header = NetlinkResponseHeader { kind: 3, state: 7, ..Default::default() };
+        let nlas = [DefaultNla::new(NETLINK_DIAG_GROUPS, vec![2, 0, 0, 0])];
+        let mut reply = write_new(&header).unwrap();
+        let start = reply.len();
+        reply.resize(start + nlas_len(&nlas), 0);
+        emit_nlas(&nlas, &mut reply[start..]);
+        // The length of the first one is not a multiple of 4.
+        dump_answer(request, PORT, vec![Payload(reply[..27].to_vec()), Payload(reply)])
+    });
+    let header = [&[16, 3, 0, 7][..], &[0; 24]].concat();
+    let groups = [8, 0, 1, 0, 2, 0, 0, 0];
+    assert_eq!(replies, [header[..27].to_vec(), [&header[..], &groups].concat()]);
 }
 
 #[test]
