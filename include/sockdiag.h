@@ -327,8 +327,8 @@ enum sockdiag_unix_attribute {
 };
 
 /*
- * Kinds of attributes in replies about IPv4 and IPv6 sockets. A request selects those up to 8 by
- * its field extensions. The kernel sends some others unasked.
+ * Kinds of attributes in replies about IPv4 and IPv6 sockets. A request selects some by its
+ * field extensions. The kernel sends some others unasked.
  */
 enum sockdiag_inet_attribute {
     SOCKDIAG_INET_DIAG_NONE = 0,             /* No attribute. */

@@ -4,8 +4,9 @@
 - The header has the doc comments of the source, whole, or their first paragraphs: of each struct,
   field, function, constant, option, record and error. Code in its comments is that of functions of
   examples, whole.
-- The number of a version has the weights that the header states, and structs that can grow have
-  the sizes of version 1.0.
+- The number of a version has the weights that the header states, structs that can grow have the
+  sizes of version 1.0, and the comment of an option has its bit.
+- tools/bindings reports what the template lacks.
 - With a C compiler, `$CC` or `cc`, it compiles the examples as C99 and as C++.
 
 It prints which of these parts it skips. tools/bindings writes the header. With the library,
@@ -91,6 +92,23 @@ def size_errors():
     return [] if found == SIZES_1_0 else [f"the sizes of version 1.0 are {found}"]
 
 
+def option_errors():
+    """Returns the options whose comment has not the bit of their number, as lines."""
+    found = []
+    for it in socket_options():
+        bit = re.search(r"bit (\d)( of the second byte)?", " ".join(it.doc))
+        if not bit or int(it.number) != 1 << int(bit[1]) << 8 * bool(bit[2]):
+            found.append(f"the comment of the option {it.name}, {it.number}: {it.doc}")
+    return found
+
+
+def missing_errors():
+    """Returns what tools/bindings does not report if the template lacks it, as lines."""
+    missing = runpy.run_path(str(TOP / "tools/bindings"))["Writer"]().missing()
+    return [f"a template without {it} is accepted" for it in ("sockdiag_version", "InetHeader")
+            if it not in missing]
+
+
 def version_errors():
     """Returns the errors of the number that tools/bindings makes of a version, as lines."""
     number = runpy.run_path(str(TOP / "tools/bindings"))["number_of"]("12.34.56")
@@ -132,7 +150,9 @@ def compile_c(compiler):
 
 
 def main():
-    if errors := comment_errors() + code_errors() + version_errors() + size_errors():
+    errors = comment_errors() + code_errors() + option_errors() + missing_errors()
+    errors += version_errors() + size_errors()
+    if errors:
         print(*errors, "tests/bindings.py: failed", sep="\n")
         return 1
     compiler = os.environ.get("CC", "cc")

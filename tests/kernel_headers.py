@@ -6,7 +6,8 @@ of the Rust struct. A C program prints the size of the kernel's struct, and the 
 of each of its members. The fields of `tcp_info` and `mptcp_info`, the bits of `inet_diag_sockopt`
 and the public constants are compared in the same way. The installed headers may be those of a
 kernel before KNOWN, and lack some of these: the last line but one of the output lists them. All
-fields of the two structs, which grow, are also compared with NEWEST.
+fields of the two structs, which grow, are also compared with NEWEST. The offsets in comments of
+the C header are compared with both.
 
 The exit status is 1 if anything differs, if headers lack what they must have, or if RECORDS and the
 layouts of specs/ do not have the same names and members. Without gcc or without the headers the
@@ -24,6 +25,7 @@ from pathlib import Path
 NAMING = """netlink_core sock_diag_records sock_diag_families sock_diag_extras
     sock_diag_examples""".split()
 CRATES = Path(__file__).resolve().parent.parent / "crates"
+HEADER = CRATES.parent / "include/sockdiag.h"
 INCLUDED = Path("/usr/include/linux/inet_diag.h")
 HEADERS = """stdio.h stddef.h sys/socket.h netinet/in.h linux/netlink.h linux/sock_diag.h
     linux/inet_diag.h linux/unix_diag.h linux/netlink_diag.h linux/packet_diag.h
@@ -275,6 +277,33 @@ def questions(version):
             yield c_name(name), int(value, 0)
 
 
+def about_comments():
+    """Yields the questions about offsets in the comments of the C header, each with the number that
+    the comment has, for each word before it in the sentence that may be a member of the struct or
+    a constant. Most words are none, and are not answered. A comment with two numbers is left
+    out."""
+    text = HEADER.read_text(encoding="utf-8")
+    for comment, body in re.findall(r"/\*((?:(?!\*/)[^{])*)\*/\nstruct \w+ \{\n([^}]*)\}", text):
+        structs = {"mptcp_info", *(it for _, it, _ in RECORDS)} & {*re.findall(r"\w+", comment)}
+        for doc in re.findall(r"(?s)/\*(.*?)\*/", body):
+            before, *after = re.split(r"\bat (?:offset )?(?=\d)", " ".join(doc.split()))
+            if len(after) != 1:
+                continue
+            before, offset = before.split(". ")[-1], int(re.match(r"\d+", after[0])[0])
+            yield from ((f"4 * {it}", offset) for it in re.findall(r"SK_MEMINFO_\w+", before))
+            yield from ((f"START({struct}, {inside}{it})", offset) for struct in structs
+                        for it in re.findall(r"\b[a-z]\w\w+", before) for inside in ("", "id."))
+
+
+def comment_errors():
+    """Returns how many offsets in comments are compared, and those that the headers do not have."""
+    asked = [*about_comments()]
+    unique = dict.fromkeys(one for one, _ in asked)
+    found = answers(INCLUDES, unique) | answers(NEWEST, unique)
+    return len(found), [f"{one}: {found[one]} in the headers, {ours} in a comment of the C header"
+                        for one, ours in asked if found.get(one, ours) != ours]
+
+
 def answers(included, asked):
     """Returns the answer of the C text `included` to each question, except those that do not
     compile."""
@@ -363,6 +392,8 @@ def main():
     version = (code >> 16, code >> 8 & 255)
     count, wrong, lacking = compare(INCLUDES, version, [*questions(version)])
     wrong += [f"{it}: missing from RECORDS" for it in LAYOUTS - {table for table, _, _ in RECORDS}]
+    in_comments, errors = comment_errors()
+    count, wrong = count + in_comments, wrong + errors
     grow = [it for it in questions(KNOWN) if re.search(r"\((?:mp)?tcp_info,", it[0])]
     wrong += compare(NEWEST, KNOWN, grow)[1]
     print(*wrong, sep="\n", end="\n" * bool(wrong))
