@@ -46,7 +46,8 @@
  * hexadecimal digits, and answered by the error number FAKE_KERNEL_DESTROY, or else by 0. With
  * FAKE_KERNEL_DESTROY_FIRST only the first one is answered so, and the others by 0. With
  * FAKE_KERNEL_DESTROY_STALE the answer to another request precedes, and with
- * FAKE_KERNEL_DESTROY_ENDS the answer is an NLMSG_DONE.
+ * FAKE_KERNEL_DESTROY_ENDS the answer is an NLMSG_DONE. With FAKE_KERNEL_DESTROY_DENIES it is not
+ * sent, with EPERM.
  *
  * If FAKE_KERNEL_DELAY is a number, each send takes so many milliseconds.
  *
@@ -199,6 +200,10 @@ ssize_t send(int fd, const void *bytes, size_t length, int flags) {
     (void)fd;
     (void)flags;
     if (is_interrupted() || !has_connected())
+        return -1;
+    errno = EPERM;
+    if (((const uint8_t *)bytes)[4] == SOCKDIAG_SOCK_DESTROY
+        && getenv("FAKE_KERNEL_DESTROY_DENIES") != NULL)
         return -1;
     poll(NULL, 0, (int)variable("FAKE_KERNEL_DELAY"));
     memcpy(previous, request, sizeof previous);

@@ -482,6 +482,7 @@ def shown_sockets(inode):
         *(("packet", struct.pack("<BBHIQ", 17, 3, number, 6, 4)
            + attribute(0, struct.pack("<6I", 1, 0, 0, 0, 0, 0)), f"{protocol}:lo *")
           for number, protocol in ((1, "{1=802_3}"), (3, "*"), (22, "{22=control}"), (0, "0"),
+                                   (0x8892, "{34962=profinet}"), (0x88a4, "{34980=ethercat}"),
                                    (0x88cc, "{35020=LLDP}"), (0xffff, "65535"))),
         ("xdp", struct.pack("<BBHIQ", 44, 3, 0, 7, 5) + attribute(1, struct.pack("<2I", 1, 22)),
          "lo:22 *"),
@@ -535,18 +536,24 @@ def test_table(runs):
             compare(name, runs.end("-a", name), runs.end(f"-a{letter}"))
 
 
+# Fields of struct tcp_info by their offsets: names and units, most of which are times and rates.
+UNITS = {8: "rto us", 12: "ato us", 44: "lastsnd ms", 52: "lastrcv ms", 56: "lastack ms",
+         68: "rtt us", 72: "rttvar us", 80: "cwnd", 92: "rcv_rtt us", 104: "pacing_rate B/s",
+         112: "max_pacing_rate B/s", 148: "minrtt us", 160: "delivery_rate B/s", 168: "busy us",
+         176: "rwnd_limited us", 184: "sndbuf_limited us", 244: "total_rto_time ms"}
+
+
 def test_units(runs):
     """Times and rates of a TCP connection have units."""
-    numbers = {8: 204000, 44: 480, 68: 29, 72: 16, 80: 10, 104: 7}
-    info = b"".join(struct.pack("<I", numbers.get(it, 0)) for it in range(0, 232, 4))
+    info = b"".join(struct.pack("<I", it if it in UNITS else 0) for it in range(0, 248, 4))
     bbr = struct.pack("<5I", 9, 0, 31, 739, 739)
     runs.record(*dump("tcp", inet_reply(FAR, FAR) + attribute(2, info) + attribute(16, bbr)))
+    expected = [f"{text.partition(' ')[0]}:{at}{text.partition(' ')[2]}"
+                for at, text in UNITS.items()]
     for arguments in (["-tinH"], ["-tinHO"]):
         status, table, errors = runs.end(*arguments)
         compare(f"{arguments}", (status, errors, table.split()[8:]), (0, "", [
-            "rto:204000us", "lastsnd:480ms", "rtt:29us", "rttvar:16us", "cwnd:10",
-            "pacing_rate:7B/s",
-            "bbr:(bw:9B/s,mrtt:31us,pacing_gain:739/256,cwnd_gain:739/256)"]))
+            *expected, "bbr:(bw:9B/s,mrtt:31us,pacing_gain:739/256,cwnd_gain:739/256)"]))
 
 
 def test_both_versions(runs):
@@ -683,7 +690,7 @@ def test_summary(runs):
 
 # Names of processes: the bytes, what the table shows, and the member of JSON.
 NAMES = [
-    (b"a b", "a b", {"name": "a b"}),
+    (b"a b!~", "a b!~", {"name": "a b!~"}),
     (b'"\\\t\x1b', r"\x22\x5c\x09\x1b", {"name": '"\\\t\x1b'}),
     (b"a\n", r"a\x0a", {"name": "a\n"}),
     ("ä猫".encode(), r"\xc3\xa4\xe7\x8c\xab", {"name": "ä猫"}),
@@ -855,6 +862,8 @@ def test_close_errors(runs):
     for name, more, status, error in (
         ("FIRST", {"FAKE_KERNEL_DESTROY": "-1"}, 1, refusal), ("STALE", {}, 0, ""),
         ("ENDS", {}, 1, "".join(f"socklist: not closed: {it}: Protocol error\n" for it in ends)),
+        ("DENIES", {}, 1, "".join(f"socklist: not closed: {it}: Operation not permitted\n"
+                                  for it in ends)),
     ):
         more |= {"FAKE_KERNEL_CLOSED": str(log), f"FAKE_KERNEL_DESTROY_{name}": "1"}
         compare(name, runs.end(*kill, env=runs.kernel(file, **more))[::2], (status, error))
@@ -876,6 +885,14 @@ def test_close_errors(runs):
     found = runs.end(*kill, env=os.environ | {"LD_PRELOAD": runs.library,
                                               "FAKE_KERNEL_CLOSED": str(log)})
     assert found[0] == 1 and found[2].endswith(error) and not log.read_text(), found
+    # An object without a member that sslist writes.
+    for member in ("family", "sport", "dport", "if", "src", "dst", "cookie"):
+        runs.use(sockdump=f"exec cat {runs.folder}/capture",
+                 sslist=f"""{real} "$@" | sed 's/,"{member}":/,"no":/'""")
+        found = runs.end(*kill, env=os.environ | {"LD_PRELOAD": runs.library,
+                                                  "FAKE_KERNEL_CLOSED": str(log)})
+        assert found[0] == 1 and found[2].startswith("socklist: not a TCP or UDP socket: {") and (
+            found[2].endswith(error) and not log.read_text()), f"{member}: {found}"
 
 
 def test_fresh(runs):
@@ -892,8 +909,9 @@ def test_fresh(runs):
 
 
 def test_many(runs):
-    """Few descriptors suffice for many hosts and processes. If valgrind is installed, each host
-    leaves only its address and its name in memory, and no other memory is accessed."""
+    """Few descriptors suffice for many hosts, processes and netlink sockets. If valgrind is
+    installed, each host leaves only its address and its name in memory, and no other memory is
+    accessed."""
     runs.record(*dump("tcp", *(inet_reply((f"192.0.2.{it}", 22), FAR) for it in range(10, 40))))
     with hosts(runs):
         expected = runs.end("-tanH", "--resolve")
@@ -911,6 +929,11 @@ def test_many(runs):
         expected = runs.end("-aHp")
         assert "users:" in expected[1] and expected[0] == 0, expected
         compare("processes", runs.end("-aHp", preexec_fn=with_descriptors(20)), expected)
+    runs.record(*dump("netlink", *30 * [
+        struct.pack("<4B4IQ", 16, 3, 0, 7, os.getpid(), 0, 0, 5, 3)]))
+    expected = runs.end("-aH")
+    assert expected[0] == 0 and expected[1].count(f":{own_name()}/") == 30, expected
+    compare("netlink", runs.end("-aH", preexec_fn=with_descriptors(20)), expected)
 
 
 def test_killed(runs):
@@ -1014,6 +1037,13 @@ def test_programs(runs):
             found = runs.end()
             is_right = found[0] == status and error in found[2]
             assert is_right, f"{name}: {script}: {found}, expected {status} {error}"
+    runs.use(sockdump="", sslist="exit 1")
+    compare("no summary", runs.end("-s"), (1, "", ""))
+    # It does not wait for a program whose output it no longer reads.
+    runs.use(sockdump="", sslist=f"echo line; exec sleep {2 * LIMIT}")
+    with open("/dev/full", "wb") as full:
+        compare("sslist continues", runs.end("--every=1", stdout=full),
+                (1, None, "socklist: standard output: No space left on device\n"))
 
 
 def main():
