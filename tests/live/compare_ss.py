@@ -156,7 +156,7 @@ def printed(words, **how):
 def listed(capture, options=()):
     """Returns the sockets that sslist lists with these options, by key and in order, its standard
     error and its exit status."""
-    run = subprocess.run([LISTER, "-H", *options, capture], capture_output=True, check=False)
+    run = subprocess.run([LISTER, "-H", capture, *options], capture_output=True, check=False)
     sockets, last = {}, None
     for line in run.stdout.decode("ascii").splitlines():
         if not line.startswith("\t"):
