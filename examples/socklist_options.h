@@ -432,13 +432,9 @@ static struct arguments lister_arguments(const struct options *options, const ch
     append_all(&made, &options->lister);
     if (option != NULL)
         append(&made, option);
-    if (options->has_timers)
+    /* The timer is the fewest details: it is left out if no details are requested. */
+    if (!options->has_details || options->has_timers)
         append(&made, "-o");
-    /* If no details are requested, those on the line of the socket are left out. */
-    if (!options->has_details) {
-        append(&made, "-e");
-        append(&made, "-O");
-    }
     append_families(options, &made);
     append_filter(lister_filter(options), &made);
     return made;

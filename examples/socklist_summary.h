@@ -56,8 +56,9 @@ static void count_line(struct summary *summary, const char *line) {
         return;
     protocol = find_protocol(&columns);
     summary->all += protocol != PROTOCOL_TCP;
+    /* An IPv6 address is in brackets, or `*`. */
     if (protocol < PROTOCOLS)
-        summary->inet[protocol][*columns.start[LOCAL] == '['] +=
+        summary->inet[protocol][strchr("[*", *columns.start[LOCAL]) != NULL] +=
             protocol != PROTOCOL_TCP || count_tcp(summary, &columns);
     for (index = 0; protocol == PROTOCOLS && index < OTHERS; index++)
         summary->others[index] += *line == others[index].letter;

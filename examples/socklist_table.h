@@ -19,7 +19,6 @@
 struct columns {
     const char *start[COLUMNS];
     size_t length[COLUMNS];
-    int is_for_both; /* The details say that an IPv6 socket also accepts IPv4. */
 };
 
 /* Splits a line. Returns whether it is the heading or a socket: it has all columns, and begins with
@@ -34,7 +33,6 @@ static int split(const char *line, struct columns *columns) {
         columns->length[index] = strcspn(line, " ");
         line += columns->length[index];
     }
-    columns->is_for_both = strstr(line, " v6only:0") != NULL;
     return columns->length[COLUMNS - 1] > 0;
 }
 
@@ -65,11 +63,13 @@ static void add_port(struct text *text, const struct names *names, size_t protoc
         add_bytes(text, port, length);
 }
 
-/* Adds an address, as the name of its host if it has one. That of all interfaces has none. */
+/* Adds an address, as the name of its host if it has one. Those of all interfaces have none: `*` of
+ * both IP versions, `[::]` of IPv6, and 0.0.0.0 of IPv4. */
 static void add_host(struct text *text, struct names *names, const char *address, size_t length) {
     const size_t brackets = *address == '[';
     const char *name = "";
-    if (names->has_hosts && strncmp(address, "[::]", 4) != 0 && strncmp(address, "0.0.0.0", 7) != 0)
+    if (names->has_hosts && *address != '*' && strncmp(address, "[::]", 4) != 0
+        && strncmp(address, "0.0.0.0", 7) != 0)
         name = find_host(names, address + brackets, length - 2 * brackets);
     if (*name != '\0')
         add_name(text, name);
@@ -77,20 +77,14 @@ static void add_host(struct text *text, struct names *names, const char *address
         add_bytes(text, address, length);
 }
 
-/* Adds an address of an IPv4 or IPv6 socket, by the index of its column: after a percent sign the
- * interface, and after the last colon the port. The address of all interfaces of both IP versions
- * is an asterisk, as in ss(8). */
-static void add_address(struct text *text, struct names *names, size_t protocol,
-                        const struct columns *columns, int index) {
-    const char *start = columns->start[index];
-    const size_t length = columns->length[index];
+/* Adds an address of an IPv4 or IPv6 socket: after a percent sign the interface, and after the last
+ * colon the port. */
+static void add_address(struct text *text, struct names *names, size_t protocol, const char *start,
+                        size_t length) {
     const char *percent = (const char *)memchr(start, '%', length);
     const char *colon = (const char *)memrchr(start, ':', length);
     const char *end = colon != NULL ? colon : start + length;
-    if (columns->is_for_both && begins(columns, index, "[::]"))
-        add_byte(text, '*');
-    else
-        add_host(text, names, start, (size_t)((percent != NULL ? percent : end) - start));
+    add_host(text, names, start, (size_t)((percent != NULL ? percent : end) - start));
     if (percent != NULL) {
         add_byte(text, '%');
         add_interface(text, names, percent + 1, (size_t)(end - percent - 1));
@@ -108,7 +102,7 @@ static void add_local(struct text *text, struct names *names, const struct colum
     const char *local = columns->start[LOCAL], *end = local + columns->length[LOCAL];
     const char *colon = (const char *)memrchr(local, ':', columns->length[LOCAL]);
     if (protocol < PROTOCOLS) {
-        add_address(text, names, protocol, columns, LOCAL);
+        add_address(text, names, protocol, local, columns->length[LOCAL]);
     } else if (colon != NULL && begins(columns, NETID, "p_")) {
         add_ethertype(text, names, local, (size_t)(colon - local));
         add_byte(text, ':');
@@ -150,7 +144,7 @@ static void add_row(struct text *text, struct names *names, const struct process
         pad(text, start);
     peer = text->length;
     if (protocol < PROTOCOLS)
-        add_address(text, names, protocol, columns, PEER);
+        add_address(text, names, protocol, columns->start[PEER], columns->length[PEER]);
     else
         add_bytes(text, columns->start[PEER], columns->length[PEER]);
     if (processes != NULL)
@@ -192,10 +186,6 @@ static int add_line(struct text *text, int has_details, struct names *names,
             add_details(text, line);
         return has_details || *line != '\t';
     }
-    /* The details are on this line, although they are not shown. As in ss(8), a socket is for both
-     * if they do not say that it is for IPv6 only. */
-    if (!has_details)
-        columns.is_for_both = strstr(columns.start[PEER], " v6only:1") == NULL;
     add_bytes(text, line, (size_t)(columns.start[LOCAL] - line));
     add_row(text, names, processes, &columns);
     if (has_details)

@@ -775,6 +775,28 @@ def sockets_by_address():
 
 
 @table
+def unspecified_addresses():
+    """The address `::` is `*`, unless the first valid INET_DIAG_SKV6ONLY of the reply is not 0. JSON
+    has the address. 0.0.0.0 has no other form."""
+    peer = INET6.replace("20010db80000000000000000000000ff", ZEROS[:32])
+    both = peer.replace("fe800000000000000000000000000001", ZEROS[:32])
+    for reply, values, local, remote in (
+        (both, [], "*%3:22", "*:40000"), (both, ["00"], "*%3:22", "*:40000"),
+        (both, ["01"], "[::]%3:22", "[::]:40000"), (both, ["02"], "[::]%3:22", "[::]:40000"),
+        (both, ["00", "01"], "*%3:22", "*:40000"), (both, ["01", "00"], "[::]%3:22", "[::]:40000"),
+        (both, ["0101", "00", "01"], "*%3:22", "*:40000"),
+        (both, ["", "01", "00"], "[::]%3:22", "[::]:40000"),
+        (peer, ["00"], "[fe80::1]%3:22", "*:40000"), (peer, ["01"], "[fe80::1]%3:22", "[::]:40000"),
+    ):
+        capture = listed(with_attributes(reply, *((11, it) for it in values)))
+        yield capture, "-oO", [cells(f"inet6 TIME-WAIT 0 0 0 1000 {local} {remote}"),
+                               " timer:(timewait,0ms,0)\n"]
+        yield capture, "", {"src": "::" if reply == both else "fe80::1", "dst": "::"}
+    capture = listed(with_attributes(INET4.replace("c0000201", "00000000"), (11, "00")))
+    yield capture, "-oO", [cells("inet ESTAB 0 0 5 1000 0.0.0.0:22 192.0.2.2:40000"), "\n"]
+
+
+@table
 def requests():
     """Lines of requests, with times in microseconds and nanoseconds, and none in a simple packet. A
     block of an unknown type is skipped."""

@@ -41,7 +41,7 @@ LISTENING = "state listening state closed"
 WAITING = "exclude listening exclude bucket"
 CONNECTED = f"{WAITING} exclude closed"
 # The details that sslist writes if none are requested.
-FEW = ["-e", "-O"]
+FEW = ["-o"]
 # Arguments, those that sockdump and sslist get, the filter that both get after --, and conditions
 # after it that only sockdump gets.
 ARGUMENTS = [
@@ -557,11 +557,12 @@ def test_units(runs):
 
 
 def test_both_versions(runs):
-    """The address of all interfaces is an asterisk if an IPv6 socket also accepts IPv4."""
+    """The address of all interfaces is an asterisk if an IPv6 socket also accepts IPv4, with any
+    options."""
     sockets = ((81, 0, b"\0"), (82, 0, b"\1"), (83, 1, b"\0"))
     runs.record(*dump("tcp", *(inet_reply(("::", port), ("::", 0), 10, interface)
                                + attribute(11, only) for port, interface, only in sockets)))
-    for arguments in (["-tanH"], ["-tlnpH"], ["-taneOH"]):
+    for arguments in (["-tanH"], ["-tlnpH"], *([f"-tan{it}OH"] for it in "omie")):
         status, table, errors = runs.end(*arguments)
         compare(f"{arguments}", (status, errors, [it.split()[6:8] for it in table.splitlines()]),
                 (0, "", [["*:81", "*:*"], ["[::]:82", "[::]:*"], ["*%lo:83", "*:*"]]))
@@ -649,7 +650,7 @@ COUNTED = [
         (11, 0), (11, 10))),
     *(("tcp", inet_reply(("::1", 1), ("::1", 1), state)) for state in (1, 6)),
     ("udp", inet_reply(("127.0.0.1", 1), FAR)),
-    *(("udp", inet_reply(("::1", 1), ("::", 0), 7)) for _ in range(2)),
+    *(("udp", inet_reply((it, 1), ("::", 0), 7)) for it in ("::1", "::")),
     ("mptcp", inet_reply(("127.0.0.1", 1), FAR)), ("raw", inet_reply(("127.0.0.1", 1), FAR)),
     *(("unix", struct.pack("<BBBBIQ", 1, kind, 1, 0, 7, 2)) for kind in (1, 2, 5, 9)),
     ("netlink", struct.pack("<4B4IQ", 16, 3, 0, 7, 0, 0, 0, 5, 3)),

@@ -185,7 +185,7 @@ def end(text, netid):
     queue = re.fullmatch(r"(\w+):q(\d+)", text)
     if queue:
         return f"{socket.if_nametoindex(queue[1])}:{queue[2]}"
-    return text if netid.startswith("v_") else re.sub(r"^\*:", "[::]:", re.sub(r"%\w+", "", text))
+    return text if netid.startswith("v_") else re.sub(r"%\w+", "", text)
 
 
 def shown(line):

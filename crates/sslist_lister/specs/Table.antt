@@ -1,7 +1,8 @@
 -- Lines of the table for UNIX, IPv4 and IPv6 sockets. `s` is what a reply has in its attributes.
 use Rattle.std.specs.Prelude.{ℕ, ◌==◌, nat_lt, if◌then◌else◌, ◌&&◌, Bool, List, [], ◌∷◌, ◌++◌}
 use Rattle.std.specs.Prelude.{length, codes, Option, None, Some, slice_index, option_map, drop}
-use Rattle.std.specs.Prelude.{◌||◌, option_and_then}
+use Rattle.std.specs.Prelude.{◌||◌, false, option_and_then}
+use Rattle.std.specs.Option.{option_map_or}
 use Rattle.sslist_lister.specs.texts.Cells.{FirstColumns, endpoint, first_columns, number_or_star}
 use Rattle.sslist_lister.specs.texts.Cells.{state_name, table_line}
 use Rattle.sslist_lister.specs.texts.Widths.{name_column}
@@ -12,6 +13,7 @@ use Rattle.sslist_lister.specs.declared.command_line.options.TheConstants.{IPPRO
 use Rattle.sslist_lister.specs.declared.command_line.options.TheConstants.{IPPROTO_TCP, IPPROTO_UDP}
 use Rattle.sock_diag_records.specs.declared.unix.response.UnixResponseHeader.{UnixResponseHeader}
 use Rattle.sock_diag_records.specs.declared.constants.TheConstants.{AF_INET6, IPPROTO_DCCP}
+use Rattle.sock_diag_records.specs.declared.constants.TheConstants.{INET_DIAG_SKV6ONLY}
 use Rattle.sock_diag_records.specs.declared.constants.TheConstants.{IPPROTO_RAW, IPPROTO_SCTP}
 use Rattle.sock_diag_records.specs.declared.constants.TheConstants.{IPPROTO_UDPLITE, SOCK_DGRAM}
 use Rattle.sock_diag_records.specs.declared.constants.TheConstants.{SOCK_SEQPACKET, SOCK_STREAM}
@@ -28,6 +30,8 @@ use Rattle.sock_diag_extras.specs.declared.any.nla.Sockets.TheVariants.{Inet}
 use Rattle.sock_diag_extras.specs.declared.any.nla.InfoFormat.{InfoFormat}
 use Rattle.sock_diag_extras.specs.declared.any.nla.InfoFormat.TheVariants.{Mptcp, Sctp, Tcp}
 use Rattle.sock_diag_extras.specs.declared.any.nla.InfoFormat.TheVariants.{Unknown}
+use Rattle.sock_diag_extras.specs.AnyNla.{AnyValue}
+use Rattle.sock_diag_extras.specs.AnyNla as any
 use Rattle.sock_diag_extras.specs.AnyParts.{owner_of, peer_of, queue_lengths_of}
 use Rattle.sock_diag_extras.specs.AnyParts.{socket_name_of}
 use Rattle.sslist_lister.specs.Collected.{Summary, value_in}
@@ -130,14 +134,24 @@ inet_first_columns socket = record {
   uid = Some socket.header.uid;
 }
 
--- The columns of an IPv4 or IPv6 socket. The interface is shown after the local address only, so
--- the endpoint of the peer has NO_INTERFACE.
-abbrev pub inet_columns : InetSocket → List ℕ
-inet_columns socket =
+-- an attribute says that its socket is for IPv6 only
+abbrev pub says_v6_only : AnyValue → Bool
+says_v6_only (any.v6_only only) = only
+says_v6_only other = false
+
+-- a reply with the attributes `s` says that its socket is for IPv6 only: its first valid
+-- INET_DIAG_SKV6ONLY is not 0. False if it has none.
+abbrev pub is_v6_only : Summary → Bool
+is_v6_only s = option_map_or says_v6_only (value_in INET_DIAG_SKV6ONLY s) false
+
+-- `inet_columns socket s`: the columns of an IPv4 or IPv6 socket. The interface is shown after the
+-- local address only, so the endpoint of the peer has NO_INTERFACE.
+abbrev pub inet_columns : InetSocket → Summary → List ℕ
+inet_columns socket s =
     let id = socket.header.socket_id in
     table_line (inet_first_columns socket)
-    (endpoint id.source_address id.interface_id id.source_port)
-    (endpoint id.destination_address NO_INTERFACE id.destination_port)
+    (endpoint (is_v6_only s) id.source_address id.interface_id id.source_port)
+    (endpoint (is_v6_only s) id.destination_address NO_INTERFACE id.destination_port)
 
 -- `unix_lines o h s`: the lines of a UNIX socket: the columns, the details and a line feed (10)
 abbrev pub unix_lines : Options → UnixResponseHeader → Summary → List ℕ
@@ -162,6 +176,6 @@ inet_sockets protocol is_association =
 -- feed (10)
 abbrev pub inet_lines : Options → InetSocket → Summary → List ℕ
 inet_lines o socket s =
-    inet_columns socket
+    inet_columns socket s
     ++ details_after_separator o (details o socket.timer socket.header.socket_id.cookie s)
     ++ 10 ∷ []

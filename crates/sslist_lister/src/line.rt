@@ -21,7 +21,8 @@ ghost use Rattle.sslist_lister.specs.JsonSockets.{inet_header_members, unix_head
 ghost use Rattle.sslist_lister.specs.Listing.{after_header, header_lines, inet_reply_lines};
 ghost use Rattle.sslist_lister.specs.Listing.{reply_error, reply_lines};
 ghost use Rattle.sslist_lister.specs.Table.{inet_columns, inet_first_columns, inet_lines};
-ghost use Rattle.sslist_lister.specs.Table.{inet_sockets, unix_columns, unix_first_columns};
+ghost use Rattle.sslist_lister.specs.Table.{inet_sockets, is_v6_only};
+ghost use Rattle.sslist_lister.specs.Table.{unix_columns, unix_first_columns};
 ghost use Rattle.sslist_lister.specs.Table.{unix_lines};
 ghost use Rattle.sslist_lister.specs.texts.CellsModel.{cells_model};
 
@@ -44,7 +45,9 @@ use netlink_core::DecodeError;
 use sock_diag_attributes::unix::nlas::NameView;
 use sock_diag_extras::any::{AnyHeader, AnyNla, InfoFormat, RawTimer, Sockets};
 use sock_diag_extras::constants::UNIX_DIAG_UID;
-use sock_diag_records::constants::{IPPROTO_SCTP, UNIX_DIAG_NAME, UNIX_DIAG_PEER, UNIX_DIAG_RQLEN};
+use sock_diag_records::constants::{
+    INET_DIAG_SKV6ONLY, IPPROTO_SCTP, UNIX_DIAG_NAME, UNIX_DIAG_PEER, UNIX_DIAG_RQLEN,
+};
 use sock_diag_records::inet::InetResponseHeader;
 use sock_diag_records::unix::UnixResponseHeader;
 use std::alloc::AllocError;
@@ -377,7 +380,7 @@ fn push_inet_lines(
     if options.json {
         return push_json(text, list, socket, found);
     }
-    push_inet_columns(text, socket)?;
+    push_inet_columns(text, socket, found)?;
     let cookie = &socket.header.socket_id.cookie;
     push_details(text, options, &socket.timer, cookie, found)?;
     Ok(text.push(b'\n')?)
@@ -398,25 +401,44 @@ fn inet_sockets(protocol: Option<u32>, is_association: bool) -> Sockets
     })
 }
 
-/// Appends the columns of an IPv4 or IPv6 socket.
-fn push_inet_columns(text: &mut Vec<u8>, socket: &InetSocket) -> Result<(), AllocError>
-    ensures { OnOk result (text.new.items ≡ text.old.items ++ inet_columns socket.now) }
+/// Appends the columns of an IPv4 or IPv6 socket with the attributes `found`.
+fn push_inet_columns(
+    text: &mut Vec<u8>,
+    socket: &InetSocket,
+    found: &Attributes<'_>,
+) -> Result<(), AllocError>
+    ensures { OnOk result (text.new.items ≡ text.old.items
+        ++ inet_columns socket.now (collected found.now)) }
 {
     push_first_columns(text, &inet_cells(socket))?;
     let id = &socket.header.socket_id;
+    let is_v6_only = is_v6_only(found);
     push_endpoint_column(
         text,
         LOCAL_WIDTH,
+        is_v6_only,
         id.source_address,
         id.interface_id,
         id.source_port,
     )?;
     push_endpoint(
         text,
+        is_v6_only,
         id.destination_address,
         NO_INTERFACE,
         id.destination_port,
     )
+}
+
+/// Returns whether a reply says that its socket is for IPv6 only: its first valid
+/// `INET_DIAG_SKV6ONLY` is not 0. Returns false if it has none, as if it were 0.
+fn is_v6_only(found: &Attributes<'_>) -> bool
+    ensures { result ≡ is_v6_only (collected found.now) }
+{
+    match found.value_of_kind(INET_DIAG_SKV6ONLY) {
+        Some(AnyNla::V6Only(only)) => *only,
+        _ => false,
+    }
 }
 
 /// Returns the first columns of an IPv4 or IPv6 socket.

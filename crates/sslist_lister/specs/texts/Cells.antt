@@ -1,9 +1,10 @@
 -- Cells of a line of the table. Texts are lists of ASCII codes.
-use Rattle.std.specs.Prelude.{ℕ, ◌==◌, if◌then◌else◌, List, [], ◌∷◌, ◌++◌, codes, decimal}
-use Rattle.std.specs.Prelude.{length, Option, slice_get, unwrap_or}
+use Rattle.std.specs.Prelude.{ℕ, ◌==◌, ◌&&◌, if◌then◌else◌, Bool, false, not, List, [], ◌∷◌, ◌++◌}
+use Rattle.std.specs.Prelude.{bytes_eq, codes, decimal, length, Option, slice_get, unwrap_or}
 use Rattle.std.specs.Option.{option_map_or}
 use Rattle.std.specs.declared.net.ip_addr.IpAddr.{IpAddr}
 use Rattle.std.specs.declared.net.ip_addr.IpAddr.TheVariants.{V4, V6}
+use Rattle.std.specs.Net.Addr.{ipv6_segments}
 use Rattle.std.specs.Net.Text.{ip_text, scope_text}
 use Rattle.sslist_lister.specs.declared.texts.cells.TheConstants.{INODE_WIDTH, NETID_WIDTH}
 use Rattle.sslist_lister.specs.declared.texts.cells.TheConstants.{QUEUE_WIDTH, STATE_WIDTH}
@@ -39,15 +40,27 @@ abbrev pub bracketed_address : IpAddr → List ℕ
 bracketed_address (V4 ip) = ip_text (V4 ip)
 bracketed_address (V6 ip) = 91 ∷ ip_text (V6 ip) ++ 93 ∷ []
 
+-- the address is `::`, whose eight segments are 0
+abbrev pub is_any_v6 : IpAddr → Bool
+is_any_v6 (V4 ip) = false
+is_any_v6 (V6 ip) =
+    bytes_eq (ipv6_segments ip) (0 ∷ 0 ∷ 0 ∷ 0 ∷ 0 ∷ 0 ∷ 0 ∷ 0 ∷ [])
+
+-- `shown_address is_v6_only address`: an address of a socket, as ss(8) prints it: `*` for `::` of a
+-- socket that is not known to be for IPv6 only (`is_v6_only`), or else `bracketed_address`
+abbrev pub shown_address : Bool → IpAddr → List ℕ
+shown_address is_v6_only address =
+    if is_any_v6 address && not is_v6_only then codes "*" else bracketed_address address
+
 -- a port in decimal, or `*` for 0
 abbrev pub port_text : ℕ → List ℕ
 port_text port = if port == 0 then codes "*" else decimal port
 
--- `endpoint address interface port`: an address, a scope, a colon (58) and a port. The scope is `%`
--- and the interface number, or nothing if the number is 0.
-abbrev pub endpoint : IpAddr → ℕ → ℕ → List ℕ
-endpoint address interface port =
-    bracketed_address address ++ scope_text interface ++ 58 ∷ port_text port
+-- `endpoint is_v6_only address interface port`: an address (`shown_address`), a scope, a colon (58)
+-- and a port. The scope is `%` and the interface number, or nothing if the number is 0.
+abbrev pub endpoint : Bool → IpAddr → ℕ → ℕ → List ℕ
+endpoint is_v6_only address interface port =
+    shown_address is_v6_only address ++ scope_text interface ++ 58 ∷ port_text port
 
 -- The content of the first columns of a line: Netid, State, Recv-Q, Send-Q, Inode and Uid. None
 -- means that the reply does not contain the value.

@@ -5,7 +5,7 @@ ghost use Rattle.sslist_lister.specs.texts.Cells.{state_name};
 ghost use Rattle.std.specs.Prelude.{◌≡◌, ◌++◌, ◌-◌, ◌≤◌, decimal, false, vec_len, OnOk};
 ghost use Rattle.std.specs.Fmt.{digits};
 ghost use Rattle.sslist_lister.specs.texts.Cells.{column, endpoint, first_columns};
-ghost use Rattle.sslist_lister.specs.texts.Cells.{bracketed_address};
+ghost use Rattle.sslist_lister.specs.texts.Cells.{bracketed_address, is_any_v6, shown_address};
 ghost use Rattle.sslist_lister.specs.texts.Cells.{number_cell, number_or_star, port_text};
 ghost use Rattle.sslist_lister.specs.texts.CellsModel.{cells_model};
 ghost use Rattle.sslist_lister.specs.texts.Escapes.{byte_digits, escaped_byte, is_printable_byte};
@@ -195,29 +195,33 @@ pub(crate) fn push_number_or_star(text: &mut Vec<u8>, number: Option<u32>) -> Re
 pub(crate) fn push_endpoint_column(
     text: &mut Vec<u8>,
     width: usize,
+    is_v6_only: bool,
     address: IpAddr,
     interface: u32,
     port: u16,
 ) -> Result<(), AllocError>
     ensures { OnOk result (text.new.items ≡ text.old.items
-        ++ column width (endpoint address interface port)) }
+        ++ column width (endpoint is_v6_only address interface port)) }
 {
     let start = text.len();
-    push_endpoint(text, address, interface, port)?;
+    push_endpoint(text, is_v6_only, address, interface, port)?;
     end_column(text, start, width)
 }
 
 /// Appends an address, then `%` and the interface number if it is not 0, then `:` and the port, or
-/// `*` if the port is 0. An IPv6 address is in brackets and in its short form (RFC 5952).
+/// `*` if the port is 0. An IPv6 address is in brackets and in its short form (RFC 5952). As in
+/// ss(8), `::` is `*` unless `is_v6_only`: the socket is known to be for IPv6 only.
 pub(crate) fn push_endpoint(
     text: &mut Vec<u8>,
+    is_v6_only: bool,
     address: IpAddr,
     interface: u32,
     port: u16,
 ) -> Result<(), AllocError>
-    ensures { OnOk result (text.new.items ≡ text.old.items ++ endpoint address interface port) }
+    ensures { OnOk result (text.new.items
+        ≡ text.old.items ++ endpoint is_v6_only address interface port) }
 {
-    push_host(text, address)?;
+    push_host(text, is_v6_only, address)?;
     if interface != 0 {
         text.push(b'%')?;
         push_number(text, interface.into())?;
@@ -226,8 +230,29 @@ pub(crate) fn push_endpoint(
     push_port(text, port)
 }
 
+/// Appends an address as [`push_address`] does, or `*` if it is `::` and not `is_v6_only`.
+fn push_host(text: &mut Vec<u8>, is_v6_only: bool, address: IpAddr) -> Result<(), AllocError>
+    ensures { OnOk result (text.new.items ≡ text.old.items ++ shown_address is_v6_only address) }
+{
+    if is_any_v6(address) && !is_v6_only {
+        Ok(text.push(b'*')?)
+    } else {
+        push_address(text, address)
+    }
+}
+
+/// Returns whether an address is `::`.
+fn is_any_v6(address: IpAddr) -> bool
+    ensures { result ≡ is_any_v6 address }
+{
+    match address {
+        IpAddr::V4(_) => false,
+        IpAddr::V6(ip) => ip.segments() == [0; 8],
+    }
+}
+
 /// Appends an address, in brackets if it is an IPv6 address.
-fn push_host(text: &mut Vec<u8>, address: IpAddr) -> Result<(), AllocError>
+fn push_address(text: &mut Vec<u8>, address: IpAddr) -> Result<(), AllocError>
     ensures { OnOk result (text.new.items ≡ text.old.items ++ bracketed_address address) }
 {
     let written = match address {

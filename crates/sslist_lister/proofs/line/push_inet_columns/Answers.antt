@@ -8,7 +8,8 @@ pub returns : goal.returns
 returns c =
     let columns = c.in_ok-push_first_columns.ensures
     ∙ ap (λ cells. c.args.text.now.items ++ first_columns cells) c.inet_cells.ensures in
-    on_ok_weaker c.push_endpoint.result
+    rw (← c.is_v6_only-is_v6_only.ensures)
+    (on_ok_weaker c.push_endpoint.result
     (λ last. appended_texts_concatenate _ _ _ _ _
     (appended_texts_concatenate _ _ _ _ _ columns c.in_ok-push_endpoint_column.ensures) last)
-    c.push_endpoint.ensures
+    c.push_endpoint.ensures)
