@@ -98,6 +98,7 @@ struct request {
  * the body of its request for sockets in these states, and returns the length of the body. */
 struct kind {
     const char *name;
+    const char *module; /* The module of the kernel that lists such sockets. */
     uint8_t family;
     uint16_t protocol;
     size_t (*fill)(struct request *request, const struct kind *kind, uint32_t states);
@@ -184,19 +185,19 @@ static size_t fill_xdp(struct request *request, const struct kind *kind, uint32_
 /* The answer to a request for TCP or UDP sockets does not contain the protocol. sslist takes it
  * from the request, which it finds among the last 16. */
 static const struct kind kinds[] = {
-    {"unix", AF_UNIX, 0, fill_unix},
-    {"tcp", AF_INET, IPPROTO_TCP, fill_inet},
-    {"tcp", AF_INET6, IPPROTO_TCP, fill_inet},
-    {"udp", AF_INET, IPPROTO_UDP, fill_inet},
-    {"udp", AF_INET6, IPPROTO_UDP, fill_inet},
-    {"mptcp", AF_INET, PROTOCOL_MPTCP, fill_inet},
-    {"mptcp", AF_INET6, PROTOCOL_MPTCP, fill_inet},
-    {"raw", AF_INET, IPPROTO_RAW, fill_inet},
-    {"raw", AF_INET6, IPPROTO_RAW, fill_inet},
-    {"netlink", AF_NETLINK, 0, fill_netlink},
-    {"packet", AF_PACKET, 0, fill_packet},
-    {"vsock", FAMILY_VSOCK, 0, fill_vsock},
-    {"xdp", FAMILY_XDP, 0, fill_xdp},
+    {"unix", "unix_diag", AF_UNIX, 0, fill_unix},
+    {"tcp", "tcp_diag", AF_INET, IPPROTO_TCP, fill_inet},
+    {"tcp", "tcp_diag", AF_INET6, IPPROTO_TCP, fill_inet},
+    {"udp", "udp_diag", AF_INET, IPPROTO_UDP, fill_inet},
+    {"udp", "udp_diag", AF_INET6, IPPROTO_UDP, fill_inet},
+    {"mptcp", "mptcp_diag", AF_INET, PROTOCOL_MPTCP, fill_inet},
+    {"mptcp", "mptcp_diag", AF_INET6, PROTOCOL_MPTCP, fill_inet},
+    {"raw", "raw_diag", AF_INET, IPPROTO_RAW, fill_inet},
+    {"raw", "raw_diag", AF_INET6, IPPROTO_RAW, fill_inet},
+    {"netlink", "netlink_diag", AF_NETLINK, 0, fill_netlink},
+    {"packet", "af_packet_diag", AF_PACKET, 0, fill_packet},
+    {"vsock", "vsock_diag", FAMILY_VSOCK, 0, fill_vsock},
+    {"xdp", "xsk_diag", FAMILY_XDP, 0, fill_xdp},
 };
 
 enum { KINDS = sizeof kinds / sizeof kinds[0] };
@@ -343,9 +344,12 @@ static void report_error(const struct kind *kind, const struct datagram *it) {
     if (error == 0 || (reported != NULL && strcmp(reported, kind->name) == 0))
         return;
     reported = kind->name;
-    fprintf(stderr, "sockdump: %s: %s\n", kind->name,
-            is_missing(kind, it) ? "note: this kernel does not list such sockets"
-                                 : strerror(error));
+    if (is_missing(kind, it))
+        fprintf(stderr,
+                "sockdump: %s: note: this kernel does not list such sockets; their module is %s\n",
+                kind->name, kind->module);
+    else
+        fprintf(stderr, "sockdump: %s: %s\n", kind->name, strerror(error));
 }
 
 /* Requests a kind, and writes the request and its answer, unless the kernel does not list the kind
@@ -561,6 +565,11 @@ static int parse_filter(const char *text, struct filter *filter) {
     }
     if (found.states.is_set)
         filter->states = found.states.value;
+    /* A TCP socket that is only bound is closed in replies, and has a state of its own in requests.
+     * It is left out next to listening sockets, as by -l of ss(8). */
+    if ((filter->states & (1u << SOCKDIAG_TCP_CLOSE | 1u << SOCKDIAG_TCP_LISTEN))
+        == 1u << SOCKDIAG_TCP_CLOSE)
+        filter->states |= 1u << SOCKDIAG_TCP_BOUND_INACTIVE;
     head.nla_len = (uint16_t)(sizeof head + found.program_length);
     memcpy(filter->attribute, &head, sizeof head);
     filter->length = found.program_length > 0 ? head.nla_len : 0;

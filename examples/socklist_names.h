@@ -11,6 +11,11 @@
 #include <limits.h>
 #include <linux/if_ether.h>
 #include <net/if.h>
+#include <sys/stat.h>
+
+/* Where the hierarchies of control groups are mounted: of version 2 there, or in `unified`. */
+#define GROUPS_FOLDER "/sys/fs/cgroup"
+#define UNIFIED "/unified"
 
 /* What the column Netid of IPv4 and IPv6 sockets has. Services have none of the last two. */
 static const char *const protocols[] = {"tcp",  "udp",     "mptcp", "raw",  "sctp",
@@ -273,6 +278,38 @@ static void add_ethertype(struct text *text, const struct names *names, const ch
                           size_t length) {
     const size_t count = names->is_numeric ? 1 : sizeof ethertypes / sizeof *ethertypes;
     add_named(text, ethertypes, count, number, length);
+}
+
+/* Stores the path of the control group with this id, below its hierarchy. Returns 0, or -1 if there
+ * is none, or if the user is not root. */
+static int find_group(uint64_t id, char *path, size_t size) {
+    uint64_t storage[(sizeof(struct file_handle) + sizeof id) / sizeof id + 1];
+    struct file_handle *handle = (struct file_handle *)(void *)storage;
+    const int mount = open(GROUPS_FOLDER UNIFIED, O_RDONLY | O_CLOEXEC | O_DIRECTORY);
+    const int folder = mount >= 0 ? mount : open(GROUPS_FOLDER, O_RDONLY | O_CLOEXEC | O_DIRECTORY);
+    const char *root = mount >= 0 ? GROUPS_FOLDER UNIFIED : GROUPS_FOLDER;
+    char link[32], target[PATH_MAX];
+    ssize_t length = -1;
+    int group = -1;
+    handle->handle_bytes = sizeof id;
+    handle->handle_type = 0xfe; /* FILEID_KERNFS of the kernel. */
+    memcpy(handle->f_handle, &id, sizeof id);
+    if (folder >= 0)
+        group = open_by_handle_at(folder, handle, O_RDONLY | O_CLOEXEC | O_DIRECTORY);
+    snprintf(link, sizeof link, "/proc/self/fd/%d", group);
+    if (group >= 0)
+        length = readlink(link, target, sizeof target - 1);
+    if (group >= 0)
+        close(group);
+    if (folder >= 0)
+        close(folder);
+    if (length < 0)
+        return -1;
+    target[length] = '\0';
+    if (strncmp(target, root, strlen(root)) != 0)
+        return -1;
+    snprintf(path, size, "%s", target[strlen(root)] == '\0' ? "/" : target + strlen(root));
+    return 0;
 }
 
 #endif

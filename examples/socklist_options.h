@@ -435,6 +435,8 @@ static struct arguments lister_arguments(const struct options *options, const ch
     /* The timer is the fewest details: it is left out if no details are requested. */
     if (!options->has_details || options->has_timers)
         append(&made, "-o");
+    if (options->is_summary)
+        append(&made, "-O");
     append_families(options, &made);
     append_filter(lister_filter(options), &made);
     return made;

@@ -31,21 +31,26 @@ static int has_state(const struct columns *columns, const char *const *states) {
     return *states != NULL;
 }
 
-/* Counts a TCP socket. Returns whether the rows count it too, as in ss(8): those that are closed do
- * not count there, nor those in TIME-WAIT and SYN-RECV, which have smaller structures. */
+/* Counts a TCP socket, whose timer follows the columns. Returns whether the rows count it too, as
+ * in ss(8): those that are closed do not count there, nor those in TIME-WAIT and SYN-RECV, which
+ * have smaller structures. */
 static int count_tcp(struct summary *summary, const struct columns *columns) {
     static const char *const established[] = {"ESTAB ", "CLOSE-WAIT ", NULL};
     static const char *const closed[] = {"UNCONN ", NULL}, *const waiting[] = {"TIME-WAIT ", NULL};
-    static const char *const small[] = {"TIME-WAIT ", "SYN-RECV ", NULL};
+    static const char *const starting[] = {"SYN-RECV ", NULL};
     static const char *const ending[] = {"FIN-WAIT-1 ", "FIN-WAIT-2 ", "LAST-ACK ", "CLOSING ",
                                          NULL};
+    /* By its timer, a socket in FIN-WAIT-2 may have the smaller structure of TIME-WAIT. */
+    const int waits = has_state(columns, waiting)
+                      || strstr(columns->start[PEER], " timer:(timewait,") != NULL;
+    const int is_small = waits || has_state(columns, starting);
     summary->tcp++;
     summary->established += has_state(columns, established);
     summary->closed += has_state(columns, closed);
-    summary->waiting += has_state(columns, waiting);
-    summary->orphaned += begins(columns, INODE, "0 ") && has_state(columns, ending);
-    summary->all += !has_state(columns, small);
-    return !has_state(columns, small) && !has_state(columns, closed);
+    summary->waiting += waits;
+    summary->orphaned += !waits && begins(columns, INODE, "0 ") && has_state(columns, ending);
+    summary->all += !is_small;
+    return !is_small && !has_state(columns, closed);
 }
 
 /* Counts the socket of a line. */

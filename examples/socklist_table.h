@@ -151,8 +151,10 @@ static void add_row(struct text *text, struct names *names, const struct process
         add_process_column(text, processes, columns, peer);
 }
 
-/* Adds details, with the units of times and rates of a TCP connection. */
-static void add_details(struct text *text, const char *details) {
+/* Adds a detail: with its unit if it is a time or a rate of a TCP connection, and with the path of
+ * a control group in place of its id. */
+static void add_detail(struct text *text, const struct names *names, const char *detail,
+                       size_t length) {
     static const struct { const char *name, *unit; } units[] = {
         {"rto:", "us"}, {"ato:", "us"}, {"rtt:", "us"}, {"rttvar:", "us"}, {"rcv_rtt:", "us"},
         {"minrtt:", "us"}, {"busy:", "us"}, {"rwnd_limited:", "us"}, {"sndbuf_limited:", "us"},
@@ -160,17 +162,32 @@ static void add_details(struct text *text, const char *details) {
         {"pacing_rate:", "B/s"}, {"max_pacing_rate:", "B/s"}, {"delivery_rate:", "B/s"},
         {"bw:", "B/s"}, {"mrtt:", "us"}, {"pacing_gain:", "/256"}, {"cwnd_gain:", "/256"},
     };
+    static const char group[] = "cgroup:";
+    char path[PATH_MAX];
+    size_t index;
+    if (!names->is_numeric && strncmp(detail, group, strlen(group)) == 0
+        && find_group(strtoull(detail + strlen(group), NULL, 10), path, sizeof path) == 0) {
+        add_string(text, group);
+        add_name(text, path);
+        return;
+    }
+    add_bytes(text, detail, length);
+    for (index = 0; index < sizeof units / sizeof *units; index++)
+        if (strncmp(units[index].name, detail, strlen(units[index].name)) == 0)
+            add_string(text, units[index].unit);
+}
+
+/* Adds details, and what is between them. */
+static void add_details(struct text *text, const struct names *names, const char *details) {
     static const char between[] = " \t,()";
-    size_t index, length;
+    size_t length;
     for (; *details != '\0'; details += length) {
         length = strspn(details, between);
         add_bytes(text, details, length);
         details += length;
         length = strcspn(details, between);
-        add_bytes(text, details, length);
-        for (index = 0; index < sizeof units / sizeof *units; index++)
-            if (strncmp(units[index].name, details, strlen(units[index].name)) == 0)
-                add_string(text, units[index].unit);
+        if (length > 0)
+            add_detail(text, names, details, length);
     }
 }
 
@@ -183,13 +200,13 @@ static int add_line(struct text *text, int has_details, struct names *names,
         if (*line != '\t')
             add_string(text, line);
         else if (has_details)
-            add_details(text, line);
+            add_details(text, names, line);
         return has_details || *line != '\t';
     }
     add_bytes(text, line, (size_t)(columns.start[LOCAL] - line));
     add_row(text, names, processes, &columns);
     if (has_details)
-        add_details(text, columns.start[PEER] + columns.length[PEER]);
+        add_details(text, names, columns.start[PEER] + columns.length[PEER]);
     return 1;
 }
 

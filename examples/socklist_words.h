@@ -216,9 +216,31 @@ static int add_index(struct text *text, const char *word) {
     return 0;
 }
 
+/* Adds the id of a control group, which is the inode of its folder, if it is named by its path in
+ * the hierarchy of version 2. Returns 0, or the exit status after an error. */
+static int add_group(struct text *text, const char *word) {
+    static const char *const roots[] = {"", GROUPS_FOLDER UNIFIED, GROUPS_FOLDER};
+    char path[PATH_MAX];
+    struct stat found;
+    size_t index;
+    if (*word != '/')
+        return add_word(text, word), 0;
+    /* A path may begin with the folder. */
+    index = strncmp(word, GROUPS_FOLDER "/", strlen(GROUPS_FOLDER "/")) != 0;
+    for (; index < sizeof roots / sizeof *roots; index++)
+        if ((size_t)snprintf(path, sizeof path, "%s%s", roots[index], word) < sizeof path
+            && stat(path, &found) == 0 && S_ISDIR(found.st_mode)) {
+            snprintf(path, sizeof path, "%llu", (unsigned long long)found.st_ino);
+            return add_word(text, path), 0;
+        }
+    return reject_word("unknown control group", word);
+}
+
 /* Adds the value of a condition. Returns 0, or the exit status after an error. */
 static int add_value(struct words *words, char *word) {
     const char *field = words->field;
+    if (strcmp(field, "cgroup") == 0)
+        return add_group(&words->text, word);
     if (strcmp(field, "src") == 0 || strcmp(field, "dst") == 0)
         return add_end(words, word);
     if (strcmp(field, "dev") == 0)
@@ -229,7 +251,8 @@ static int add_value(struct words *words, char *word) {
 
 /* Reads a word. Returns 0, or the exit status after an error. */
 static int read_word(struct words *words, char *word) {
-    static const char *const fields[] = {"sport", "dport", "src", "dst", "dev", NULL};
+    static const char *const fields[] = {"sport", "dport", "src", "dst", "dev", "cgroup",
+                                         NULL};
     static const char *const signs[] = {"=", "==", "eq", "!=", "ne", "neq", ">=", "ge", "geq",
                                         "<=", "le", "leq", ">", "gt", "<", "lt", NULL};
     int status = 0;

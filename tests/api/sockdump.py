@@ -97,7 +97,7 @@ FAILURES = [
      "".join(f"sockdump: {it}: Operation not permitted\n" for it in ("unix", "tcp"))),
     # A kernel that knows no such sockets, and one that rejects a filter.
     (["unix", "tcp"], {"FAKE_KERNEL_END": str(-EINVAL)}, 0,
-     "sockdump: unix: note: this kernel does not list such sockets\n"
+     "sockdump: unix: note: this kernel does not list such sockets; their module is unix_diag\n"
      "sockdump: tcp: Invalid argument\n"),
     # Without a file, this kernel loses the first datagram about UDP sockets.
     (["udp"], {"FAKE_KERNEL_REPLIES": None}, 1, "sockdump: recv: No buffer space available\n"),
@@ -134,8 +134,9 @@ def expected_notes(file, kinds):
     """Returns what the program reports of kinds that are named and that the kernel lacks."""
     missing = dict.fromkeys(name for name, family, _ in REQUESTS if name in kinds
                             and answer(file, name, family, 1)[0][4] == ERROR)
-    return "".join(f"sockdump: {it}: note: this kernel does not list such sockets\n"
-                   for it in missing)
+    modules = {"packet": "af_packet_diag", "xdp": "xsk_diag"}
+    return "".join(f"sockdump: {it}: note: this kernel does not list such sockets; their module is "
+                   f"{modules.get(it, f'{it}_diag')}\n" for it in missing)
 
 
 def packets(capture):
@@ -352,10 +353,14 @@ def test_filters(runs, files):
     # sport >= :22 and sport <= :8080, as the kernel runs it: a jump past the end rejects.
     program = bytes.fromhex("1400 0100 0208 1400 0000 1600 0308 0c00 0000 901f")
     listening = struct.pack("<I", 1 << 10)
+    # Closed TCP sockets are also those that are only bound, the state 13 of requests.
+    closed = struct.pack("<I", 1 << 7 | 1 << 13)
     for file, (words, kinds, states, attribute) in itertools.product(files, (
             (["state listening", "sport", ">= :22 and sport <= :8080"], (), listening, program),
             (["sport >= :22", "sport <= :8080"], ("unix", "tcp"), b"\xff" * 4, program),
             (["state", "listening"], (), listening, b""), ([], ("tcp",), b"\xff" * 4, b""),
+            (["state closed"], ("tcp", "udp"), closed, b""),
+            (["state closed state listening"], ("tcp",), struct.pack("<I", 1 << 7 | 1 << 10), b""),
             (["state listening"], ("netlink", "vsock"), listening, b""))):
         expected = []
         for number, (name, family, request) in enumerate(REQUESTS, 1):

@@ -50,8 +50,8 @@ ARGUMENTS = [
     (["-tlnp"], ["tcp"], FEW, LISTENING),
     (["-tuna", "-e"], ["tcp", "udp"], ["-e", "-o"], ""),
     (["-tr"], ["tcp"], FEW, CONNECTED),
-    (["-s", "--resolve"], [], FEW, ""),
-    (["--summary", "-tl"], ["tcp"], FEW, LISTENING),
+    (["-s", "--resolve"], [], [*FEW, "-O"], ""),
+    (["--summary", "-tl"], ["tcp"], [*FEW, "-O"], LISTENING),
     (["--listening", "--processes", "--numeric", "--mptcp"], ["mptcp"], FEW, LISTENING),
     *((["-a", *it], [], it, "") for it in (
         ["--info"], ["--memory"], ["--options"], ["-o", "-m"], ["-i"])),
@@ -133,6 +133,10 @@ WORDS = [
     ("( ! dst == many.example:80 )",
      "( ! ( dst == [192.0.2.1]:80 or dst == [2001:db8::1]:80 ) )"),
 ]
+# The id of the control group that is the root of the hierarchy of version 2, if there is one.
+GROUP = next((os.stat(it).st_ino for it in ("/sys/fs/cgroup/unified", "/sys/fs/cgroup")
+              if os.path.isdir(it)), None)
+WORDS += [("cgroup / or not cgroup = /", f"cgroup {GROUP} or not cgroup = {GROUP}")] * bool(GROUP)
 NO_ADDRESS = "no address, such as 192.0.2.0/24, [2001:db8::/32] or *:80"
 # Words that are rejected, and the text.
 NO_WORDS = [
@@ -160,7 +164,8 @@ NO_WORDS = [
     *((f"{it} :65536", "filter: no port from 0 to 65535: :65536") for it in (
         "sport", "dport =", "( dport", "sport >=")),
     ("state 7", "filter: unknown state: 7"), ("exclude up", "filter: unknown state: up"),
-    ("cgroup = /user.slice", "filter: no id of a control group: /user.slice"),
+    ("cgroup = /none.slice", "unknown control group: /none.slice"),
+    ("cgroup a.slice", "filter: no id of a control group: a.slice"),
     ("fwmark x", "filter: no mark, such as 1 or 0x1/0x3: x"),
     ("state dst src", "unknown host: src"),
     (" ".join(129 * ["sport = 1"]), "filter: more than 256 conditions and operators: 1"),
@@ -556,6 +561,18 @@ def test_units(runs):
             *expected, "bbr:(bw:9B/s,mrtt:31us,pacing_gain:739/256,cwnd_gain:739/256)"]))
 
 
+def test_control_group(runs):
+    """The details have the path of a control group for a user who may open it by its id."""
+    group = GROUP or 1
+    runs.record(*dump("tcp", inet_reply(FAR, FAR) + attribute(21, struct.pack("<Q", group))))
+    capabilities = re.search(r"CapEff:\t(\w+)", Path("/proc/self/status").read_text("utf-8"))[1]
+    may_open = GROUP and int(capabilities, 16) >> 2 & 1
+    for arguments, shown in (("-teHO", "/" if may_open else group), ("-tenHO", group)):
+        compare(arguments, runs.end(arguments)[1].split()[-1], f"cgroup:{shown}")
+    runs.record(*dump("tcp", inet_reply(FAR, FAR) + attribute(21, b"\xff" * 8)))
+    compare("no group", runs.end("-teHO")[1].split()[-1], f"cgroup:{2 ** 64 - 1}")
+
+
 def test_both_versions(runs):
     """The address of all interfaces is an asterisk if an IPv6 socket also accepts IPv4, with any
     options."""
@@ -649,6 +666,8 @@ COUNTED = [
         (1, 5), (1, 0), (2, 6), (3, 0), (4, 0), (5, 0), (6, 0), (7, 7), (8, 8), (9, 0), (10, 9),
         (11, 0), (11, 10))),
     *(("tcp", inet_reply(("::1", 1), ("::1", 1), state)) for state in (1, 6)),
+    # A connection in FIN-WAIT-2 with the timer of TIME-WAIT.
+    ("tcp", bytes([2, 5, 3]) + inet_reply(("127.0.0.1", 1), FAR)[3:]),
     ("udp", inet_reply(("127.0.0.1", 1), FAR)),
     *(("udp", inet_reply((it, 1), ("::", 0), 7)) for it in ("::1", "::")),
     ("mptcp", inet_reply(("127.0.0.1", 1), FAR)), ("raw", inet_reply(("127.0.0.1", 1), FAR)),
@@ -660,7 +679,7 @@ COUNTED = [
 ]
 SUMMARY = """\
 Total: 29
-TCP:   15 (estab 4, closed 1, orphaned 4, timewait 2)
+TCP:   16 (estab 4, closed 1, orphaned 4, timewait 3)
 
 Transport Total     IP        IPv6
 RAW       1         1         0
