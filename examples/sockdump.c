@@ -51,6 +51,7 @@
 #include <linux/vm_sockets_diag.h>
 #include <linux/xdp_diag.h>
 #include <netinet/in.h>
+#include <netinet/tcp.h>
 #include <poll.h>
 #include <signal.h>
 #include <stdint.h>
@@ -352,6 +353,24 @@ static void report_error(const struct kind *kind, const struct datagram *it) {
         fprintf(stderr, "sockdump: %s: %s\n", kind->name, strerror(error));
 }
 
+/* Returns whether a file of proc(5) has raw sockets: lines after the heading. */
+static int has_sockets(const char *path) {
+    char line[512];
+    int count = 0;
+    FILE *file = fopen(path, "re");
+    while (file != NULL && count < 2 && fgets(line, sizeof line, file) != NULL)
+        count++;
+    if (file != NULL)
+        fclose(file);
+    return count == 2;
+}
+
+/* Returns whether raw sockets are selected that this kernel does not list: most are closed. */
+static int lacks_sockets(const struct kind *kind, const struct filter *filter) {
+    return kind->protocol == IPPROTO_RAW && (filter->states >> TCP_CLOSE & 1) != 0
+        && has_sockets(kind->family == AF_INET ? "/proc/net/raw" : "/proc/net/raw6");
+}
+
 /* Requests a kind, and writes the request and its answer, unless the kernel does not list the kind
  * and no argument names it. */
 static int dump(int kernel, const struct kind *kind, const struct filter *filter, int is_named) {
@@ -359,8 +378,11 @@ static int dump(int kernel, const struct kind *kind, const struct filter *filter
     int is_truncated = 0;
     if (send_request(kernel, kind, filter, &sent) != 0 || receive(kernel, &received) != 0)
         return -1;
-    if (!is_named && is_missing(kind, &received))
+    if (!is_named && is_missing(kind, &received)) {
+        if (lacks_sockets(kind, filter))
+            report_error(kind, &received);
         return 0;
+    }
     if (write_packet(&sent) != 0 || write_packet(&received) != 0)
         return -1;
     while (received.length <= sizeof received.data && find_end(&received, &is_truncated) == NULL

@@ -17,6 +17,7 @@ import itertools
 import os
 import re
 import signal
+import socket
 import struct
 import subprocess
 import sys
@@ -130,10 +131,15 @@ def expected_round(file, kinds=()):
     return found
 
 
-def expected_notes(file, kinds):
-    """Returns what the program reports of kinds that are named and that the kernel lacks."""
-    missing = dict.fromkeys(name for name, family, _ in REQUESTS if name in kinds
-                            and answer(file, name, family, 1)[0][4] == ERROR)
+def expected_notes(file, kinds, states=b"\xff" * 4):
+    """Returns what the program reports of kinds that are named, and of raw sockets that are not,
+    most of which are closed, if the kernel lacks the kinds."""
+    files = [it for it in (Path("/proc/net/raw"), Path("/proc/net/raw6")) if it.exists()]
+    has_raw = not kinds and states[0] & 1 << 7 and any(
+        len(it.read_text("ascii").splitlines()) > 1 for it in files)
+    missing = dict.fromkeys(name for name, family, _ in REQUESTS
+                            if name in kinds or has_raw and name == "raw"
+                            if answer(file, name, family, 1)[0][4] == ERROR)
     modules = {"packet": "af_packet_diag", "xdp": "xsk_diag"}
     return "".join(f"sockdump: {it}: note: this kernel does not list such sockets; their module is "
                    f"{modules.get(it, f'{it}_diag')}\n" for it in missing)
@@ -380,8 +386,23 @@ def test_filters(runs, files):
                 request += attribute if is_inet else b""
                 expected += [message(BY_FAMILY, DUMP, number, 0, request), *datagrams]
         found = runs.end([*kinds, "--", *words], subprocess.PIPE, file)
-        compare(f"{kinds} {words}", (found[0], found[2]), (0, expected_notes(file, kinds)))
+        compare(f"{kinds} {words}", (found[0], found[2]),
+                (0, expected_notes(file, kinds, states)))
         compare_datagrams(f"{file.name} {kinds} {words}", found[1], expected)
+
+
+def test_raw(runs, files):
+    """Reports that raw sockets are missing, unless no closed ones are selected."""
+    try:
+        raw = socket.socket(socket.AF_INET, socket.SOCK_RAW, 253)
+    except PermissionError:
+        return print("sockdump: skipped: raw sockets: no permission")
+    with raw:
+        for words, states in (([], b"\xff"), (["--", "state", "closed"], b"\x80"),
+                              (["--", "exclude", "closed"], b"\x7f")):
+            note = expected_notes(files[0], (), states)
+            compare(f"{words}", bool(note), states != b"\x7f")
+            compare(f"{words}", runs.end(words, subprocess.PIPE, files[0])[::2], (0, note))
 
 
 def test_odd_length(runs, files):
