@@ -5,12 +5,12 @@ use Rattle.netlink_core.proofs.AttributeTypeLaws.{whole_value_laws}
 use Rattle.sock_diag_attributes.specs.Name.{name_value}
 use Rattle.std.proofs.Common.{Ok, Err, IsOk, ◌≡◌, ◌≢◌, ◌∙◌, ℕ, suc, ◌+◌, ◌<◌, ◌==◌, List, [], ◌∷◌}
 use Rattle.std.proofs.Common.{◌++◌, length, take, drop, get_or, append_assoc, refl, ap, sym, subst}
-use Rattle.std.proofs.Common.{arith}
+use Rattle.std.proofs.Common.{◌-◌, ◌≤◌, arith}
 use Rattle.std.specs.Prelude.{All, if◌then◌else◌, Result, slice_index}
 use Rattle.std.proofs.lemmas.Bool.{eqb-true, eqb-false, ne_eqb}
 use Rattle.std.proofs.lemmas.List.{append-nil, drop_all, get_or-take, length-append, length-take}
 use Rattle.std.proofs.lemmas.List.{drop_more, get_or-append-add, take-append-drop}
-use Rattle.std.proofs.lemmas.List.{length-take-le}
+use Rattle.std.proofs.lemmas.List.{length-take-le, take_rest}
 use Rattle.std.specs.List.{position_or_len}
 use Rattle.std.proofs.lemmas.List.Sums.{position_or_len_is, split_at_first, passes_at_first}
 use Rattle.std.proofs.lemmas.List.Sums.{fails_before_first}
@@ -22,7 +22,7 @@ use Rattle.netlink_core.specs.declared.error.DecodeError.{DecodeError}
 use Rattle.netlink_core.specs.declared.error.DecodeError.TheVariants as errors
 use Rattle.netlink_core.specs.laws.Byte.{IsBytes-append, IsBytes-cons, IsBytes-nil}
 use Rattle.sock_diag_attributes.specs.declared.unix.name.SocketName.{SocketName}
-use Rattle.sock_diag_attributes.specs.declared.unix.name.SocketName.TheVariants.{Pathname}
+use Rattle.sock_diag_attributes.specs.declared.unix.name.SocketName.TheVariants.{Pathname, Abstract}
 use Rattle.sock_diag_attributes.specs.Name.{name_bytes}
 use Rattle.sock_diag_attributes.specs.Name.{IsNormalName, parse_name}
 use Rattle.sock_diag_attributes.specs.Name.{name_codec}
@@ -113,12 +113,26 @@ name_round_trips : (u : SocketName (List ℕ)) → IsNormalName u → parse_name
 name_round_trips u good =
     grind (arith, common_steps, parses_path)
 
+-- an accepted name has a first byte
+pub accepted_name_has_bytes : (bytes : List ℕ) → IsOk (parse_name bytes) → 1 ≤ length bytes
+accepted_name_has_bytes bytes ok = grind (arith)
+
 -- an accepted name whose first byte is not zero is the path before its last byte
-pub accepted_name_is_path : (bytes path : List ℕ) (last : ℕ) → bytes ≡ path ++ last ∷ []
-    → get_or bytes 0 0 ≢ 0
-    → IsOk (parse_name bytes) → parse_name bytes ≡ Ok (Pathname path)
-accepted_name_is_path bytes path last parts first ok =
-    grind (arith, length-append path (last ∷ []), take-append_seam path (last ∷ []))
+pub accepted_name_is_path : (bytes : List ℕ) → get_or bytes 0 0 ≢ 0 → IsOk (parse_name bytes)
+    → parse_name bytes ≡ Ok (Pathname (take (length bytes - 1) bytes))
+accepted_name_is_path bytes first ok = grind (arith)
+
+-- an accepted name whose first byte is zero is abstract, with the bytes after it
+pub accepted_name_is_abstract : (bytes : List ℕ) → get_or bytes 0 0 ≡ 0 → IsOk (parse_name bytes)
+    → parse_name bytes ≡ Ok (Abstract (take (length bytes - 1) (drop 1 bytes)))
+accepted_name_is_abstract bytes first ok = grind (arith, take_rest bytes 1)
+
+-- the lemmas for `NameView::new`
+pub ruleset accepted_name_rules = (
+  accepted_name_has_bytes,
+  accepted_name_is_path,
+  accepted_name_is_abstract,
+)
 
 -- a path with a zero byte after it consists of bytes
 pub path_bytes_in_range : (path : List ℕ) → IsBytes path → IsBytes (path ++ 0 ∷ [])

@@ -101,18 +101,15 @@ impl<'a> NameView<'a> {
     /// Returns the name that [`NameView::parse`] returns. Requires that `parse` accepts the bytes.
     /// They are not searched for zeros again.
     #[inline(always)]
-    #[tactic(auto, using(crate::specs::laws::Name::accepted_name_is_path))]
+    #[tactic(auto, using(crate::specs::laws::Name::accepted_name_rules))]
     pub fn new(bytes: &'a [u8]) -> NameView<'a>
         requires { IsOk (parse_name bytes.now) }
         ensures { parse_name bytes.entry.now ≡ Ok (name_view_model result) }
     {
-        let Some((_, path)) = bytes.split_last() else {
-            unreachable!();
-        };
         if bytes[0] == 0 {
             return NameView::Abstract(&bytes[1..]);
         }
-        NameView::Pathname(path)
+        NameView::Pathname(&bytes[..bytes.len() - 1])
     }
 
     // Returns the number of bytes that the name serializes to, including its zero.
