@@ -153,8 +153,7 @@ static void add_row(struct text *text, struct names *names, const struct process
 
 /* Adds a detail: with its unit if it is a time or a rate of a TCP connection, and with the path of
  * a control group in place of its id. */
-static void add_detail(struct text *text, const struct names *names, const char *detail,
-                       size_t length) {
+static void add_detail(struct text *text, const char *detail, size_t length) {
     static const struct { const char *name, *unit; } units[] = {
         {"rto:", "us"}, {"ato:", "us"}, {"rtt:", "us"}, {"rttvar:", "us"}, {"rcv_rtt:", "us"},
         {"minrtt:", "us"}, {"busy:", "us"}, {"rwnd_limited:", "us"}, {"sndbuf_limited:", "us"},
@@ -165,7 +164,7 @@ static void add_detail(struct text *text, const struct names *names, const char 
     static const char group[] = "cgroup:";
     char path[PATH_MAX];
     size_t index;
-    if (!names->is_numeric && strncmp(detail, group, strlen(group)) == 0
+    if (strncmp(detail, group, strlen(group)) == 0
         && find_group(strtoull(detail + strlen(group), NULL, 10), path, sizeof path) == 0) {
         add_string(text, group);
         add_name(text, path);
@@ -178,7 +177,7 @@ static void add_detail(struct text *text, const struct names *names, const char 
 }
 
 /* Adds details, and what is between them. */
-static void add_details(struct text *text, const struct names *names, const char *details) {
+static void add_details(struct text *text, const char *details) {
     static const char between[] = " \t,()";
     size_t length;
     for (; *details != '\0'; details += length) {
@@ -187,7 +186,7 @@ static void add_details(struct text *text, const struct names *names, const char
         details += length;
         length = strcspn(details, between);
         if (length > 0)
-            add_detail(text, names, details, length);
+            add_detail(text, details, length);
     }
 }
 
@@ -200,13 +199,13 @@ static int add_line(struct text *text, int has_details, struct names *names,
         if (*line != '\t')
             add_string(text, line);
         else if (has_details)
-            add_details(text, names, line);
+            add_details(text, line);
         return has_details || *line != '\t';
     }
     add_bytes(text, line, (size_t)(columns.start[LOCAL] - line));
     add_row(text, names, processes, &columns);
     if (has_details)
-        add_details(text, names, columns.start[PEER] + columns.length[PEER]);
+        add_details(text, columns.start[PEER] + columns.length[PEER]);
     return 1;
 }
 

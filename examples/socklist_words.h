@@ -277,7 +277,8 @@ static const struct { const char *field, *why; } values[] = {
     {"sport", "no port from 0 to 65535"}, {"dport", "no port from 0 to 65535"},
     {"src", "no address, such as 192.0.2.0/24, [2001:db8::/32] or *:80"},
     {"dst", "no address, such as 192.0.2.0/24, [2001:db8::/32] or *:80"},
-    {"fwmark", "no mark, such as 1 or 0x1/0x3"}, {"cgroup", "no id of a control group"},
+    {"fwmark", "no mark, such as 1 or 0x1/0x3"},
+    {"cgroup", "no id of a control group, or path such as /system.slice"},
 };
 
 /* Returns where the spaces, or the other bytes, begin that end at an offset of a text. */

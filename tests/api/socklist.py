@@ -165,7 +165,8 @@ NO_WORDS = [
         "sport", "dport =", "( dport", "sport >=")),
     ("state 7", "filter: unknown state: 7"), ("exclude up", "filter: unknown state: up"),
     ("cgroup = /none.slice", "unknown control group: /none.slice"),
-    ("cgroup a.slice", "filter: no id of a control group: a.slice"),
+    ("cgroup a.slice",
+     "filter: no id of a control group, or path such as /system.slice: a.slice"),
     ("fwmark x", "filter: no mark, such as 1 or 0x1/0x3: x"),
     ("state dst src", "unknown host: src"),
     (" ".join(129 * ["sport = 1"]), "filter: more than 256 conditions and operators: 1"),
@@ -567,8 +568,9 @@ def test_control_group(runs):
     runs.record(*dump("tcp", inet_reply(FAR, FAR) + attribute(21, struct.pack("<Q", group))))
     capabilities = re.search(r"CapEff:\t(\w+)", Path("/proc/self/status").read_text("utf-8"))[1]
     may_open = GROUP and int(capabilities, 16) >> 2 & 1
-    for arguments, shown in (("-teHO", "/" if may_open else group), ("-tenHO", group)):
-        compare(arguments, runs.end(arguments)[1].split()[-1], f"cgroup:{shown}")
+    for arguments in ("-teHO", "-tenHO"):
+        compare(arguments, runs.end(arguments)[1].split()[-1],
+                f"cgroup:{'/' if may_open else group}")
     runs.record(*dump("tcp", inet_reply(FAR, FAR) + attribute(21, b"\xff" * 8)))
     compare("no group", runs.end("-teHO")[1].split()[-1], f"cgroup:{2 ** 64 - 1}")
 
