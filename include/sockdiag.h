@@ -344,7 +344,8 @@ enum sockdiag_inet_attribute {
     SOCKDIAG_INET_DIAG_SHUTDOWN = 8,         /* Directions that are shut down, a u8: bit 0 for
                                                 receiving, bit 1 for sending. See shutdown(2). */
     SOCKDIAG_INET_DIAG_DCTCPINFO = 9,        /* Measurements of DCTCP: struct tcp_dctcp_info. */
-    SOCKDIAG_INET_DIAG_PROTOCOL = 10,        /* Protocol of a raw socket, IPPROTO_*. */
+    SOCKDIAG_INET_DIAG_PROTOCOL = 10,        /* Protocol of a raw socket, or of the socket of an
+                                                event, IPPROTO_*. */
     SOCKDIAG_INET_DIAG_SKV6ONLY = 11,        /* Whether the socket is IPv6-only. */
     SOCKDIAG_INET_DIAG_LOCALS = 12,          /* Local addresses of an SCTP socket. */
     SOCKDIAG_INET_DIAG_PEERS = 13,           /* Remote addresses of an SCTP socket. */

@@ -260,7 +260,7 @@ pub const INET_DIAG_SHUTDOWN: u16 = 8;
 /// Measurements of DCTCP: `struct tcp_dctcp_info`.
 pub const INET_DIAG_DCTCPINFO: u16 = 9;
 
-/// Protocol of a raw socket, `IPPROTO_*`.
+/// Protocol of a raw socket, or of the socket of an event, `IPPROTO_*`.
 pub const INET_DIAG_PROTOCOL: u16 = 10;
 
 /// Whether the socket is IPv6-only.
