@@ -51,7 +51,6 @@
 #include <linux/vm_sockets_diag.h>
 #include <linux/xdp_diag.h>
 #include <netinet/in.h>
-#include <netinet/tcp.h>
 #include <poll.h>
 #include <signal.h>
 #include <stdint.h>
@@ -353,22 +352,24 @@ static void report_error(const struct kind *kind, const struct datagram *it) {
         fprintf(stderr, "sockdump: %s: %s\n", kind->name, strerror(error));
 }
 
-/* Returns whether a file of proc(5) has raw sockets: lines after the heading. */
-static int has_sockets(const char *path) {
+/* Returns whether a file of proc(5) has sockets in these states: the fourth column. */
+static int has_sockets(const char *path, uint32_t states) {
     char line[512];
-    int count = 0;
+    unsigned state;
+    int found = 0;
     FILE *file = fopen(path, "re");
-    while (file != NULL && count < 2 && fgets(line, sizeof line, file) != NULL)
-        count++;
+    while (file != NULL && !found && fgets(line, sizeof line, file) != NULL)
+        found = sscanf(line, "%*s %*s %*s %x", &state) == 1 && state < 32
+             && (states >> state & 1) != 0;
     if (file != NULL)
         fclose(file);
-    return count == 2;
+    return found;
 }
 
-/* Returns whether raw sockets are selected that this kernel does not list: most are closed. */
+/* Returns whether there are raw sockets in the selected states, which this kernel does not list. */
 static int lacks_sockets(const struct kind *kind, const struct filter *filter) {
-    return kind->protocol == IPPROTO_RAW && (filter->states >> TCP_CLOSE & 1) != 0
-        && has_sockets(kind->family == AF_INET ? "/proc/net/raw" : "/proc/net/raw6");
+    const char *path = kind->family == AF_INET ? "/proc/net/raw" : "/proc/net/raw6";
+    return kind->protocol == IPPROTO_RAW && has_sockets(path, filter->states);
 }
 
 /* Requests a kind, and writes the request and its answer, unless the kernel does not list the kind

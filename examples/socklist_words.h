@@ -182,7 +182,7 @@ static int add_end(struct words *words, char *word) {
     char *colon = strrchr(word, ':');
     struct text port = {NULL, 0, 0};
     int status = 0;
-    if (colon != strchr(word, ':') && strchr(word, '[') == NULL)
+    if (colon != strchr(word, ':') && strpbrk(word, "[/") == NULL)
         return reject_word("an IPv6 address has brackets, such as [::1]:80 or [2001:db8::/32]",
                            word);
     if (colon != NULL && strpbrk(colon, "/]") == NULL) {
@@ -223,12 +223,12 @@ static int add_group(struct text *text, const char *word) {
     char path[PATH_MAX];
     struct stat found;
     size_t index;
-    if (*word != '/')
+    if (is_number(word))
         return add_word(text, word), 0;
     /* A path may begin with the folder. */
     index = strncmp(word, GROUPS_FOLDER "/", strlen(GROUPS_FOLDER "/")) != 0;
     for (; index < sizeof roots / sizeof *roots; index++)
-        if ((size_t)snprintf(path, sizeof path, "%s%s", roots[index], word) < sizeof path
+        if ((size_t)snprintf(path, sizeof path, "%s/%s", roots[index], word) < sizeof path
             && stat(path, &found) == 0 && S_ISDIR(found.st_mode)) {
             snprintf(path, sizeof path, "%llu", (unsigned long long)found.st_ino);
             return add_word(text, path), 0;
@@ -277,8 +277,7 @@ static const struct { const char *field, *why; } values[] = {
     {"sport", "no port from 0 to 65535"}, {"dport", "no port from 0 to 65535"},
     {"src", "no address, such as 192.0.2.0/24, [2001:db8::/32] or *:80"},
     {"dst", "no address, such as 192.0.2.0/24, [2001:db8::/32] or *:80"},
-    {"fwmark", "no mark, such as 1 or 0x1/0x3"},
-    {"cgroup", "no id of a control group, or path such as /system.slice"},
+    {"fwmark", "no mark, such as 1 or 0x1/0x3"}, {"cgroup", "no id of a control group"},
 };
 
 /* Returns where the spaces, or the other bytes, begin that end at an offset of a text. */

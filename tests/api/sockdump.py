@@ -132,11 +132,12 @@ def expected_round(file, kinds=()):
 
 
 def expected_notes(file, kinds, states=b"\xff" * 4):
-    """Returns what the program reports of kinds that are named, and of raw sockets that are not,
-    most of which are closed, if the kernel lacks the kinds."""
+    """Returns what the program reports of kinds that are named, and of raw sockets in these states,
+    if the kernel lacks the kinds."""
     files = [it for it in (Path("/proc/net/raw"), Path("/proc/net/raw6")) if it.exists()]
-    has_raw = not kinds and states[0] & 1 << 7 and any(
-        len(it.read_text("ascii").splitlines()) > 1 for it in files)
+    found = [int(line.split()[3], 16) for it in files
+             for line in it.read_text("ascii").splitlines()[1:]]
+    has_raw = not kinds and any(states[it // 8] >> it % 8 & 1 for it in found)
     missing = dict.fromkeys(name for name, family, _ in REQUESTS
                             if name in kinds or has_raw and name == "raw"
                             if answer(file, name, family, 1)[0][4] == ERROR)
@@ -392,17 +393,21 @@ def test_filters(runs, files):
 
 
 def test_raw(runs, files):
-    """Reports that raw sockets are missing, unless no closed ones are selected."""
+    """Reports that raw sockets are missing, if there are some in the selected states."""
     try:
         raw = socket.socket(socket.AF_INET, socket.SOCK_RAW, 253)
     except PermissionError:
         return print("sockdump: skipped: raw sockets: no permission")
     with raw:
-        for words, states in (([], b"\xff"), (["--", "state", "closed"], b"\x80"),
-                              (["--", "exclude", "closed"], b"\x7f")):
+        for is_connected, words, states, is_missing in (
+            (0, "state all", b"\xff" * 4, 1), (0, "state closed", b"\x80\0\0\0", 1),
+            (0, "state listening", b"\0\4\0\0", 0), (1, "state established", b"\2\0\0\0", 1),
+        ):
+            if is_connected:
+                raw.connect(("127.0.0.1", 0))
             note = expected_notes(files[0], (), states)
-            compare(f"{words}", bool(note), states != b"\x7f")
-            compare(f"{words}", runs.end(words, subprocess.PIPE, files[0])[::2], (0, note))
+            compare(words, bool(note), bool(is_missing))
+            compare(words, runs.end(["--", words], subprocess.PIPE, files[0])[::2], (0, note))
 
 
 def test_odd_length(runs, files):

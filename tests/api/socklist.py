@@ -120,7 +120,8 @@ WORDS = [
     ("src :{ssh} or src = *:{ssh}", "src :22 or src = *:22"),
     ("dst 10.0.0.1:{http} dst [::1]:{ssh}", "dst 10.0.0.1:80 dst [::1]:22"),
     *((f"dst {it}", f"dst {it}") for it in (
-        "[::1]", "10.0.0.0/8", "10.0.0.0/8:80", "[2001:db8::/32]", "[fe80::/64]:1", "*", "*:*")),
+        "[::1]", "10.0.0.0/8", "10.0.0.0/8:80", "[2001:db8::/32]", "2001:db8::/32",
+        "[fe80::/64]:1", "*", "*:*")),
     ("dev lo and dev = lo or dev != lo", "dev 1 and dev = 1 or dev != 1"),
     ("dev 7 fwmark = 0x1/0x3 cgroup = 5", "dev 7 fwmark = 0x1/0x3 cgroup = 5"),
     ("not src one.example", "not src [192.0.2.1]"),
@@ -136,7 +137,7 @@ WORDS = [
 # The id of the control group that is the root of the hierarchy of version 2, if there is one.
 GROUP = next((os.stat(it).st_ino for it in ("/sys/fs/cgroup/unified", "/sys/fs/cgroup")
               if os.path.isdir(it)), None)
-WORDS += [("cgroup / or not cgroup = /", f"cgroup {GROUP} or not cgroup = {GROUP}")] * bool(GROUP)
+WORDS += [("cgroup / or not cgroup = .", f"cgroup {GROUP} or not cgroup = {GROUP}")] * bool(GROUP)
 NO_ADDRESS = "no address, such as 192.0.2.0/24, [2001:db8::/32] or *:80"
 # Words that are rejected, and the text.
 NO_WORDS = [
@@ -165,8 +166,7 @@ NO_WORDS = [
         "sport", "dport =", "( dport", "sport >=")),
     ("state 7", "filter: unknown state: 7"), ("exclude up", "filter: unknown state: up"),
     ("cgroup = /none.slice", "unknown control group: /none.slice"),
-    ("cgroup a.slice",
-     "filter: no id of a control group, or path such as /system.slice: a.slice"),
+    ("cgroup none.slice", "unknown control group: none.slice"),
     ("fwmark x", "filter: no mark, such as 1 or 0x1/0x3: x"),
     ("state dst src", "unknown host: src"),
     (" ".join(129 * ["sport = 1"]), "filter: more than 256 conditions and operators: 1"),
