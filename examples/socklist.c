@@ -108,12 +108,11 @@ static int list_file(const struct arguments *lister, int file,
  * `objects` are the arguments by which sslist lists the same sockets as objects. */
 static int close_listed(const struct arguments *recorder, const struct arguments *lister,
                         const struct arguments *objects, struct listing *listing) {
-    struct targets targets;
+    static struct targets targets;
     int status;
     const int file = record(recorder, &status);
     if (file < 0)
         return status;
-    memset(&targets, 0, sizeof targets);
     status = list_file(lister, file, print_line, listing);
     if (status == 0)
         status = list_file(objects, file, store_target, &targets);
@@ -124,7 +123,6 @@ static int close_listed(const struct arguments *recorder, const struct arguments
         status = listing->options->is_confirmed || is_wanted(targets.count)
                      ? close_sockets(&targets)
                      : EXIT_FAILURE;
-    free(targets.items);
     return status;
 }
 
@@ -143,9 +141,6 @@ static int list_sockets(const struct options *options) {
                                    : list_recorded(&options->recorder, &lister, &listing);
     if (options->is_summary && status == 0 && print_summary(options, &listing.summary) != 0)
         status = EXIT_FAILURE;
-    free(listing.line.bytes);
-    free(listing.processes.items);
-    free(listing.processes.names.bytes);
     free(lister.items);
     free(objects.items);
     return status;

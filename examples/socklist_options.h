@@ -221,12 +221,12 @@ static const struct { const char *name; char letter; } names[] = {
     {"--processes", 'p'}, {"--numeric", 'n'}, {"--resolve", 'r'}, {"--summary", 's'},
     {"--events", 'E'},    {"--kill", 'K'},    {"--options", 'o'}, {"--memory", 'm'},
     {"--info", 'i'},      {"--extended", 'e'}, {"--ipv4", '4'},   {"--ipv6", '6'},
-    {"--all", 'a'},       {"--listening", 'l'}, {"--no-header", 'H'}, {"--oneline", 'O'},
-    {"--help", 'h'},      {"--version", 'V'},
+    {"--all", 'a'},       {"--listening", 'l'}, {"--help", 'h'},  {"--version", 'V'},
 };
 
 /* Other long options of sslist. */
-static const char *const of_lister[] = {"--json", "--requests", "--utf8", NULL};
+static const char *const of_lister[] = {"--json",     "--no-header", "--oneline",
+                                         "--requests", "--utf8",      NULL};
 
 /* Reads a long option that is the same as a letter. Returns whether it is one. */
 static int read_name(struct options *options, const char *argument) {
@@ -356,8 +356,7 @@ static int make_filter(struct options *options) {
     const int has_tcp = options->is_selected[TCP] || options->is_selected[MPTCP];
     const int has_all = !has_tcp && !options->is_selected[UDP];
     const char *states = options->states;
-    struct words words;
-    memset(&words, 0, sizeof words);
+    static struct words words;
     words.has_tcp = has_all || has_tcp;
     words.has_udp = has_all || options->is_selected[UDP];
     if (states == NULL && !options->is_summary && !options->has_events)

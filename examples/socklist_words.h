@@ -39,12 +39,11 @@ static void add_word(struct text *text, const char *word) {
 
 /* Reports a wrong word of a filter, which may be missing at its end. Returns the exit status. */
 static int reject_word(const char *why, const char *word) {
-    struct text shown = {NULL, 0, 0};
+    static struct text shown;
     add_name(&shown, word);
     add_byte(&shown, '\0');
     fprintf(stderr, PROGRAM ": %s%s%s; try socklist --help\n", why, *word != '\0' ? ": " : "",
             shown.bytes);
-    free(shown.bytes);
     return USAGE_ERROR;
 }
 
