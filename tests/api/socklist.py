@@ -12,6 +12,7 @@ status is 1 if one failed.
 
 import contextlib
 import ctypes
+import errno
 import itertools
 import json
 import os
@@ -63,6 +64,8 @@ ARGUMENTS = [
     (["-al"], [], FEW, LISTENING),
     (["-xH"], ["unix"], ["-H", *FEW], CONNECTED),
     *(([f"--{it}"], [it], FEW, WAITING) for it in ("packet", "netlink", "xdp")),
+    *(([f"--{it}"], [it], FEW, CONNECTED) for it in (
+        "tcp", "udp", "mptcp", "raw", "unix", "vsock")),
     (["-0"], ["packet"], FEW, WAITING),
     (["-t", "--vsock", "--xdp"], ["tcp", "vsock", "xdp"], FEW, WAITING),
     (["-wa"], ["raw"], FEW, ""),
@@ -80,7 +83,7 @@ ARGUMENTS = [
     (["-f", "inet", "-a"], [], ["-f", "inet", *FEW], ""),
     (["-4a"], [], ["-4", *FEW], ""),
     (["-4ta"], ["tcp"], ["-4", *FEW], ""),
-    (["--ipv6", "-xa"], [], ["--ipv6", *FEW, "-f", "unix"], ""),
+    *(([it, "-xa"], [], [it, *FEW, "-f", "unix"], "") for it in ("--ipv4", "--ipv6")),
     (["-6uxa"], ["udp", "unix"], ["-6", *FEW, "-f", "unix"], ""),
     (["--json", "-l"], [], ["--json", *FEW], LISTENING),
     (["--every=5", "-a"], ["--every=5"], FEW, ""),
@@ -97,8 +100,8 @@ ARGUMENTS = [
     (["-taxM", "fwmark", "1"], ["tcp", "mptcp"], FEW, "", "fwmark 1"),
     (["-6xua", "dev = 1"], ["udp"], ["-6", *FEW], "", "dev = 1"),
 ]
-# Arguments with events, and those that sockdump and sslist get.
-EVENTS = [
+# Arguments with events or -K, and those that sockdump and, the last time, sslist get.
+OTHERS = [
     (["-E"], ["--events"], FEW),
     (["-Et"], ["--events=tcp"], FEW),
     (["-u", "--events"], ["--events=udp"], FEW),
@@ -108,6 +111,12 @@ EVENTS = [
     # All events are in one state.
     (["-E", "state all dport", "=", ":443"], ["--events"], [*FEW, "--", "dport = :443"]),
     *((["-E", it], ["--events"], FEW) for it in ("-l", "state established")),
+    # Without -a and -l, -K closes only connections.
+    *(([f"-K{letters}", "--yes", "dport", "= :443"], [*kinds, "--", f"{states}dport = :443"],
+       [*version, "--json", *FEW, "--", f"{states}dport = :443"])
+      for letters, kinds, version, states in (
+          ("", ["tcp", "udp"], [], f"{CONNECTED} "), ("4", ["tcp", "udp"], ["-4"], f"{CONNECTED} "),
+          ("ua", ["udp"], [], ""), ("lt", ["tcp"], [], f"{LISTENING} "))),
 ]
 # Words with names, and with numbers in their place. A name in braces is that of a service of TCP.
 WORDS = [
@@ -129,6 +138,7 @@ WORDS = [
     *((f"dst {it}", "dst *") for it in ("any", "all", "default")), ("src any:{http}", "src *:80"),
     ("dst 10/8 or src 193.233.7/24", "dst 10.0.0.0/8 or src 193.233.7.0/24"),
     ("dst 127.1 or dst 10:80", "dst 127.1.0.0 or dst 10.0.0.0:80"),
+    ("src 1.2.3 or src 1.2.3.4", "src 1.2.3.0 or src 1.2.3.4"),
     ("src = one.example:{ssh} autobound", "src = [192.0.2.1]:22 autobound"),
     ("autobound dst many.example", "autobound ( dst [192.0.2.1] or dst [2001:db8::1] )"),
     ("( ! dst == many.example:80 )",
@@ -149,6 +159,8 @@ NO_WORDS = [
     ("sport = 443x", "unknown service: 443x"),
     ("dst none.example", "unknown host: none.example"),
     ("dst none.example:80", "unknown host: none.example"),
+    *((f"dst {it}", f"unknown host: {it}") for it in (
+        "a", "z", "A", "Z", "1.a", "1.Z", "z@", "a{")),
     ("dev = none", "unknown interface: none"),
     ("( dport = :443 and", "filter: the filter is not complete"),
     ("state", "filter: the filter is not complete"),
@@ -156,7 +168,8 @@ NO_WORDS = [
     *((f"dport = :443 {it}", f"filter: unexpected word: {it.split()[0]}") for it in (
         ")", "state established", "= 5")),
     *((f"dst {it}", f"filter: {NO_ADDRESS}: {it}") for it in (
-        "0x7f", "1.2.", ".", "1.2.3.4.5", "a.1", "-n.example", "none.example/24")),
+        "0x7f", "1.2.", ".", "1.2.3.4.5", "a.1", "-n.example", "none.example/24", "10./8", "@", "`",
+        "{", "[a", "a]", "1.2.3.4/")),
     *((f"src {it}",
        f"an IPv6 address has brackets, such as [::1]:80 or [2001:db8::/32]: {it}") for it in (
         "::1", "fe80::1%lo", "::ffff:127.0.0.1")),
@@ -167,6 +180,8 @@ NO_WORDS = [
     ("state 7", "filter: unknown state: 7"), ("exclude up", "filter: unknown state: up"),
     ("cgroup = /none.slice", "unknown control group: /none.slice"),
     ("cgroup none.slice", "unknown control group: none.slice"),
+    *((f"cgroup {it}", f"filter: no id of a control group: {it.split()[-1]}") for it in (
+        f"{1 << 64}", f"= {1 << 64}")),
     ("fwmark x", "filter: no mark, such as 1 or 0x1/0x3: x"),
     ("state dst src", "unknown host: src"),
     (" ".join(129 * ["sport = 1"]), "filter: more than 256 conditions and operators: 1"),
@@ -182,6 +197,7 @@ REJECTED = [
     *((it, f"unknown option: {option}") for it, option in (
         (["--nope", "--help"], "--nope"), (["-K", "dport = 1", "--nope"], "--nope"),
         (["-F", "file"], "-F"), (["-tqh"], "-q"), (["-E=tcp"], "-="), (["--every", "1"], "--every"),
+        (["--netns"], "--netns"),
         (["--utf8=1"], "--utf8=1"), (["--"[:1] + "\x1b"], r"-\x1b"))),
     (["-E", "--every=1"], "-E takes no --every"),
     *((it, "unknown family; families are inet, inet6, unix, link, netlink, vsock and xdp: tipc")
@@ -199,7 +215,9 @@ REJECTED = [
     (["-KM", "dport = 1"], "-K closes TCP and UDP sockets: -t and -u"),
     (["-K", "--every=1", "dport = 1"], "-K takes no --every and no -E"),
     (["-KE", "dport = 1"], "-K takes no --every and no -E"),
-    (["-N", 5000 * "x"], "the name of the namespace is too long"),
+    # /run/netns/ and the name have 4096 bytes, and there is no space for the terminating NUL.
+    (["-N", 4085 * "x"], "the name of the namespace is too long"),
+    *((["-a", it], f"filter: unexpected word: {it[0]}") for it in ("-", "= 5")),
     *(([it, "dev lo"], "conditions such as dport select IPv4 and IPv6 sockets: -t, -u, -M, -w")
       for it in ("-0", "-4x", "--netlink", "-Avsock,xdp", "-0t")),
 ]
@@ -331,7 +349,7 @@ def test_arguments(runs):
         filters = f"{words} {conditions}".strip(), words
         expected = [it + ["--", text] * bool(text) for it, text in zip(expected, filters)]
         compare(f"{arguments}", passed(runs, *arguments), (0, "", *expected))
-    for arguments, *expected in EVENTS:
+    for arguments, *expected in OTHERS:
         compare(f"{arguments}", passed(runs, *arguments), (0, "", *expected))
 
 
@@ -389,37 +407,53 @@ high 65536/tcp
 last 13/tcp first second
 last 13/udp
 last 14/tcp
+again 80/tcp
+low 32767/tcp
+chosen 32768/tcp
+chosen 60999/tcp
+above 61000/tcp
 """
+# Ports of a protocol, and what the table shows in their place. Without the file that has them, the
+# kernel chooses ports from 32768 to 60999.
+SHOWN_PORTS = [
+    ("tcp", {1: 1, 10: "both", 12: 12, 13: "last", 14: "last", 80: "http", 32767: "low",
+             32768: 32768, 60999: 60999, 61000: "above"}),
+    ("udp", {10: 10, 11: "both", 12: "only", 13: "last", 14: 14, 61000: 61000}),
+    ("mptcp", {10: "both", 12: 12}), ("raw", {10: 10, 13: 13, 61000: 61000}),
+]
 TWO_PORTS = "-t or -u has to select one of the two ports of the service: both"
 # Options, the name of a service of SERVICES, and its port, or an error.
 PORTS = [
     ("-t", "both", 10), ("-u", "both", 11), ("-tu", "both", TWO_PORTS),
     ("-M", "both", 10), ("-M", "only", "unknown service: only"), ("-u", "only", 12),
     ("-wn", "only", 12), ("-tu", "second", 13), ("-u", "second", "unknown service: second"),
-    ("-tu", "last", 13), *(("-t", it, f"unknown service: {it}") for it in (
+    ("-tu", "last", 13), ("-a", "both", TWO_PORTS), ("-w", "http", 80),
+    *(("-t", it, f"unknown service: {it}") for it in (
         "none", "letters", "high", "web", "#", "tcp")),
 ]
 
 
-def with_services(file):
-    """Returns a function that enters a mount namespace in which a file is /etc/services."""
+def with_files(services, ports="/dev/null"):
+    """Returns a function that enters a mount namespace in which these files are /etc/services and
+    RANGE."""
     def enter():
         calls = ctypes.CDLL(None)
         if (calls.unshare(0x20000 | (0 if os.geteuid() == 0 else 0x10000000)) != 0
                 or calls.mount(b"none", b"/", None, 0x44000, None) != 0
-                or calls.mount(str(file).encode(), b"/etc/services", None, 0x1000, None) != 0):
+                or any(calls.mount(str(it).encode(), path, None, 0x1000, None) != 0
+                       for it, path in ((services, b"/etc/services"), (ports, bytes(RANGE))))):
             raise OSError("mount")
     return enter
 
 
 def test_services(runs):
-    """Compares the ports of services, and the texts of errors about them."""
+    """Compares the ports of services, their names in the table, and the texts of errors."""
     file = runs.folder / "services"
     file.write_text(SERVICES)
     for letters, name, expected in PORTS:
         try:
             status, errors, words, _ = passed(runs, letters, f"state all sport = :{name}",
-                                              preexec_fn=with_services(file))
+                                              preexec_fn=with_files(file))
         except subprocess.SubprocessError:
             print("socklist: skipped: services: no mount namespace, or no /etc/services")
             return
@@ -429,6 +463,18 @@ def test_services(runs):
         else:
             compare(f"{letters} {name}", (status, errors, words),
                     (2, f"socklist: {expected}{TRY}", []))
+    for kind, ports in SHOWN_PORTS:
+        runs.record(*dump(kind, *(inet_reply(("127.0.0.1", it), FAR) for it in ports)))
+        status, table, errors = runs.end("-aH", preexec_fn=with_files(file))
+        compare(kind, (status, [it.split()[6] for it in table.splitlines()], errors),
+                (0, [f"127.0.0.1:{it}" for it in ports.values()], ""))
+    # This file cannot be read at its start.
+    failing = "/proc/self/mem"
+    for files, path, arguments in (
+            ((failing,), "/etc/services", ["-ta"]), ((file, failing), RANGE, ["-ta"]),
+            ((failing,), "/etc/services", ["-t", "sport = :x"])):
+        status, _, errors = runs.end(*arguments, preexec_fn=with_files(*files))
+        compare(f"{arguments}", (status, errors), (1, f"socklist: {path}: Input/output error\n"))
 
 
 def test_rejections(runs):
@@ -454,16 +500,31 @@ def ephemeral_port():
     return next((it for it in map(int, found) if low <= it <= high), low)
 
 
+# The names that ss has for netlink protocols from 0 on, and for protocols of packet sockets.
+NETLINK = """rtnl unused usersock fw tcpdiag nflog xfrm selinux iscsi audit fiblookup connector nft
+    ip6fw dec-rt uevent genl 17 scsi-trans ecryptfs rdma crypto 22""".split()
+PACKET = {
+    0x0001: "802_3", 0x0002: "ax25", 0x0004: "802_2", 0x0005: "snap", 0x0006: "ddcmp",
+    0x0007: "wan_ppp", 0x0008: "ppp_mp", 0x0009: "localtalk", 0x000c: "can", 0x0010: "ppptalk",
+    0x0011: "tr_802_2", 0x0015: "mobitex", 0x0016: "control", 0x0017: "irda", 0x0018: "econet",
+    0x0060: "loop", 0x0200: "pup", 0x0201: "pupat", 0x0800: "ip", 0x0805: "x25", 0x0806: "arp",
+    0x0a00: "ieeepup", 0x0a01: "ieeepupat", 0x6000: "dec", 0x6001: "dna_dl", 0x6002: "dna_rc",
+    0x6003: "dna_rt", 0x6004: "lat", 0x6005: "diag", 0x6006: "cust", 0x6007: "sca", 0x6558: "teb",
+    0x8035: "rarp", 0x809b: "atalk", 0x80f3: "aarp", 0x8100: "802.1Q", 0x8137: "ipx",
+    0x86dd: "ipv6", 0x8847: "mpls_uc", 0x8848: "mpls_mc", 0x884c: "atmmpoa", 0x8863: "ppp_disc",
+    0x8864: "ppp_ses", 0x8884: "atmfate", 0x8892: "profinet", 0x88a2: "aoe", 0x88a4: "ethercat",
+    0x88a8: "802.1ad", 0x88ca: "tipc", 0x88cc: "LLDP", 0: "0", 0xffff: "65535"}
 # Reports memory errors and leaks of socklist, but not of what it runs.
 VALGRIND = ("valgrind", "-q", "--leak-check=full", "--error-exitcode=99")
-# An end of a connection.
+# An end of a connection, and an address that is wider than its column.
 FAR = ("192.0.2.1", 443)
+LONG = "2001:db8:1111:2222:3333:4444:5555:6666"
 
 
 def shown_sockets(inode):
     """Returns for each of some sockets its kind, a reply, and its columns Local and Peer with -n. A
     service is in braces, as in {443/tcp}, and a number and its name, as in {0=rtnl}. The first
-    socket has this inode."""
+    socket, the UNIX and the XDP socket have this inode."""
     ends = ("127.0.0.1", 22), ("fe80::1", 53), ("10.0.0.1", ephemeral_port())
     packets = "icmp" if Path("/etc/protocols").exists() else 1
     return [
@@ -473,24 +534,22 @@ def shown_sockets(inode):
          f"10.0.0.1%99:{{{ends[2][1]}/tcp}} 192.0.2.1:{{443/tcp}}"),
         ("udp", inet_reply(ends[1], ends[1], interface=1),
          "[fe80::1]%lo:{53/udp} [fe80::1]:{53/udp}"),
+        ("udp", inet_reply((LONG, 53), (LONG, 53), interface=1),
+         f"[{LONG}]%lo:{{53/udp}} [{LONG}]:{{53/udp}}"),
         ("mptcp", inet_reply(("127.0.0.1", 80), FAR), "127.0.0.1:{80/tcp} 192.0.2.1:{443/tcp}"),
         ("raw", inet_reply(("127.0.0.1", 1), ("192.0.2.1", 253)),
          f"127.0.0.1:{{1={packets}}} 192.0.2.1:253"),
-        ("unix", struct.pack("<BBBBIQ", 1, 1, 1, 0, 7, 2) + attribute(0, "/猫:22%1\0".encode()),
+        ("unix", struct.pack("<BBBBIQ", 1, 1, 1, 0, inode, 2) + attribute(0, "/猫:22%1\0".encode()),
          "/猫:22%1 *"),
         *(("netlink", struct.pack("<4B4IQ", 16, 3, protocol, 7, port, 0, 0, 5, 3), f"{local} *")
           for protocol, port, local in (
-              (0, 0, "{0=rtnl}:{0=kernel}"), (4, 1 << 31, "{4=tcpdiag}:2147483648"),
+              *((it, 0, f"{{{it}={name}}}:{{0=kernel}}") for it, name in enumerate(NETLINK)),
               (16, os.getpid(), f"{{16=genl}}:{{{os.getpid()}={own_name()}/{os.getpid()}}}"),
-              (21, 0, "{21=crypto}:{0=kernel}"), (10, 0, "{10=fiblookup}:{0=kernel}"),
-              (11, 0, "{11=connector}:{0=kernel}"), (22, 0, "22:{0=kernel}"),
-              (17, 3 << 30, "17:3221225472"))),
+              (4, 1 << 31, "{4=tcpdiag}:2147483648"), (17, 3 << 30, "17:3221225472"))),
         *(("packet", struct.pack("<BBHIQ", 17, 3, number, 6, 4)
            + attribute(0, struct.pack("<6I", 1, 0, 0, 0, 0, 0)), f"{protocol}:lo *")
-          for number, protocol in ((1, "{1=802_3}"), (3, "*"), (22, "{22=control}"), (0, "0"),
-                                   (0x8892, "{34962=profinet}"), (0x88a4, "{34980=ethercat}"),
-                                   (0x88cc, "{35020=LLDP}"), (0xffff, "65535"))),
-        ("xdp", struct.pack("<BBHIQ", 44, 3, 0, 7, 5) + attribute(1, struct.pack("<2I", 1, 22)),
+          for number, protocol in ((3, "*"), *((it, f"{{{it}={PACKET[it]}}}") for it in PACKET))),
+        ("xdp", struct.pack("<BBHIQ", 44, 3, 0, inode, 5) + attribute(1, struct.pack("<2I", 1, 22)),
          "lo:22 *"),
     ]
 
@@ -530,7 +589,10 @@ def test_table(runs):
                 rest = line.split()[6:]
                 compare(f"{arguments} {kind}", " ".join(rest[:2]),
                         with_names(ends, "n" in letters))
-                has_users = "p" in letters and line == lines[0]
+                # A character of the name of the UNIX socket has two columns.
+                compare(f"{arguments} {kind}", f" {rest[0]:30} {rest[1]} " in f"{line} ",
+                        kind != "unix")
+                has_users = "p" in letters and (line == lines[0] or kind in ("unix", "xdp"))
                 compare(f"{arguments} {kind}", rest[2:3] == [users], has_users)
                 compare(f"{arguments} {kind}", len(rest) > 2 + has_users,
                         "e" in letters and "O" in letters)
@@ -538,6 +600,10 @@ def test_table(runs):
             if "p" in letters:
                 heading = table.splitlines()[0]
                 compare("heading", heading.index("Process"), lines[0].index("users:"))
+        users = [bool(json.loads(it)["processes"])
+                 for it in runs.end("-ap", "--json")[1].splitlines()]
+        compare("--json", users, [it == 0 or row[0] in ("unix", "xdp")
+                                  for it, row in enumerate(sockets)])
         for letter, name in ("n", "--numeric"), ("p", "--processes"):
             compare(name, runs.end("-a", name), runs.end(f"-a{letter}"))
 
@@ -571,8 +637,18 @@ def test_control_group(runs):
     for arguments in ("-teHO", "-tenHO"):
         compare(arguments, runs.end(arguments)[1].split()[-1],
                 f"cgroup:{'/' if may_open else group}")
+    runs.record(*dump("tcp", *30 * [inet_reply(FAR, FAR) + attribute(21, struct.pack("<Q", 7))]))
+    folder = next(filter(os.path.isdir, ("/sys/fs/cgroup/unified", "/sys/fs/cgroup")), None)
+    for target, shown in ("", "/"), ("/a.slice/b\\\x1b", r"/a.slice/b\x5c\x1b"):
+        status, table, errors = runs.end("-teHO", env=stand_ins(runs, 0, f"{folder}{target}"),
+                                         preexec_fn=with_descriptors(20))
+        compare(target, (status, {it.split()[-1] for it in table.splitlines()}, errors),
+                (0, {f"cgroup:{shown if folder else 7}"}, ""))
+    compare("elsewhere", runs.end("-teHO", env=stand_ins(runs, 0, "/a"))[1].split()[-1], "cgroup:7")
     runs.record(*dump("tcp", inet_reply(FAR, FAR) + attribute(21, b"\xff" * 8)))
-    compare("no group", runs.end("-teHO")[1].split()[-1], f"cgroup:{2 ** 64 - 1}")
+    for environment in (None, stand_ins(runs, 0, folder or "")):
+        compare("no group", runs.end("-teHO", env=environment)[1].split()[-1],
+                f"cgroup:{2 ** 64 - 1}")
 
 
 def test_both_versions(runs):
@@ -602,6 +678,9 @@ def test_columns(runs):
     found = runs.end("-anomie", "--requests", "--utf8")
     compare("columns", (found[0], re.sub(" +", " ", found[1]), found[2]),
             (0, re.sub(" +", " ", expected), ""))
+    objects = subprocess.run([runs.folder / "sslist", "--json", runs.folder / "capture"],
+                             stdout=subprocess.PIPE, check=True).stdout.decode()
+    compare("--json", runs.end("-a", "--json"), (0, objects, ""))
     unchanged = [[it for it in table.splitlines() if re.match("Netid|u_str|nl|[\t=-]", it)]
                  for table in (found[1], expected)]
     compare("unchanged lines", *unchanged)
@@ -639,7 +718,8 @@ def test_hosts(runs):
     """With -r, shows the names of hosts that getent finds, each of which it looks up once."""
     one, other, none, any_ = ((it, 22) for it in ("192.0.2.1", "192.0.2.3", "192.0.2.2", "0.0.0.0"))
     six, mapped, any_six = ("2001:db8::1", 22), ("::ffff:192.0.2.1", 22), ("::", 22)
-    runs.record(*dump("tcp", inet_reply(one, none, interface=1), inet_reply(none, one),
+    runs.record(*dump("tcp", inet_reply(("192.0.2.12", 22), any_),
+                      inet_reply(one, none, interface=1), inet_reply(none, one),
                       inet_reply(any_, any_)), *dump("tcp", inet_reply(six, any_six),
                                                          inet_reply(mapped, any_six)))
     with hosts(runs) as log:
@@ -648,10 +728,12 @@ def test_hosts(runs):
         log.unlink()
         assert runs.end("-tan")[0] == 0 and not log.exists(), "getent runs without -r"
         compare("hosts", (status, errors, [it.split()[6:8] for it in table.splitlines()]), (0, "", [
+            ["192.0.2.12:22", "0.0.0.0:22"],
             ["example.org%lo:22", "192.0.2.2:22"], ["192.0.2.2:22", "example.org:22"],
             ["0.0.0.0:22", "0.0.0.0:22"], [r"six\x1b.example.org:22", "*:22"],
             ["example.org:22", "*:22"]]))
-        compare("getent", found, ["hosts 192.0.2.1", "hosts 192.0.2.2", "hosts 2001:db8::1"])
+        compare("getent", found, [f"hosts {it}" for it in (
+            "192.0.2.12", "192.0.2.1", "192.0.2.2", "2001:db8::1")])
         runs.record(*dump("tcp", inet_reply(other, none), inet_reply(one, none)))
         failed = "socklist: getent failed\n"
         compare("getent fails", runs.end("-taHr")[::2], (1, failed))
@@ -713,7 +795,7 @@ def test_summary(runs):
 # Names of processes: the bytes, what the table shows, and the member of JSON.
 NAMES = [
     (b"a b!~", "a b!~", {"name": "a b!~"}),
-    (b'"\\\t\x1b', r"\x22\x5c\x09\x1b", {"name": '"\\\t\x1b'}),
+    (b'"\\\t\x1f\x7f', r"\x22\x5c\x09\x1f\x7f", {"name": '"\\\t\x1f\x7f'}),
     (b"a\n", r"a\x0a", {"name": "a\n"}),
     ("ä猫".encode(), r"\xc3\xa4\xe7\x8c\xab", {"name": "ä猫"}),
     (b"\xf0\x9f\x90\xb1", r"\xf0\x9f\x90\xb1", {"name": "\U0001f431"}),
@@ -724,7 +806,12 @@ NAMES = [
     # Not valid UTF-8: too few bytes, too many, a surrogate, and above U+10FFFF.
     *((it, "".join(rf"\x{byte:02x}" for byte in it), {"name_hex": it.hex()}) for it in (
         b"\xff", b"\xc3", b"\xe7\x8c", b"\xc0\x80", b"\xe0\x9f\x80", b"\xed\xa0\x80",
-        b"\xf4\x90\x80\x80", b"\xf0\x9f\x90")),
+        b"\xf4\x90\x80\x80", b"\xf0\x9f\x90", b"\x80", b"\xc1\xbf", b"\xf5\x80\x80\x80",
+        b"\xf0\x8f\x80\x80", b"\xf4\x90\x80\x80", b"\xe7\x8c\x7f", b"\xe7\x8c\xc0",
+        b"\xf0\x9f\x90\x7f", *(bytes([first, second, 0x80, 0x80][:length]) for first, length in (
+            (0xc2, 2), (0xdf, 2), (0xe1, 3), (0xec, 3), (0xee, 3), (0xef, 3), (0xf1, 4), (0xf3, 4))
+          for second in (0x7f, 0xc0)), b"\xe0\xc0\x80", b"\xed\x7f\x80", b"\xf0\xc0\x80\x80",
+        b"\xf4\x7f\x80\x80")),
 ]
 
 
@@ -770,36 +857,80 @@ def test_processes(runs):
             found = runs.end("-aHp", preexec_fn=with_descriptors(most))
             assert found == expected or found[0] != 0 and found[2], f"{most}: {found}"
         status, objects, _ = runs.end("-a", "--json")
-    assert status == 0 and objects and "processes" not in objects, objects
+        assert status == 0 and objects and "processes" not in objects, objects
+        comm.write_bytes(b'a \x1b"')
+        runs.record(*dump("netlink", struct.pack("<4B4IQ", 16, 3, 0, 7, os.getpid(), 0, 0, 5, 3)))
+        assert rf" rtnl:a \x1b\x22/{os.getpid()} " in (table := runs.end("-aH")[1]), table
 
 
-# A library for which each process ends before its name is read.
-ENDED = """
+def test_order(runs):
+    """Finds the processes of sockets whose descriptors are not in the order of their inodes."""
+    with contextlib.ExitStack() as ended:
+        opened = [ended.enter_context(socket.socket()) for _ in range(9)]
+        for number, it in enumerate(reversed(opened), 100):
+            ended.callback(os.close, os.dup2(it.fileno(), number))
+        runs.record(*dump("tcp", *(inet_reply(FAR, FAR, inode=os.fstat(it.fileno()).st_ino)
+                                   for it in opened)))
+        status, table, errors = runs.end("-aHp")
+        compare("order", (status, errors, re.findall(r"fd=(\d+)\),.*fd=(\d+)\)\)\n", table)),
+                (0, "", [(str(it.fileno()), str(108 - number))
+                         for number, it in enumerate(opened)]))
+
+
+# A library with which the name of each process cannot be read, with an error number; and each
+# control group is the folder TARGET, but only the group 7 can be opened by its id.
+STAND_INS = """
 #define _GNU_SOURCE
 #include <errno.h>
 #include <fcntl.h>
+#include <stdlib.h>
 #include <string.h>
 #include <sys/syscall.h>
 #include <unistd.h>
 
 int openat(int folder, const char *path, int flags, ...) {
-    errno = ESRCH;
+    errno = atoi(getenv("NUMBER"));
     return strcmp(path, "../comm") == 0 ? -1 : (int)syscall(SYS_openat, folder, path, flags, 0);
+}
+
+int open_by_handle_at(int mount, struct file_handle *handle, int flags) {
+    static const unsigned char id[8] = {7};
+    const int is_known = mount >= 0 && handle->handle_bytes == 8 && handle->handle_type == 0xfe
+        && memcmp(handle->f_handle, id, 8) == 0;
+    return is_known ? open("/", flags) : -1;
+}
+
+ssize_t readlink(const char *path, char *target, size_t size) {
+    const char *group = getenv("TARGET");
+    if (strncmp(path, "/proc/self/fd/", 14) != 0)
+        return syscall(SYS_readlink, path, target, size);
+    memcpy(target, group, strlen(group));
+    return (ssize_t)strlen(group);
 }
 """
 
 
+def stand_ins(runs, number=0, target=""):
+    """Returns the environment of a run with STAND_INS, an error number and a folder."""
+    library = runs.folder / "stand_ins.so"
+    if not library.exists():
+        subprocess.run([os.environ.get("CC", "cc"), "-shared", "-fPIC", "-o", library, "-x", "c",
+                        "-"], input=STAND_INS.encode(), check=True)
+    return os.environ | {"LD_PRELOAD": str(library), "NUMBER": f"{number}", "TARGET": target}
+
+
 def test_ended_process(runs):
-    """A process that ends while its sockets are found is no error."""
-    library = str(runs.folder / "ended.so")
-    subprocess.run([os.environ.get("CC", "cc"), "-shared", "-fPIC", "-o", library, "-x", "c", "-"],
-                   input=ENDED.encode(), check=True)
+    """A process that ends while its sockets are found, or that belongs to another user, is no error.
+    """
     with socket.socket() as opened:
         number = opened.fileno()
         runs.record(*dump("tcp", inet_reply(FAR, FAR, inode=os.fstat(number).st_ino)))
-        status, table, errors = runs.end("-aHp", env=os.environ | {"LD_PRELOAD": library})
-    compare("ended process", (status, re.findall("users:(.*)", table), errors),
-            (0, [f'(("",pid={os.getpid()},fd={number}))'], ""))
+        for error in (errno.ESRCH, errno.ENOENT, errno.EACCES, errno.EPERM, errno.EMFILE):
+            is_reported = error == errno.EMFILE
+            status, table, errors = runs.end("-aHp", env=stand_ins(runs, error))
+            compare(f"{error}", (status, re.findall("users:(.*)", table), errors), (
+                is_reported, [] if is_reported else [f'(("",pid={os.getpid()},fd={number}))'],
+                "socklist: /proc: Too many open files\n" * is_reported))
 
 
 def with_terminal(runs, answer, arguments, environment):
@@ -846,12 +977,14 @@ def test_close(runs):
     for arguments, answer, requests in (
             (kill, b"y\n", expected), (kill, b"Y\n", expected),
             (["-Ktn", "sport", "ge", "22"], b"yes\n", expected[:2]),
+            (["-Kun", "sport", "ge", "22"], b"yes\n", [destroy(1, *CLOSED[2])]),
             (kill, b"n\n", []), (kill, b"\n", []), (kill, b"\4", [])):
         log.write_text("")
         status, shown = with_terminal(runs, answer, arguments, environment)
         compare(f"{arguments} {answer}", log.read_text().split(), requests)
         compare(f"{arguments} {answer}", status, 0 if requests else 1)
-        assert f"Close {len(requests) or 3} sockets? [y/N] " in shown, shown
+        count = len(requests) or 3
+        assert f"Close {count} socket{'s' * (count > 1)}? [y/N] " in shown, shown
         assert requests or "socklist: nothing was closed" in shown, shown
     for arguments, requests in ((["-H"], expected), (["--json"], expected), (["-u"], [
             destroy(1, *CLOSED[2])]), (["sport <= :21"], [])):
@@ -859,6 +992,9 @@ def test_close(runs):
         status, table, errors = runs.end(*kill, "--yes", *arguments, env=environment)
         compare(f"{arguments}", (status, errors, log.read_text().split()), (0, "", requests))
         compare(f"{arguments}", table.count("22"), len(requests)) if "-u" in arguments else None
+    if shutil.which("valgrind"):
+        found = runs.end(*kill, "--yes", under=VALGRIND, env=environment)
+        compare("memory", (found[0], found[2]), (0, ""))
     log.write_text("")
     found = runs.end(*kill, env=environment, start_new_session=True)
     error = "socklist: no terminal to ask on; --yes closes without asking\n"
@@ -907,14 +1043,29 @@ def test_close_errors(runs):
     found = runs.end(*kill, env=os.environ | {"LD_PRELOAD": runs.library,
                                               "FAKE_KERNEL_CLOSED": str(log)})
     assert found[0] == 1 and found[2].endswith(error) and not log.read_text(), found
-    # An object without a member that sslist writes.
-    for member in ("family", "sport", "dport", "if", "src", "dst", "cookie"):
+    listed = subprocess.run([real, "--json", runs.folder / "capture"], stdout=subprocess.PIPE,
+                            check=True).stdout.decode()
+    # An object without a member that sslist writes, with a wrong address, and of another kind.
+    for old, new in (*((f',"{it}":', ',"no":') for it in (
+            "family", "sport", "dport", "if", "src", "dst", "cookie")),
+            *(('"127.0.0.1"', f'"{it}"') for it in ("127.0.0.x", "127.0.0.1 ", 46 * "1", "")),
+            ('"tcp"', '"raw"'), ('"tcp"', '"udplite"')):
         runs.use(sockdump=f"exec cat {runs.folder}/capture",
-                 sslist=f"""{real} "$@" | sed 's/,"{member}":/,"no":/'""")
+                 sslist=f"""{real} "$@" | sed 's/{old}/{new}/'""")
         found = runs.end(*kill, env=os.environ | {"LD_PRELOAD": runs.library,
                                                   "FAKE_KERNEL_CLOSED": str(log)})
-        assert found[0] == 1 and found[2].startswith("socklist: not a TCP or UDP socket: {") and (
-            found[2].endswith(error) and not log.read_text()), f"{member}: {found}"
+        wrong = f"socklist: not a TCP or UDP socket: {listed.replace(old, new)[:60]}\n"
+        compare(f"{old} {new}", (found[0], found[2], log.read_text()), (1, wrong + error, ""))
+    runs.record(*dump("tcp", CLOSED[0][1]))
+    found = runs.end(*kill, env=os.environ | {"LD_PRELOAD": runs.library,
+                                              "FAKE_KERNEL_REFUSES": "1"})
+    compare("connect", found[::2], (1, "socklist: connect: Operation not permitted\n"))
+    environment = runs.kernel(file, FAKE_KERNEL_CLOSED=str(log))
+    for most in range(4, 14):
+        log.write_text("")
+        found = runs.end(*kill, env=environment, preexec_fn=with_descriptors(most))
+        assert len(log.read_text().split()) == (0 if found[0] else 3) and (
+            found[0] == 0 or found[2]), f"{most}: {found}"
 
 
 def test_fresh(runs):
@@ -939,9 +1090,9 @@ def test_many(runs):
         expected = runs.end("-tanH", "--resolve")
         compare("hosts", runs.end("-tanrH", preexec_fn=with_descriptors(20)), expected)
         if shutil.which("valgrind"):
-            compare("memory", runs.end("-tanrH", under=VALGRIND), expected)
             # The array of arguments is full: the null pointer after them needs a larger one.
-            compare("arguments", runs.end("-tanrH", *64 * ["--utf8"], under=VALGRIND), expected)
+            arguments = ["-taperH", *64 * ["--utf8"], "dst many.example:80 or sport 1"]
+            compare("memory", runs.end(*arguments, under=VALGRIND), runs.end(*arguments))
     compare("hosts", expected[::2], (0, ""))
     with socket.socket() as opened, contextlib.ExitStack() as ended:
         for _ in range(30):
@@ -978,6 +1129,11 @@ def test_rounds(runs):
             running.stdout.close()
             compare(f"{arguments}", (running.wait(), running.stderr.read()),
                     (-signal.SIGPIPE, b""))
+    with runs.start("-E", stderr=subprocess.PIPE,
+                    preexec_fn=lambda: signal.signal(signal.SIGPIPE, signal.SIG_IGN)) as running:
+        running.stdout.close()
+        compare("ignored signal", (running.wait(), running.stderr.read()),
+                (1, b"socklist: standard output: Broken pipe\n"))
     for words, is_empty in ((), False), (("sport", "<=", ":65535"), False), (("sport = :0",), True):
         found = runs.end("-E", "-Hn", *words, env=environment)
         compare(f"-E {words}", (found[0], found[1] == ""), (1, is_empty))
@@ -1059,6 +1215,11 @@ def test_programs(runs):
             found = runs.end()
             is_right = found[0] == status and error in found[2]
             assert is_right, f"{name}: {script}: {found}, expected {status} {error}"
+    # An sslist that writes no ports.
+    runs.use(sockdump="", sslist="echo tcp ESTAB 0 0 0 0 1.2.3.4:65536 1.2.3.4:99999999999\n"
+                                 "echo tcp ESTAB 0 0 0 0 '*' 1.2.3.4")
+    compare("no ports", [it.split()[6:8] for it in runs.end("-t")[1].splitlines()],
+            [["1.2.3.4:65536", "1.2.3.4:99999999999"], ["*", "1.2.3.4"]])
     runs.use(sockdump="", sslist="exit 1")
     compare("no summary", runs.end("-s"), (1, "", ""))
     # It does not wait for a program whose output it no longer reads.
