@@ -144,10 +144,11 @@ WORDS = [
     ("( ! dst == many.example:80 )",
      "( ! ( dst == [192.0.2.1]:80 or dst == [2001:db8::1]:80 ) )"),
 ]
-# The id of the control group that is the root of the hierarchy of version 2, if there is one.
-GROUP = next((os.stat(it).st_ino for it in ("/sys/fs/cgroup/unified", "/sys/fs/cgroup")
-              if os.path.isdir(it)), None)
-WORDS += [("cgroup / or not cgroup = .", f"cgroup {GROUP} or not cgroup = {GROUP}")] * bool(GROUP)
+# The folder and the id of the control group that is the root of version 2, or None.
+ROOT = next(filter(os.path.isdir, ("/sys/fs/cgroup/unified", "/sys/fs/cgroup")), None)
+GROUP = os.stat(ROOT).st_ino if ROOT else None
+WORDS += [("cgroup / or not cgroup = .", f"cgroup {GROUP} or not cgroup = {GROUP}"),
+          (f"cgroup {ROOT}/", f"cgroup {GROUP}")] * bool(GROUP)
 NO_ADDRESS = "no address, such as 192.0.2.0/24, [2001:db8::/32] or *:80"
 # Words that are rejected, and the text.
 NO_WORDS = [
@@ -180,6 +181,7 @@ NO_WORDS = [
     ("state 7", "filter: unknown state: 7"), ("exclude up", "filter: unknown state: up"),
     ("cgroup = /none.slice", "unknown control group: /none.slice"),
     ("cgroup none.slice", "unknown control group: none.slice"),
+    ("cgroup cgroup.procs", "unknown control group: cgroup.procs"),
     *((f"cgroup {it}", f"filter: no id of a control group: {it.split()[-1]}") for it in (
         f"{1 << 64}", f"= {1 << 64}")),
     ("fwmark x", "filter: no mark, such as 1 or 0x1/0x3: x"),
@@ -358,7 +360,7 @@ echo "$*" >>{log}
 case $2 in
     192.0.2.1) echo '192.0.2.1       example.org other.example.org' ;;
     2001:db8::1) printf '2001:db8::1     six\\033.example.org\\n' ;;
-    192.0.2.3) echo '192.0.2.3  lost' && exit 1 ;;
+    192.0.2.[34]) echo '192.0.2.3  lost' && exit 1 ;;
     one.example | 1.example) printf '192.0.2.1       %s\\n' 'STREAM one.example' DGRAM RAW ;;
     many.example) printf '%s\\n' '192.0.2.1  STREAM it' '192.0.2.1  DGRAM' '2001:db8::1 STREAM' \\
         '2001:db8::1 RAW' 'fe80::1%lo STREAM' ;;
@@ -475,6 +477,9 @@ def test_services(runs):
             ((failing,), "/etc/services", ["-t", "sport = :x"])):
         status, _, errors = runs.end(*arguments, preexec_fn=with_files(*files))
         compare(f"{arguments}", (status, errors), (1, f"socklist: {path}: Input/output error\n"))
+    for arguments in (["-tan"], ["-ta", "--json"], ["-s"]):
+        compare(f"{arguments}", runs.end(*arguments, preexec_fn=with_files(failing, failing)),
+                runs.end(*arguments))
 
 
 def test_rejections(runs):
@@ -638,15 +643,14 @@ def test_control_group(runs):
         compare(arguments, runs.end(arguments)[1].split()[-1],
                 f"cgroup:{'/' if may_open else group}")
     runs.record(*dump("tcp", *30 * [inet_reply(FAR, FAR) + attribute(21, struct.pack("<Q", 7))]))
-    folder = next(filter(os.path.isdir, ("/sys/fs/cgroup/unified", "/sys/fs/cgroup")), None)
     for target, shown in ("", "/"), ("/a.slice/b\\\x1b", r"/a.slice/b\x5c\x1b"):
-        status, table, errors = runs.end("-teHO", env=stand_ins(runs, 0, f"{folder}{target}"),
+        status, table, errors = runs.end("-teHO", env=stand_ins(runs, 0, f"{ROOT}{target}"),
                                          preexec_fn=with_descriptors(20))
         compare(target, (status, {it.split()[-1] for it in table.splitlines()}, errors),
-                (0, {f"cgroup:{shown if folder else 7}"}, ""))
+                (0, {f"cgroup:{shown if ROOT else 7}"}, ""))
     compare("elsewhere", runs.end("-teHO", env=stand_ins(runs, 0, "/a"))[1].split()[-1], "cgroup:7")
     runs.record(*dump("tcp", inet_reply(FAR, FAR) + attribute(21, b"\xff" * 8)))
-    for environment in (None, stand_ins(runs, 0, folder or "")):
+    for environment in (None, stand_ins(runs, 0, ROOT or "")):
         compare("no group", runs.end("-teHO", env=environment)[1].split()[-1],
                 f"cgroup:{2 ** 64 - 1}")
 
@@ -734,7 +738,7 @@ def test_hosts(runs):
             ["example.org:22", "*:22"]]))
         compare("getent", found, [f"hosts {it}" for it in (
             "192.0.2.12", "192.0.2.1", "192.0.2.2", "2001:db8::1")])
-        runs.record(*dump("tcp", inet_reply(other, none), inet_reply(one, none)))
+        runs.record(*dump("tcp", inet_reply(other, ("192.0.2.4", 22)), inet_reply(one, none)))
         failed = "socklist: getent failed\n"
         compare("getent fails", runs.end("-taHr")[::2], (1, failed))
     missing = "socklist: getent: No such file or directory\n"
@@ -877,8 +881,8 @@ def test_order(runs):
                          for number, it in enumerate(opened)]))
 
 
-# A library with which the name of each process cannot be read, with an error number; and each
-# control group is the folder TARGET, but only the group 7 can be opened by its id.
+# A library with which names of processes and interfaces cannot be read, with an error number; and
+# each control group is the folder TARGET, but only the group 7 can be opened by its id.
 STAND_INS = """
 #define _GNU_SOURCE
 #include <errno.h>
@@ -898,6 +902,16 @@ int open_by_handle_at(int mount, struct file_handle *handle, int flags) {
     const int is_known = mount >= 0 && handle->handle_bytes == 8 && handle->handle_type == 0xfe
         && memcmp(handle->f_handle, id, 8) == 0;
     return is_known ? open("/", flags) : -1;
+}
+
+unsigned if_nametoindex(const char *name) {
+    errno = atoi(getenv("NUMBER"));
+    return 0 * *name;
+}
+
+char *if_indextoname(unsigned index, char *name) {
+    errno = atoi(getenv("NUMBER"));
+    return index > 0 ? NULL : name;
 }
 
 ssize_t readlink(const char *path, char *target, size_t size) {
@@ -931,6 +945,18 @@ def test_ended_process(runs):
             compare(f"{error}", (status, re.findall("users:(.*)", table), errors), (
                 is_reported, [] if is_reported else [f'(("",pid={os.getpid()},fd={number}))'],
                 "socklist: /proc: Too many open files\n" * is_reported))
+
+
+def test_interfaces(runs):
+    """Reports that names of interfaces cannot be read, unless there are none."""
+    runs.record(*dump("tcp", inet_reply(FAR, FAR, interface=1)))
+    for error, words, status, text in (
+            (errno.ENXIO, "", 0, ""),
+            (errno.EMFILE, "", 1, "if_indextoname: Too many open files\n"),
+            (errno.ENODEV, "dev lo", 2, f"unknown interface: lo{TRY}"),
+            (errno.EMFILE, "dev lo", 1, "if_nametoindex: Too many open files\n")):
+        compare(f"{words} {error}", runs.end("-an", words, env=stand_ins(runs, error))[::2],
+                (status, "socklist: " * bool(text) + text))
 
 
 def with_terminal(runs, answer, arguments, environment):
@@ -1213,8 +1239,21 @@ def test_programs(runs):
                 ("exit 2", 2, ""), ("kill -13 $$", 1, ""), ("echo line; exit 1", 1, "")):
             runs.use(**{"sockdump": "", "sslist": "cat >&2", name: script})
             found = runs.end()
-            is_right = found[0] == status and error in found[2]
-            assert is_right, f"{name}: {script}: {found}, expected {status} {error}"
+            line = "line\n" * (name == "sockdump" and "line" in script)
+            compare(f"{name}: {script}", (found[0], found[2]), (status, line + error))
+    # Programs get no descriptors except for their streams. The last one is that of ls.
+    script, shown = "cat >/dev/null; exec ls /proc/self/fd >&2", "0\n1\n2\n3\n"
+    for arguments, programs in (([], {"sockdump": "exec ls /proc/self/fd >&2", "sslist": ""}),
+                                ([], {"sockdump": "", "sslist": script}),
+                                (["-K", "--yes", "sport 1"], {"sockdump": "", "sslist": script})):
+        runs.use(**programs)
+        compare(f"descriptors: {arguments}", runs.end(*arguments),
+                (0, "", shown * (2 if arguments else 1)))
+    runs.record(*dump("tcp", inet_reply(FAR, FAR)))
+    (runs.folder / "getent").write_text("#!/bin/sh\nexec ls /proc/self/fd >&2\n")
+    (runs.folder / "getent").chmod(0o755)
+    compare("descriptors: getent", runs.end("-tpr")[::2], (0, shown))
+    (runs.folder / "getent").unlink()
     # An sslist that writes no ports.
     runs.use(sockdump="", sslist="echo tcp ESTAB 0 0 0 0 1.2.3.4:65536 1.2.3.4:99999999999\n"
                                  "echo tcp ESTAB 0 0 0 0 '*' 1.2.3.4")
