@@ -284,6 +284,14 @@ class Runs:
         shutil.copy(socklist, self.program)
         self.use()
 
+    def build(self, name, source):
+        """Returns the path of the library of a text in C."""
+        library = self.folder / name
+        if not library.exists():
+            subprocess.run([os.environ.get("CC", "cc"), "-shared", "-fPIC", "-o", library, "-x",
+                            "c", "-"], input=source.encode(), check=True)
+        return str(library)
+
     def use(self, **stand_ins):
         """Uses the programs, or the text of a script in the place of one."""
         for name, path in self.programs.items():
@@ -926,11 +934,138 @@ ssize_t readlink(const char *path, char *target, size_t size) {
 
 def stand_ins(runs, number=0, target=""):
     """Returns the environment of a run with STAND_INS, an error number and a folder."""
-    library = runs.folder / "stand_ins.so"
-    if not library.exists():
-        subprocess.run([os.environ.get("CC", "cc"), "-shared", "-fPIC", "-o", library, "-x", "c",
-                        "-"], input=STAND_INS.encode(), check=True)
-    return os.environ | {"LD_PRELOAD": str(library), "NUMBER": f"{number}", "TARGET": target}
+    return os.environ | {"LD_PRELOAD": runs.build("stand_ins.so", STAND_INS), "NUMBER": f"{number}",
+                         "TARGET": target}
+
+
+def failing(runs, call="", number=1, environment=os.environ):
+    """Returns an environment with FAILING, a function, and which of its calls fails."""
+    libraries = f"{runs.build('failing.so', FAILING)} {environment.get('LD_PRELOAD', '')}"
+    return environment | {"LD_PRELOAD": libraries, "CALL": call, "NUMBER": f"{number}"}
+
+
+# A library with which one call of a function fails in socklist: the first, the second and so on. At
+# its end it reports descriptors that are still open, and a program that was not waited for.
+FAILING = """
+#define _GNU_SOURCE
+#include <dirent.h>
+#include <dlfcn.h>
+#include <errno.h>
+#include <fcntl.h>
+#include <poll.h>
+#include <stdarg.h>
+#include <stdio.h>
+#include <stdlib.h>
+#include <string.h>
+#include <sys/wait.h>
+#include <unistd.h>
+
+static int fails(const char *name) {
+    static int calls;
+    if (strcmp(program_invocation_short_name, "socklist") != 0 || strcmp(getenv("CALL"), name) != 0
+        || ++calls != atoi(getenv("NUMBER")))
+        return 0;
+    errno = EIO;
+    return 1;
+}
+
+#define WRAP(type, failed, name, parameters, arguments) \\
+    type name parameters { \\
+        type(*real) parameters = (type(*) parameters)dlsym(RTLD_NEXT, #name); \\
+        return fails(#name) ? failed : real arguments; \\
+    }
+WRAP(pid_t, -1, fork, (void), ())
+WRAP(pid_t, -1, getppid, (void), ())
+WRAP(pid_t, -1, waitpid, (pid_t process, int *status, int how), (process, status, how))
+WRAP(int, -1, pipe2, (int *ends, int flags), (ends, flags))
+WRAP(int, -1, memfd_create, (const char *name, unsigned flags), (name, flags))
+WRAP(int, -1, dup2, (int one, int other), (one, other))
+WRAP(int, -1, poll, (struct pollfd *waits, nfds_t count, int time), (waits, count, time))
+WRAP(off_t, -1, lseek, (int file, off_t to, int from), (file, to, from))
+WRAP(ssize_t, -1, read, (int file, void *bytes, size_t count), (file, bytes, count))
+WRAP(ssize_t, -1, readlinkat, (int file, const char *name, char *bytes, size_t count),
+     (file, name, bytes, count))
+WRAP(DIR *, NULL, opendir, (const char *path), (path))
+WRAP(struct dirent *, NULL, readdir, (DIR *folder), (folder))
+WRAP(void *, NULL, realloc, (void *memory, size_t size), (memory, size))
+
+static int are_open[64];
+
+__attribute__((constructor)) static void start(void) {
+    int file;
+    for (file = 0; file < 64; file++)
+        are_open[file] = fcntl(file, F_GETFD, 0) >= 0;
+}
+
+__attribute__((destructor)) static void end(void) {
+    int file;
+    if (strcmp(program_invocation_short_name, "socklist") != 0)
+        return;
+    for (file = 0; file < 64; file++)
+        if (!are_open[file] && fcntl(file, F_GETFD, 0) >= 0)
+            dprintf(STDERR_FILENO, "descriptor %d is open\\n", file);
+    if (strcmp(getenv("CALL"), "waitpid") != 0 && waitpid(-1, NULL, WNOHANG) >= 0)
+        dprintf(STDERR_FILENO, "a program has not ended\\n");
+}
+
+int prctl(int option, ...) {
+    (void)option;
+    return fails("prctl") ? -1 : 0;
+}
+
+int fcntl(int file, int command, ...) {
+    int (*real)(int, int, ...) = (int (*)(int, int, ...))dlsym(RTLD_NEXT, "fcntl");
+    va_list more;
+    va_start(more, command);
+    const int argument = va_arg(more, int);
+    va_end(more);
+    return command == F_DUPFD_CLOEXEC && fails("fcntl") ? -1 : real(file, command, argument);
+}
+"""
+KILL = ["-K", "--yes", "sport 1"]
+NOT_CLOSED = "socklist: nothing was closed, since not all sockets were listed\n"
+# Arguments, a function, which of its calls fails, and what the error begins with.
+FAILURES = [
+    *(([], *it) for it in (
+        ("fork", 1, "fork"), ("fork", 2, "fork"), ("pipe2", 1, "pipe"), ("pipe2", 2, "pipe"),
+        ("poll", 1, "poll"), ("read", 1, "read"), ("waitpid", 1, "waitpid"),
+        ("waitpid", 2, "waitpid"))),
+    *((KILL, *it) for it in (
+        ("memfd_create", 1, "memfd_create"), ("fork", 1, "fork"), ("waitpid", 1, "waitpid"))),
+    *((["-ap"], it, 1, "/proc") for it in ("opendir", "readdir", "readlinkat")),
+    (["-ap"], "opendir", 2, f"/proc/{min(map(int, filter(str.isdigit, os.listdir('/proc'))))}/fd"),
+    (["-atr"], "fcntl", 1, "fcntl"),
+]
+# The same of -K after sockets were recorded.
+LATE_FAILURES = [
+    ("fork", 2, "fork"), ("fork", 3, "fork"), ("pipe2", 1, "pipe"), ("pipe2", 2, "pipe"),
+    *((call, number, "capture") for call in ("fcntl", "lseek") for number in (1, 2)),
+]
+
+
+def test_failures(runs):
+    """Reports calls that fail, and closes no socket then, but all descriptors, also if none fails.
+    """
+    with_group = inet_reply(FAR, FAR, inode=1) + attribute(21, struct.pack("<Q", GROUP or 1))
+    runs.record(*dump("tcp", with_group), *dumps(shown_sockets(1)))
+    with hosts(runs):
+        found = runs.end("-aeprw", "src many.example:ssh", env=failing(runs))
+        compare("no failure", found[::2], (0, ""))
+    runs.record(*dump("tcp", with_group))
+    for arguments, call, number, name in FAILURES:
+        compare(f"{arguments} {call} {number}",
+                runs.end(*arguments, env=failing(runs, call, number))[::2],
+                (1, f"socklist: {name}: Input/output error\n"))
+    for call, number, name in LATE_FAILURES:
+        compare(f"-K {call} {number}", runs.end(*KILL, env=failing(runs, call, number))[::2],
+                (1, f"socklist: {name}: Input/output error\n{NOT_CLOSED}"))
+    for call in ("dup2", "prctl"):
+        status, _, errors = runs.end(env=failing(runs, call))
+        compare(call, (status, set(errors.splitlines())),
+                (1, {"socklist: dup2: Input/output error"}))
+    compare("getppid", runs.end(env=failing(runs, "getppid"))[::2], (1, ""))
+    compare("realloc", runs.end(env=failing(runs, "realloc"))[::2],
+            (1, "socklist: out of memory\n"))
 
 
 def test_ended_process(runs):
@@ -1006,7 +1141,10 @@ def test_close(runs):
             (["-Kun", "sport", "ge", "22"], b"yes\n", [destroy(1, *CLOSED[2])]),
             (kill, b"n\n", []), (kill, b"\n", []), (kill, b"\4", [])):
         log.write_text("")
-        status, shown = with_terminal(runs, answer, arguments, environment)
+        status, shown = with_terminal(runs, answer, arguments,
+                                      failing(runs, environment=environment))
+        # fake_kernel.c leaves its file open.
+        compare(shown, shown.count(" is open"), 1 if requests else 0)
         compare(f"{arguments} {answer}", log.read_text().split(), requests)
         compare(f"{arguments} {answer}", status, 0 if requests else 1)
         count = len(requests) or 3
@@ -1060,15 +1198,17 @@ def test_close_errors(runs):
     runs.record(*lost[:2], message(sockdump.DONE, 2, 1, 77, struct.pack("<i", -105)))
     found = runs.end(*kill, env=os.environ | {"LD_PRELOAD": runs.library,
                                               "FAKE_KERNEL_CLOSED": str(log)})
-    error = "socklist: nothing was closed, since not all sockets were listed\n"
-    assert found[0] == 1 and found[2].endswith(error) and not log.read_text(), found
+    assert found[0] == 1 and found[2].endswith(NOT_CLOSED) and not log.read_text(), found
     runs.record(*dump("tcp", CLOSED[0][1]))
     real = os.path.abspath(runs.programs["sslist"])
-    runs.use(sockdump=f"exec cat {runs.folder}/capture",
-             sslist=f'{real} "$@" || exit; case "$*" in *--json*) exit 1; esac')
-    found = runs.end(*kill, env=os.environ | {"LD_PRELOAD": runs.library,
-                                              "FAKE_KERNEL_CLOSED": str(log)})
-    assert found[0] == 1 and found[2].endswith(error) and not log.read_text(), found
+    for script, status in (
+            ("*--json*) exit 1", 1), ("*--json*) ;; *) exit 1", 1), ("*) exit 2", 2)):
+        runs.use(sockdump=f"exec cat {runs.folder}/capture",
+                 sslist=f'{real} "$@" || exit; case "$*" in {script}; esac')
+        found = runs.end(*kill, env=os.environ | {"LD_PRELOAD": runs.library,
+                                                  "FAKE_KERNEL_CLOSED": str(log)})
+        compare(script, (found[0], found[2], log.read_text()),
+                (status, NOT_CLOSED * (status == 1), ""))
     listed = subprocess.run([real, "--json", runs.folder / "capture"], stdout=subprocess.PIPE,
                             check=True).stdout.decode()
     # An object without a member that sslist writes, with a wrong address, and of another kind.
@@ -1081,7 +1221,7 @@ def test_close_errors(runs):
         found = runs.end(*kill, env=os.environ | {"LD_PRELOAD": runs.library,
                                                   "FAKE_KERNEL_CLOSED": str(log)})
         wrong = f"socklist: not a TCP or UDP socket: {listed.replace(old, new)[:60]}\n"
-        compare(f"{old} {new}", (found[0], found[2], log.read_text()), (1, wrong + error, ""))
+        compare(f"{old} {new}", (found[0], found[2], log.read_text()), (1, wrong + NOT_CLOSED, ""))
     runs.record(*dump("tcp", CLOSED[0][1]))
     found = runs.end(*kill, env=os.environ | {"LD_PRELOAD": runs.library,
                                               "FAKE_KERNEL_REFUSES": "1"})
