@@ -203,9 +203,10 @@ static int add_end(struct words *words, char *word) {
 
 /* Adds the index of an interface. Returns 0, or the exit status after an error. */
 static int add_index(struct text *text, const char *word) {
-    const unsigned index = is_number(word) ? 0 : if_nametoindex(word);
+    unsigned index;
     if (is_number(word))
         return add_word(text, word), 0;
+    index = if_nametoindex(word);
     if (index == 0 && errno != ENODEV)
         return fail("if_nametoindex"), EXIT_FAILURE;
     if (index == 0)
@@ -272,7 +273,7 @@ static int read_word(struct words *words, char *word) {
 
 /* The words before a wrong value, and why it is wrong. */
 static const struct { const char *field, *why; } values[] = {
-    {"state", "unknown state"},          {"exclude", "unknown state"},
+    {"state", "unknown state"}, {"exclude", "unknown state"}, {"excl", "unknown state"},
     {"sport", "no port from 0 to 65535"}, {"dport", "no port from 0 to 65535"},
     {"src", "no address, such as 192.0.2.0/24, [2001:db8::/32] or *:80"},
     {"dst", "no address, such as 192.0.2.0/24, [2001:db8::/32] or *:80"},

@@ -178,7 +178,8 @@ NO_WORDS = [
     ("src = 1.2.3.4/33", f"filter: {NO_ADDRESS}: 1.2.3.4/33"),
     *((f"{it} :65536", "filter: no port from 0 to 65535: :65536") for it in (
         "sport", "dport =", "( dport", "sport >=")),
-    ("state 7", "filter: unknown state: 7"), ("exclude up", "filter: unknown state: up"),
+    ("state 7", "filter: unknown state: 7"),
+    *((f"{it} up", "filter: unknown state: up") for it in ("exclude", "excl")),
     ("cgroup = /none.slice", "unknown control group: /none.slice"),
     ("cgroup none.slice", "unknown control group: none.slice"),
     ("cgroup cgroup.procs", "unknown control group: cgroup.procs"),
@@ -334,12 +335,17 @@ class Runs:
 def test_usage(runs):
     """Prints the usage and the version, and starts no program."""
     runs.use(sockdump="exit 9", sslist="exit 9")
-    version = (kernels.HERE.parent.parent / "VERSION").read_text()
+    top = kernels.HERE.parent.parent
+    version = (top / "VERSION").read_text()
     for argument in ("-V", "--version", "-xV"):
         compare(argument, runs.end("-t", argument, "--nope"), (0, f"socklist {version}", ""))
     for argument in ("-h", "--help", "-tnh"):
         status, usage, errors = runs.end("-K", argument, "-V")
         compare(argument, (status, usage[:16], errors), (0, "usage: socklist ", ""))
+    # A word of the usage that the manual page lacks has a mistake.
+    page = (top / "man/socklist.1").read_text("utf-8")
+    lacks = {*re.findall(r"\w+", usage.lower())} - {*re.findall(r"\w+", page.lower())}
+    compare("words of the usage", lacks, {"format"})
 
 
 def passed(runs, *arguments, **how):
