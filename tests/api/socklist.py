@@ -196,15 +196,15 @@ REJECTED = [
       for it, name in (
         (["-A", "tcp,nope,x"], "nope,x"), (["-A", ""], ""), (["--query=tcp,"], ""),
         (["-Aal"], "al"), (["-A", "inet6"], "inet6"), (["--events="], ""),
-        (["--events=none"], "none"))),
+        (["--events=none"], "none"), (["-A", "tc"], "tc"), (["-A", "tcpx"], "tcpx"))),
     *((it, f"unknown option: {option}") for it, option in (
         (["--nope", "--help"], "--nope"), (["-K", "dport = 1", "--nope"], "--nope"),
         (["-F", "file"], "-F"), (["-tqh"], "-q"), (["-E=tcp"], "-="), (["--every", "1"], "--every"),
-        (["--netns"], "--netns"),
+        (["--netns"], "--netns"), (["--tc"], "--tc"), (["--tcpx"], "--tcpx"),
         (["--utf8=1"], "--utf8=1"), (["--"[:1] + "\x1b"], r"-\x1b"))),
     (["-E", "--every=1"], "-E takes no --every"),
-    *((it, "unknown family; families are inet, inet6, unix, link, netlink, vsock and xdp: tipc")
-      for it in (["-f", "tipc"], ["-ftipc"], ["--family=tipc"])),
+    *((it, f"unknown family; families are inet, inet6, unix, link, netlink, vsock and xdp: {name}")
+      for it, name in ((["-f", "tipc"], "tipc"), (["-ftcp"], "tcp"), (["--family=x"], "x"))),
     (["--events=unix"], "-E lists TCP and UDP sockets: -t and -u"),
     *(([it], "-A, -f and -N need a value") for it in (
         "-f", "-tA", "-N", "--net", "--family", "--query", "--socket")),
@@ -812,7 +812,8 @@ def test_summary(runs):
 
 # Names of processes: the bytes, what the table shows, and the member of JSON.
 NAMES = [
-    (b"a b!~", "a b!~", {"name": "a b!~"}),
+    # The longest one.
+    (b"fifteen chars!~", "fifteen chars!~", {"name": "fifteen chars!~"}),
     (b'"\\\t\x1f\x7f', r"\x22\x5c\x09\x1f\x7f", {"name": '"\\\t\x1f\x7f'}),
     (b"a\n", r"a\x0a", {"name": "a\n"}),
     ("ä猫".encode(), r"\xc3\xa4\xe7\x8c\xab", {"name": "ä猫"}),
@@ -876,9 +877,10 @@ def test_processes(runs):
             assert found == expected or found[0] != 0 and found[2], f"{most}: {found}"
         status, objects, _ = runs.end("-a", "--json")
         assert status == 0 and objects and "processes" not in objects, objects
-        comm.write_bytes(b'a \x1b"')
+        comm.write_bytes(b'fifteen chars\x1b"')
         runs.record(*dump("netlink", struct.pack("<4B4IQ", 16, 3, 0, 7, os.getpid(), 0, 0, 5, 3)))
-        assert rf" rtnl:a \x1b\x22/{os.getpid()} " in (table := runs.end("-aH")[1]), table
+        table = runs.end("-aH")[1]
+        assert rf" rtnl:fifteen chars\x1b\x22/{os.getpid()} " in table, table
 
 
 def test_order(runs):
