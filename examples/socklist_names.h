@@ -69,7 +69,7 @@ static int read_entry(FILE *file, struct entry *entry) {
 
 /* Opens a file with names. Returns NULL if it is out of reach, or after an error is reported. */
 static FILE *open_names(const char *path, int *failed) {
-    FILE *file = fopen(path, "re");
+    FILE *file = fopen(path, "r");
     if (file == NULL && !is_out_of_reach())
         *failed = fail(path);
     return file;

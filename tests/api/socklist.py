@@ -738,8 +738,9 @@ def test_hosts(runs):
     six, mapped, any_six = ("2001:db8::1", 22), ("::ffff:192.0.2.1", 22), ("::", 22)
     runs.record(*dump("tcp", inet_reply(("192.0.2.12", 22), any_),
                       inet_reply(one, none, interface=1), inet_reply(none, one),
-                      inet_reply(any_, any_)), *dump("tcp", inet_reply(six, any_six),
-                                                         inet_reply(mapped, any_six)))
+                      inet_reply(any_, any_)),
+                *dump("tcp", *(inet_reply(it, any_six) for it in (
+                    six, mapped, ("::ffff:1:0:0", 22)))))
     with hosts(runs) as log:
         status, table, errors = runs.end("-tanrH")
         found = log.read_text().splitlines()
@@ -749,9 +750,9 @@ def test_hosts(runs):
             ["192.0.2.12:22", "0.0.0.0:22"],
             ["example.org%lo:22", "192.0.2.2:22"], ["192.0.2.2:22", "example.org:22"],
             ["0.0.0.0:22", "0.0.0.0:22"], [r"six\x1b.example.org:22", "*:22"],
-            ["example.org:22", "*:22"]]))
+            ["example.org:22", "*:22"], ["[::ffff:1:0:0]:22", "*:22"]]))
         compare("getent", found, [f"hosts {it}" for it in (
-            "192.0.2.12", "192.0.2.1", "192.0.2.2", "2001:db8::1")])
+            "192.0.2.12", "192.0.2.1", "192.0.2.2", "2001:db8::1", "::ffff:1:0:0")])
         runs.record(*dump("tcp", inet_reply(other, ("192.0.2.4", 22)), inet_reply(one, none)))
         failed = "socklist: getent failed\n"
         compare("getent fails", runs.end("-taHr")[::2], (1, failed))
@@ -1021,6 +1022,14 @@ int prctl(int option, ...) {
     return fails("prctl") ? -1 : 0;
 }
 
+/* An answer may be too short for an error number. */
+ssize_t recv(int file, void *bytes, size_t size, int flags) {
+    ssize_t (*real)(int, void *, size_t, int) = (ssize_t(*)(int, void *, size_t, int))dlsym(
+        RTLD_NEXT, "recv");
+    const ssize_t length = real(file, bytes, size, flags);
+    return fails("recv") ? 19 : length;
+}
+
 int fcntl(int file, int command, ...) {
     int (*real)(int, int, ...) = (int (*)(int, int, ...))dlsym(RTLD_NEXT, "fcntl");
     va_list more;
@@ -1197,6 +1206,10 @@ def test_close_errors(runs):
     ):
         more |= {"FAKE_KERNEL_CLOSED": str(log), f"FAKE_KERNEL_DESTROY_{name}": "1"}
         compare(name, runs.end(*kill, env=runs.kernel(file, **more))[::2], (status, error))
+    environment = runs.kernel(file, FAKE_KERNEL_CLOSED=str(log))
+    found = runs.end(*kill, env=failing(runs, "recv", 2, environment))
+    compare("short answer", (found[0], found[2].splitlines()[:-1]),
+            (1, [f"socklist: not closed: {ends[1]}: Protocol error"]))
     environment = runs.kernel(file, FAKE_KERNEL_CLOSED=str(log), FAKE_KERNEL_REFUSES="1")
     log.write_text("")
     found = runs.end(*kill, env=environment)
