@@ -245,7 +245,7 @@ static void add_netlink(struct text *text, struct names *names, const char *loca
     add_named(text, netlink_protocols, sizeof netlink_protocols / sizeof *netlink_protocols, local,
               (size_t)(colon - local));
     add_byte(text, ':');
-    if (end == colon + 2 && colon[1] == '0')
+    if (colon[1] == '0')
         add_string(text, "kernel");
     else
         add_owner(text, names, colon + 1, (size_t)(end - colon - 1));

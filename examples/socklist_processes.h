@@ -193,20 +193,19 @@ static void add_users(struct text *text, const struct processes *processes,
 
 /* Returns the length of the character of UTF-8 at the start of a string, or 0 if it is invalid. The
  * rows are those of the table of well-formed byte sequences in the Unicode standard (3.9): the
- * ranges of the first and of the second byte, and the length. */
+ * ranges of the first and of the second byte, and the length. The last row has no second byte. */
 static size_t character_length(const unsigned char *bytes) {
     static const unsigned char forms[][5] = {
         {0xc2, 0xdf, 0x80, 0xbf, 2}, {0xe0, 0xe0, 0xa0, 0xbf, 3}, {0xe1, 0xec, 0x80, 0xbf, 3},
         {0xed, 0xed, 0x80, 0x9f, 3}, {0xee, 0xef, 0x80, 0xbf, 3}, {0xf0, 0xf0, 0x90, 0xbf, 4},
-        {0xf1, 0xf3, 0x80, 0xbf, 4}, {0xf4, 0xf4, 0x80, 0x8f, 4},
+        {0xf1, 0xf3, 0x80, 0xbf, 4}, {0xf4, 0xf4, 0x80, 0x8f, 4}, {0xf5, 0xff, 1, 0, 0},
     };
     size_t row = 0, length = 2;
     if (bytes[0] < 0x80)
         return 1;
-    while (row < sizeof forms / sizeof *forms && bytes[0] > forms[row][1])
+    while (bytes[0] > forms[row][1])
         row++;
-    if (row == sizeof forms / sizeof *forms || bytes[0] < forms[row][0]
-        || bytes[1] < forms[row][2] || bytes[1] > forms[row][3])
+    if (bytes[0] < forms[row][0] || bytes[1] < forms[row][2] || bytes[1] > forms[row][3])
         return 0;
     while (length < forms[row][4] && (bytes[length] & 0xc0) == 0x80)
         length++;

@@ -484,6 +484,14 @@ def test_services(runs):
         status, table, errors = runs.end("-aH", preexec_fn=with_files(file))
         compare(kind, (status, [it.split()[6] for it in table.splitlines()], errors),
                 (0, [f"127.0.0.1:{it}" for it in ports.values()], ""))
+    # A raw socket has no port that the kernel chooses.
+    chosen = runs.folder / "ports"
+    chosen.write_text("1 10\n")
+    runs.record(*dump("tcp", inet_reply(("127.0.0.1", 10), FAR)),
+                *dump("raw", inet_reply(("127.0.0.1", 1), FAR)))
+    table = runs.end("-aH", preexec_fn=with_files(file, chosen))[1]
+    compare("chosen", [it.split()[6] for it in table.splitlines()],
+            ["127.0.0.1:10", f"127.0.0.1:{PACKETS}"])
     # This file cannot be read at its start.
     failing = "/proc/self/mem"
     for files, path, arguments in (
@@ -535,6 +543,8 @@ PACKET = {
     0x88a8: "802.1ad", 0x88ca: "tipc", 0x88cc: "LLDP", 0: "0", 0xffff: "65535"}
 # Reports memory errors and leaks of socklist, but not of what it runs.
 VALGRIND = ("valgrind", "-q", "--leak-check=full", "--error-exitcode=99")
+# How the protocol 1 is shown.
+PACKETS = "icmp" if Path("/etc/protocols").exists() else 1
 # An end of a connection, and an address that is wider than its column.
 FAR = ("192.0.2.1", 443)
 LONG = "2001:db8:1111:2222:3333:4444:5555:6666"
@@ -545,7 +555,6 @@ def shown_sockets(inode):
     service is in braces, as in {443/tcp}, and a number and its name, as in {0=rtnl}. The first
     socket, the UNIX and the XDP socket have this inode."""
     ends = ("127.0.0.1", 22), ("fe80::1", 53), ("10.0.0.1", ephemeral_port())
-    packets = "icmp" if Path("/etc/protocols").exists() else 1
     return [
         ("tcp", inet_reply(ends[0], ("0.0.0.0", 0), 10, 1, inode=inode),
          "127.0.0.1%lo:{22/tcp} 0.0.0.0:*"),
@@ -557,7 +566,7 @@ def shown_sockets(inode):
          f"[{LONG}]%lo:{{53/udp}} [{LONG}]:{{53/udp}}"),
         ("mptcp", inet_reply(("127.0.0.1", 80), FAR), "127.0.0.1:{80/tcp} 192.0.2.1:{443/tcp}"),
         ("raw", inet_reply(("127.0.0.1", 1), ("192.0.2.1", 253)),
-         f"127.0.0.1:{{1={packets}}} 192.0.2.1:253"),
+         f"127.0.0.1:{{1={PACKETS}}} 192.0.2.1:253"),
         ("unix", struct.pack("<BBBBIQ", 1, 1, 1, 0, inode, 2) + attribute(0, "/猫:22%1\0".encode()),
          "/猫:22%1 *"),
         *(("netlink", struct.pack("<4B4IQ", 16, 3, protocol, 7, port, 0, 0, 5, 3), f"{local} *")
@@ -566,8 +575,11 @@ def shown_sockets(inode):
               (16, os.getpid(), f"{{16=genl}}:{{{os.getpid()}={own_name()}/{os.getpid()}}}"),
               (4, 1 << 31, "{4=tcpdiag}:2147483648"), (17, 3 << 30, "17:3221225472"))),
         *(("packet", struct.pack("<BBHIQ", 17, 3, number, 6, 4)
-           + attribute(0, struct.pack("<6I", 1, 0, 0, 0, 0, 0)), f"{protocol}:lo *")
-          for number, protocol in ((3, "*"), *((it, f"{{{it}={PACKET[it]}}}") for it in PACKET))),
+           + attribute(0, struct.pack("<6I", index, 0, 0, 0, 0, 0)),
+           f"{protocol}:{interface} *")
+          for number, protocol, index, interface in (
+              (3, "*", 1, "lo"), (3, "*", 0, "*"),
+              *((it, f"{{{it}={PACKET[it]}}}", 1, "lo") for it in PACKET))),
         ("xdp", struct.pack("<BBHIQ", 44, 3, 0, inode, 5) + attribute(1, struct.pack("<2I", 1, 22)),
          "lo:22 *"),
     ]
@@ -692,7 +704,8 @@ def test_columns(runs):
         stdout=subprocess.PIPE, check=True).stdout.decode()
     assert expected, "sslist prints nothing"
     expected = expected.replace("%1:", "%lo:").replace(" 1:22", " lo:22")
-    expected = re.sub(r"(p_raw .* \d+:)1 ", r"\1lo", expected).replace(" 3:lo", " *:lo")
+    expected = re.sub(r"(p_raw .* \d+:)1 ", r"\1lo", expected)
+    expected = re.sub(r"(p_raw .*) 3:", r"\1 *:", expected)
     found = runs.end("-anomie", "--requests", "--utf8")
     compare("columns", (found[0], re.sub(" +", " ", found[1]), found[2]),
             (0, re.sub(" +", " ", expected), ""))
@@ -823,16 +836,18 @@ NAMES = [
     *((it.encode(), "".join(rf"\x{byte:02x}" for byte in it.encode()), {"name": it}) for it in (
         "\u0080\u07ff", "\u0800\u0fff", "\u1000\ucfff", "\ud000\ud7ff", "\ue000\uffff",
         "\U00010000\U0003ffff", "\U00040000\U000fffff", "\U00100000\U0010ffff")),
-    # Not valid UTF-8: too few bytes, too many, a surrogate, and above U+10FFFF.
-    *((it, "".join(rf"\x{byte:02x}" for byte in it), {"name_hex": it.hex()}) for it in (
-        b"\xff", b"\xc3", b"\xe7\x8c", b"\xc0\x80", b"\xe0\x9f\x80", b"\xed\xa0\x80",
-        b"\xf4\x90\x80\x80", b"\xf0\x9f\x90", b"\x80", b"\xc1\xbf", b"\xf5\x80\x80\x80",
-        b"\xf0\x8f\x80\x80", b"\xf4\x90\x80\x80", b"\xe7\x8c\x7f", b"\xe7\x8c\xc0",
-        b"\xf0\x9f\x90\x7f", *(bytes([first, second, 0x80, 0x80][:length]) for first, length in (
-            (0xc2, 2), (0xdf, 2), (0xe1, 3), (0xec, 3), (0xee, 3), (0xef, 3), (0xf1, 4), (0xf3, 4))
-          for second in (0x7f, 0xc0)), b"\xe0\xc0\x80", b"\xed\x7f\x80", b"\xf0\xc0\x80\x80",
-        b"\xf4\x7f\x80\x80")),
+    (b"\xe7\x8c", r"\xe7\x8c", {"name_hex": "e78c"}),
 ]
+# Names that are not valid UTF-8: too few bytes, too many, a surrogate, above U+10FFFF, and a later
+# byte that is out of range.
+INVALID = [
+    b"\xff", b"\xc3", b"\xf0\x9f\x90", b"\x80", b"\xc0\x80", b"\xc1\xbf", b"\xf5\x80\x80\x80",
+    b"\xe0\x9f\x80", b"\xe0\xc0\x80", b"\xed\x7f\x80", b"\xed\xa0\x80", b"\xf0\x8f\x80\x80",
+    b"\xf0\xc0\x80\x80", b"\xf4\x7f\x80\x80", b"\xf4\x90\x80\x80", b"\xe7\x8c\x7f",
+    b"\xe7\x8c\xc0", b"\xf0\x9f\x90\x7f",
+    *(bytes([first, second, 0x80, 0x80][:length]) for first, length in (
+        (0xc2, 2), (0xdf, 2), (0xe1, 3), (0xec, 3), (0xee, 3), (0xef, 3), (0xf1, 4), (0xf3, 4))
+      for second in (0x7f, 0xc0))]
 
 
 def with_descriptors(most):
@@ -871,6 +886,10 @@ def test_processes(runs):
             users = [(shown, os.getpid(), fd) for fd in (number, 99)]
             users += [("sleep", child.pid, fd) for fd in (number, 99)]
             compare_users(runs, shown, member, sorted(users, key=lambda it: it[1:]))
+        for name in INVALID:
+            comm.write_bytes(name)
+            compare(f"{name}", re.findall('"name_hex":"(.*?)","pid"', runs.end("-ap", "--json")[1]),
+                    2 * [name.hex()])
         expected = runs.end("-aHp")
         assert "users:" in expected[1], expected
         for most in range(4, 12):
