@@ -359,7 +359,7 @@ static int make_filter(struct options *options) {
     static struct words words;
     words.has_tcp = has_all || has_tcp;
     words.has_udp = has_all || options->is_selected[UDP];
-    if (states == NULL && !options->is_summary && !options->has_events)
+    if (states == NULL && !options->is_summary)
         states = default_states(options);
     if (states != NULL && *states != '\0' && !has_states(options->words.bytes))
         add_word(&words.text, states);
