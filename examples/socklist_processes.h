@@ -51,14 +51,14 @@ static int is_out_of_reach(void) {
 static size_t add_process_name(struct processes *processes, int folder) {
     const size_t start = processes->names.length;
     char name[64];
-    const int file = openat(folder, "../comm", O_RDONLY | O_CLOEXEC);
+    const int file = openat(folder, "../comm", O_RDONLY);
     const ssize_t length = file < 0 ? -1 : read(file, name, sizeof name);
     if (length < 0 && !is_out_of_reach())
         processes->failed = fail("/proc");
     if (file >= 0)
         close(file);
-    if (length > 1)
-        add_bytes(&processes->names, name, (size_t)length - (name[length - 1] == '\n'));
+    if (length > 0) /* The last byte is a newline. */
+        add_bytes(&processes->names, name, (size_t)length - 1);
     add_byte(&processes->names, '\0');
     return start;
 }

@@ -820,8 +820,10 @@ def test_summary(runs):
     compare("--summary", runs.end("--summary", "-noiemp"), (0, SUMMARY, ""))
     for arguments, total in (("-sl", "Total: 10"), ("-s4", "Total: 14")):
         compare(arguments, runs.end(arguments)[1].split("\n")[0], total)
-    rows = [it.split()[0] for it in runs.end("-sutx")[1].splitlines()[4:]]
-    compare("-sutx", rows, ["UDP", "TCP", "INET", "UNIX"])
+    for arguments, rows in (("-sutx", ["UDP", "TCP", "INET", "UNIX"]), ("-sx", ["INET", "UNIX"]),
+                            ("-sMw", ["RAW", "MPTCP", "INET"]), ("-s0", ["INET", "PACKET"])):
+        table = runs.end(arguments)[1].splitlines()[4:]
+        compare(arguments, [it.split()[0] for it in table], rows)
 
 
 # Names of processes: the bytes, what the table shows, and the member of JSON.
@@ -1435,11 +1437,13 @@ def test_programs(runs):
     (runs.folder / "getent").chmod(0o755)
     compare("descriptors: getent", runs.end("-tpr")[::2], (0, shown))
     (runs.folder / "getent").unlink()
-    # An sslist that writes no ports.
+    # An sslist that writes no ports and no objects.
     runs.use(sockdump="", sslist="echo tcp ESTAB 0 0 0 0 1.2.3.4:65536 1.2.3.4:99999999999\n"
                                  "echo tcp ESTAB 0 0 0 0 '*' 1.2.3.4")
     compare("no ports", [it.split()[6:8] for it in runs.end("-t")[1].splitlines()],
             [["1.2.3.4:65536", "1.2.3.4:99999999999"], ["*", "1.2.3.4"]])
+    runs.use(sockdump="", sslist="echo; echo x")
+    compare("no objects", runs.end("-p", "--json"), (0, "\nx\n", ""))
     runs.use(sockdump="", sslist="exit 1")
     compare("no summary", runs.end("-s"), (1, "", ""))
     # It does not wait for a program whose output it no longer reads.
