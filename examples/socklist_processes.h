@@ -31,7 +31,7 @@ struct processes {
     struct descriptor *items;
     size_t count, capacity;
     struct text names; /* Of the processes. Each ends with a zero. */
-    int64_t time;      /* When they were found, in milliseconds, or 0. */
+    int64_t stale_at;  /* The time from which they are found again, in milliseconds. */
     int failed;        /* -1 if some were not found, which is reported. */
 };
 
@@ -131,19 +131,19 @@ static int compare_descriptors(const void *one, const void *other) {
 static int find_processes(struct processes *processes) {
     const struct dirent *entry;
     DIR *folder;
-    if (processes->time != 0 && milliseconds() - processes->time < STALE_AFTER)
+    if (milliseconds() < processes->stale_at)
         return 0;
     folder = opendir("/proc");
     if (folder == NULL)
         return fail("/proc");
     processes->count = processes->names.length = 0;
     while (processes->failed == 0 && (entry = next_entry(processes, folder)) != NULL)
-        if (entry->d_name[0] >= '1' && entry->d_name[0] <= '9')
+        if (atoi(entry->d_name) > 0)
             add_process(processes, entry->d_name);
     closedir(folder);
     if (processes->count > 0)
         qsort(processes->items, processes->count, sizeof *processes->items, compare_descriptors);
-    processes->time = milliseconds();
+    processes->stale_at = milliseconds() + STALE_AFTER;
     return processes->failed;
 }
 

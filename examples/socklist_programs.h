@@ -124,7 +124,8 @@ static int take_lines(int file, int (*take)(void *, const char *), void *context
     return got;
 }
 
-/* Runs a program in the place of this process, from the folder of this one or else by PATH. */
+/* Runs a program in the place of this process, from the folder of this one or else by PATH. Returns
+ * after an error. */
 static void run(const struct arguments *arguments) {
     static const char name[] = "/proc/self/exe";
     const char *program = arguments->items[0];
@@ -137,7 +138,6 @@ static void run(const struct arguments *arguments) {
     }
     execvp(program, (char *const *)(uintptr_t)arguments->items);
     fail(program);
-    _exit(EXIT_FAILURE);
 }
 
 /* Starts a program with this standard input and output. It ends with this process. Returns its

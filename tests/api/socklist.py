@@ -169,7 +169,7 @@ NO_WORDS = [
     *((f"dport = :443 {it}", f"filter: unexpected word: {it.split()[0]}") for it in (
         ")", "state established", "= 5")),
     *((f"dst {it}", f"filter: {NO_ADDRESS}: {it}") for it in (
-        "0x7f", "1.2.", ".", "1.2.3.4.5", "a.1", "-n.example", "none.example/24", "10./8", "@", "`",
+        "0x7f", "1.2.", ".", "1.2.3.4.5", "a.1", "a.b.1", "-n.example", "none.example/24", "10./8", "@", "`",
         "{", "[a", "a]", "1.2.3.4/")),
     *((f"src {it}",
        f"an IPv6 address has brackets, such as [::1]:80 or [2001:db8::/32]: {it}") for it in (
@@ -1087,8 +1087,10 @@ def test_failures(runs):
     """
     with_group = inet_reply(FAR, FAR, inode=1) + attribute(21, struct.pack("<Q", GROUP or 1))
     runs.record(*dump("tcp", with_group), *dumps(shown_sockets(1)))
+    # The processes are not found again for each socket.
+    environment = failing(runs, "opendir", 10 * len(os.listdir("/proc")))
     with hosts(runs):
-        found = runs.end("-aeprw", "src many.example:ssh", env=failing(runs))
+        found = runs.end("-aeprw", "src many.example:ssh", env=environment)
         compare("no failure", found[::2], (0, ""))
     runs.record(*dump("tcp", with_group))
     for arguments, call, number, name in FAILURES:
