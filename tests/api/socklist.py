@@ -843,7 +843,7 @@ NAMES = [
 # Names that are not valid UTF-8: too few bytes, too many, a surrogate, above U+10FFFF, and a later
 # byte that is out of range.
 INVALID = [
-    b"\xff", b"\xc3", b"\xf0\x9f\x90", b"\x80", b"\xc0\x80", b"\xc1\xbf", b"\xf5\x80\x80\x80",
+    b"\x01\xff", b"\xc3", b"\xf0\x9f\x90", b"\x80", b"\xc0\x80", b"\xc1\xbf", b"\xf5\x80\x80\x80",
     b"\xe0\x9f\x80", b"\xe0\xc0\x80", b"\xed\x7f\x80", b"\xed\xa0\x80", b"\xf0\x8f\x80\x80",
     b"\xf0\xc0\x80\x80", b"\xf4\x7f\x80\x80", b"\xf4\x90\x80\x80", b"\xe7\x8c\x7f",
     b"\xe7\x8c\xc0", b"\xf0\x9f\x90\x7f",
@@ -969,10 +969,11 @@ def stand_ins(runs, number=0, target=""):
                          "TARGET": target}
 
 
-def failing(runs, call="", number=1, environment=os.environ):
-    """Returns an environment with FAILING, a function, and which of its calls fails."""
+def failing(runs, call="", number=1, environment=os.environ, error=errno.EIO):
+    """Returns an environment with FAILING, a function, which of its calls fails, and the error."""
     libraries = f"{runs.build('failing.so', FAILING)} {environment.get('LD_PRELOAD', '')}"
-    return environment | {"LD_PRELOAD": libraries, "CALL": call, "NUMBER": f"{number}"}
+    return environment | {"LD_PRELOAD": libraries, "CALL": call, "NUMBER": f"{number}",
+                          "ERROR": f"{error}"}
 
 
 # A library with which one call of a function fails in socklist: the first, the second and so on. At
@@ -996,7 +997,7 @@ static int fails(const char *name) {
     if (strcmp(program_invocation_short_name, "socklist") != 0 || strcmp(getenv("CALL"), name) != 0
         || ++calls != atoi(getenv("NUMBER")))
         return 0;
-    errno = EIO;
+    errno = atoi(getenv("ERROR"));
     return 1;
 }
 
@@ -1035,7 +1036,8 @@ __attribute__((destructor)) static void end(void) {
     for (file = 0; file < 64; file++)
         if (!are_open[file] && fcntl(file, F_GETFD, 0) >= 0)
             dprintf(STDERR_FILENO, "descriptor %d is open\\n", file);
-    if (strcmp(getenv("CALL"), "waitpid") != 0 && waitpid(-1, NULL, WNOHANG) >= 0)
+    if ((strcmp(getenv("CALL"), "waitpid") != 0 || atoi(getenv("ERROR")) == EINTR)
+        && waitpid(-1, NULL, WNOHANG) >= 0)
         dprintf(STDERR_FILENO, "a program has not ended\\n");
 }
 
@@ -1104,6 +1106,10 @@ def test_failures(runs):
         status, _, errors = runs.end(env=failing(runs, call))
         compare(call, (status, set(errors.splitlines())),
                 (1, {"socklist: dup2: Input/output error"}))
+    expected = runs.end()
+    for call, number in ("poll", 1), ("read", 1), ("waitpid", 1), ("waitpid", 2):
+        compare(f"{call} {number}", runs.end(env=failing(runs, call, number, error=errno.EINTR)),
+                expected)
     compare("getppid", runs.end(env=failing(runs, "getppid"))[::2], (1, ""))
     compare("realloc", runs.end(env=failing(runs, "realloc"))[::2],
             (1, "socklist: out of memory\n"))
@@ -1340,6 +1346,11 @@ def test_rounds(runs):
             running.stdout.close()
             compare(f"{arguments}", (running.wait(), running.stderr.read()),
                     (-signal.SIGPIPE, b""))
+    one, other = socket.socketpair()
+    with runs.start("-E", stdout=other) as running:
+        one.close()
+        other.close()
+        compare("socket", running.wait(), -signal.SIGPIPE)
     with runs.start("-E", stderr=subprocess.PIPE,
                     preexec_fn=lambda: signal.signal(signal.SIGPIPE, signal.SIG_IGN)) as running:
         running.stdout.close()
@@ -1451,7 +1462,8 @@ def test_programs(runs):
     # It does not wait for a program whose output it no longer reads.
     runs.use(sockdump="", sslist=f"echo line; exec sleep {2 * LIMIT}")
     with open("/dev/full", "wb") as full:
-        compare("sslist continues", runs.end("--every=1", stdout=full),
+        environment = failing(runs, "waitpid", 1, error=errno.EINTR)
+        compare("sslist continues", runs.end("--every=1", stdout=full, env=environment),
                 (1, None, "socklist: standard output: No space left on device\n"))
 
 
