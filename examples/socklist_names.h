@@ -289,7 +289,7 @@ static int find_group(uint64_t id, char *path, size_t size) {
     const int folder = mount >= 0 ? mount : open(GROUPS_FOLDER, O_RDONLY | O_CLOEXEC | O_DIRECTORY);
     const char *root = mount >= 0 ? GROUPS_FOLDER UNIFIED : GROUPS_FOLDER;
     char link[32], target[PATH_MAX];
-    ssize_t length = -1;
+    ssize_t length;
     int group = -1;
     handle->handle_bytes = sizeof id;
     handle->handle_type = 0xfe; /* FILEID_KERNFS of the kernel. */
@@ -297,8 +297,7 @@ static int find_group(uint64_t id, char *path, size_t size) {
     if (folder >= 0)
         group = open_by_handle_at(folder, handle, O_RDONLY | O_CLOEXEC | O_DIRECTORY);
     snprintf(link, sizeof link, "/proc/self/fd/%d", group);
-    if (group >= 0)
-        length = readlink(link, target, sizeof target - 1);
+    length = readlink(link, target, sizeof target - 1);
     if (group >= 0)
         close(group);
     if (folder >= 0)

@@ -567,6 +567,7 @@ def shown_sockets(inode):
         ("mptcp", inet_reply(("127.0.0.1", 80), FAR), "127.0.0.1:{80/tcp} 192.0.2.1:{443/tcp}"),
         ("raw", inet_reply(("127.0.0.1", 1), ("192.0.2.1", 253)),
          f"127.0.0.1:{{1={PACKETS}}} 192.0.2.1:253"),
+        ("raw", inet_reply(("127.0.0.1", 0), FAR), "127.0.0.1:* 192.0.2.1:443"),
         ("unix", struct.pack("<BBBBIQ", 1, 1, 1, 0, inode, 2) + attribute(0, "/猫:22%1\0".encode()),
          "/猫:22%1 *"),
         *(("netlink", struct.pack("<4B4IQ", 16, 3, protocol, 7, port, 0, 0, 5, 3), f"{local} *")
@@ -574,6 +575,8 @@ def shown_sockets(inode):
               *((it, 0, f"{{{it}={name}}}:{{0=kernel}}") for it, name in enumerate(NETLINK)),
               (16, os.getpid(), f"{{16=genl}}:{{{os.getpid()}={own_name()}/{os.getpid()}}}"),
               (4, 1 << 31, "{4=tcpdiag}:2147483648"), (17, 3 << 30, "17:3221225472"))),
+        ("packet", struct.pack("<BBHIQ", 17, 2, 1, 6, 4)
+         + attribute(0, struct.pack("<6I", 1, 0, 0, 0, 0, 0)), "{1=802_3}:lo *"),
         *(("packet", struct.pack("<BBHIQ", 17, 3, number, 6, 4)
            + attribute(0, struct.pack("<6I", index, 0, 0, 0, 0, 0)),
            f"{protocol}:{interface} *")
@@ -704,8 +707,8 @@ def test_columns(runs):
         stdout=subprocess.PIPE, check=True).stdout.decode()
     assert expected, "sslist prints nothing"
     expected = expected.replace("%1:", "%lo:").replace(" 1:22", " lo:22")
-    expected = re.sub(r"(p_raw .* \d+:)1 ", r"\1lo", expected)
-    expected = re.sub(r"(p_raw .*) 3:", r"\1 *:", expected)
+    expected = re.sub(r"(p_\w+ .* \d+:)1 ", r"\1lo", expected)
+    expected = re.sub(r"(p_\w+ .*) 3:", r"\1 *:", expected)
     found = runs.end("-anomie", "--requests", "--utf8")
     compare("columns", (found[0], re.sub(" +", " ", found[1]), found[2]),
             (0, re.sub(" +", " ", expected), ""))
@@ -751,7 +754,7 @@ def test_hosts(runs):
     six, mapped, any_six = ("2001:db8::1", 22), ("::ffff:192.0.2.1", 22), ("::", 22)
     runs.record(*dump("tcp", inet_reply(("192.0.2.12", 22), any_),
                       inet_reply(one, none, interface=1), inet_reply(none, one),
-                      inet_reply(any_, any_)),
+                      inet_reply(any_, any_), inet_reply(("0.0.0.1", 22), any_)),
                 *dump("tcp", *(inet_reply(it, any_six) for it in (
                     six, mapped, ("::ffff:1:0:0", 22)))))
     with hosts(runs) as log:
@@ -762,10 +765,11 @@ def test_hosts(runs):
         compare("hosts", (status, errors, [it.split()[6:8] for it in table.splitlines()]), (0, "", [
             ["192.0.2.12:22", "0.0.0.0:22"],
             ["example.org%lo:22", "192.0.2.2:22"], ["192.0.2.2:22", "example.org:22"],
-            ["0.0.0.0:22", "0.0.0.0:22"], [r"six\x1b.example.org:22", "*:22"],
+            ["0.0.0.0:22", "0.0.0.0:22"], ["0.0.0.1:22", "0.0.0.0:22"],
+            [r"six\x1b.example.org:22", "*:22"],
             ["example.org:22", "*:22"], ["[::ffff:1:0:0]:22", "*:22"]]))
         compare("getent", found, [f"hosts {it}" for it in (
-            "192.0.2.12", "192.0.2.1", "192.0.2.2", "2001:db8::1", "::ffff:1:0:0")])
+            "192.0.2.12", "192.0.2.1", "192.0.2.2", "0.0.0.1", "2001:db8::1", "::ffff:1:0:0")])
         runs.record(*dump("tcp", inet_reply(other, ("192.0.2.4", 22)), inet_reply(one, none)))
         failed = "socklist: getent failed\n"
         compare("getent fails", runs.end("-taHr")[::2], (1, failed))
@@ -954,7 +958,7 @@ char *if_indextoname(unsigned index, char *name) {
 
 ssize_t readlink(const char *path, char *target, size_t size) {
     const char *group = getenv("TARGET");
-    if (strncmp(path, "/proc/self/fd/", 14) != 0)
+    if (strncmp(path, "/proc/self/fd/", 14) != 0 || path[14] == '-')
         return syscall(SYS_readlink, path, target, size);
     memset(target, 'x', size);
     memcpy(target, group, strlen(group));
@@ -1455,8 +1459,9 @@ def test_programs(runs):
                                  "echo tcp ESTAB 0 0 0 0 '*' 1.2.3.4")
     compare("no ports", [it.split()[6:8] for it in runs.end("-t")[1].splitlines()],
             [["1.2.3.4:65536", "1.2.3.4:99999999999"], ["*", "1.2.3.4"]])
-    runs.use(sockdump="", sslist="echo; echo x")
-    compare("no objects", runs.end("-p", "--json"), (0, "\nx\n", ""))
+    runs.use(sockdump="", sslist="echo; echo tcp x")
+    for arguments in (["-p", "--json"], ["-p"]):
+        compare(f"no sockets: {arguments}", runs.end(*arguments), (0, "\ntcp x\n", ""))
     runs.use(sockdump="", sslist="exit 1")
     compare("no summary", runs.end("-s"), (1, "", ""))
     # It does not wait for a program whose output it no longer reads.
