@@ -139,6 +139,7 @@ WORDS = [
     ("dst 10/8 or src 193.233.7/24", "dst 10.0.0.0/8 or src 193.233.7.0/24"),
     ("dst 127.1 or dst 10:80", "dst 127.1.0.0 or dst 10.0.0.0:80"),
     ("src 1.2.3 or src 1.2.3.4", "src 1.2.3.0 or src 1.2.3.4"),
+    ("dst 10.0.0.1: or src :", "dst 10.0.0.1: or src :"),
     ("src = one.example:{ssh} autobound", "src = [192.0.2.1]:22 autobound"),
     ("autobound dst many.example", "autobound ( dst [192.0.2.1] or dst [2001:db8::1] )"),
     ("( ! dst == many.example:80 )",
@@ -153,7 +154,7 @@ NO_ADDRESS = "no address, such as 192.0.2.0/24, [2001:db8::/32] or *:80"
 # Words that are rejected, and the text.
 NO_WORDS = [
     ("sport = :nope", "unknown service: nope"),
-    ("sport nope", "unknown service: nope"),
+    *((f"sport {it}", f"unknown service: {it}") for it in ("nope", "-1", "+1")),
     ("dst 10.0.0.1:no\x1b", r"unknown service: no\x1b"),
     ("sport = = 5", "unknown service: ="),
     ("dport ( sport = 5", "unknown service: ("),
@@ -176,6 +177,7 @@ NO_WORDS = [
         "::1", "fe80::1%lo", "::ffff:127.0.0.1")),
     ("dst != one.example", f"filter: {NO_ADDRESS}: !="),
     ("src = 1.2.3.4/33", f"filter: {NO_ADDRESS}: 1.2.3.4/33"),
+    *((f"sport = {it}", f"filter: no port from 0 to 65535: {it}") for it in ("*", ":", ":*")),
     *((f"{it} :65536", "filter: no port from 0 to 65535: :65536") for it in (
         "sport", "dport =", "( dport", "sport >=")),
     ("state 7", "filter: unknown state: 7"),
@@ -1146,10 +1148,12 @@ def test_interfaces(runs):
 
 
 def with_terminal(runs, answer, arguments, environment):
-    """Runs socklist in a terminal, and types an answer. Returns its exit status, and what is shown
-    there."""
+    """Runs socklist in a terminal, and types an answer. Returns its exit status, what is shown
+    there, and its standard error."""
+    errors = runs.folder / "errors"
     process, terminal = pty.fork()
     if process == 0:
+        os.dup2(os.open(errors, os.O_WRONLY | os.O_CREAT | os.O_TRUNC), 2)
         os.execve(runs.program, [runs.program, *arguments], environment)
     shown, is_answered = b"", False
     with killing(process):
@@ -1160,7 +1164,8 @@ def with_terminal(runs, answer, arguments, environment):
                     os.write(terminal, answer)
                     is_answered = True
         os.close(terminal)
-        return os.waitstatus_to_exitcode(os.waitpid(process, 0)[1]), shown.decode()
+        status = os.waitstatus_to_exitcode(os.waitpid(process, 0)[1])
+        return status, shown.decode(), errors.read_text()
 
 
 # Sockets that are closed: the protocol, and the reply.
@@ -1192,15 +1197,15 @@ def test_close(runs):
             (["-Kun", "sport", "ge", "22"], b"yes\n", [destroy(1, *CLOSED[2])]),
             (kill, b"n\n", []), (kill, b"\n", []), (kill, b"\4", [])):
         log.write_text("")
-        status, shown = with_terminal(runs, answer, arguments,
-                                      failing(runs, environment=environment))
+        status, shown, errors = with_terminal(runs, answer, arguments,
+                                              failing(runs, environment=environment))
         # fake_kernel.c leaves its file open.
-        compare(shown, shown.count(" is open"), 1 if requests else 0)
+        expected_errors = r"descriptor \d+ is open" if requests else "socklist: nothing was closed"
+        assert re.fullmatch(f"{expected_errors}\n", errors), errors
         compare(f"{arguments} {answer}", log.read_text().split(), requests)
         compare(f"{arguments} {answer}", status, 0 if requests else 1)
         count = len(requests) or 3
         assert f"Close {count} socket{'s' * (count > 1)}? [y/N] " in shown, shown
-        assert requests or "socklist: nothing was closed" in shown, shown
     for arguments, requests in ((["-H"], expected), (["--json"], expected), (["-u"], [
             destroy(1, *CLOSED[2])]), (["sport <= :21"], [])):
         log.write_text("")
