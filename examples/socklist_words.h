@@ -144,13 +144,13 @@ static int add_addresses(struct words *words, const char *host, const char *port
     return status;
 }
 
-/* Returns whether a text is the name of a host: its last part begins with a letter, and it is no
- * IPv6 address and no option of getent. */
+/* Returns whether a text without a port is the name of a host: its last part begins with a letter,
+ * and it has no slash and no bracket, and is no option of getent. */
 static int is_host(const char *text) {
     const char *dot = strrchr(text, '.');
     const char first = dot != NULL ? dot[1] : *text;
     return ((first >= 'a' && first <= 'z') || (first >= 'A' && first <= 'Z'))
-        && *text != '-' && strpbrk(text, ":/[]") == NULL;
+        && *text != '-' && strpbrk(text, "/[]") == NULL;
 }
 
 /* Returns whether a word is one of a list. */
