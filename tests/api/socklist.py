@@ -171,7 +171,7 @@ NO_WORDS = [
         ")", "state established", "= 5")),
     *((f"dst {it}", f"filter: {NO_ADDRESS}: {it}") for it in (
         "0x7f", "1.2.", ".", "1.2.3.4.5", "a.1", "a.b.1", "-n.example", "none.example/24", "10./8", "@", "`",
-        "{", "[a", "a]", "1.2.3.4/")),
+        "{", "[a", "[a.b", "a]", "1.2.3.4/")),
     *((f"src {it}",
        f"an IPv6 address has brackets, such as [::1]:80 or [2001:db8::/32]: {it}") for it in (
         "::1", "fe80::1%lo", "::ffff:127.0.0.1")),
