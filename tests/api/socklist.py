@@ -179,7 +179,7 @@ NO_WORDS = [
     ("src = 1.2.3.4/33", f"filter: {NO_ADDRESS}: 1.2.3.4/33"),
     *((f"sport = {it}", f"filter: no port from 0 to 65535: {it}") for it in ("*", ":", ":*")),
     *((f"{it} :65536", "filter: no port from 0 to 65535: :65536") for it in (
-        "sport", "dport =", "( dport", "sport >=")),
+        "sport", "dport =", "( dport", "sport >=", "sport !=", "sport <", "sport >")),
     ("state 7", "filter: unknown state: 7"),
     *((f"{it} up", "filter: unknown state: up") for it in ("exclude", "excl")),
     ("cgroup = /none.slice", "unknown control group: /none.slice"),
@@ -451,17 +451,22 @@ PORTS = [
 ]
 
 
-def with_files(services, ports="/dev/null"):
-    """Returns a function that enters a mount namespace in which these files are /etc/services and
-    RANGE."""
+def with_mounts(*mounts):
+    """Returns a function that enters a mount namespace in which files or folders are in the place of
+    others."""
     def enter():
         calls = ctypes.CDLL(None)
         if (calls.unshare(0x20000 | (0 if os.geteuid() == 0 else 0x10000000)) != 0
                 or calls.mount(b"none", b"/", None, 0x44000, None) != 0
-                or any(calls.mount(str(it).encode(), path, None, 0x1000, None) != 0
-                       for it, path in ((services, b"/etc/services"), (ports, bytes(RANGE))))):
+                or any(calls.mount(str(it).encode(), str(path).encode(), None, 0x1000, None) != 0
+                       for it, path in mounts)):
             raise OSError("mount")
     return enter
+
+
+def with_files(services, ports="/dev/null"):
+    """Returns a function as with_mounts does, for /etc/services and RANGE."""
+    return with_mounts((services, "/etc/services"), (ports, RANGE))
 
 
 def test_services(runs):
@@ -684,6 +689,36 @@ def test_control_group(runs):
     for environment in (None, stand_ins(runs, 0, ROOT or "")):
         compare("no group", runs.end("-teHO", env=environment)[1].split()[-1],
                 f"cgroup:{2 ** 64 - 1}")
+
+
+# Folders in that of control groups; words, and the folders whose inodes are in their place; and
+# folders of a control group, and what is shown.
+GROUPS = [
+    (("a", "b", "unified/a"),
+     (("a", "unified/a"), ("b", "b"), ("/sys/fs/cgroup/a", "a"), ("/", "unified")),
+     (("/sys/fs/cgroup/unified/x", "/x"), ("/sys/fs/cgroup/x", "7"))),
+    (("a",), (("a", "a"), ("/", "."), ("/sys/fs/cgroup/a", "a")), (("/sys/fs/cgroup/x", "/x"),)),
+]
+
+
+def test_groups(runs):
+    """Finds control groups with and without the hierarchies of version 1."""
+    for number, (folders, words, targets) in enumerate(GROUPS):
+        top = runs.folder / f"groups{number}"
+        for it in folders:
+            (top / it).mkdir(parents=True)
+        how = {"preexec_fn": with_mounts((top, "/sys/fs/cgroup"))}
+        try:
+            found = [passed(runs, "-ta", f"cgroup {word}", **how) for word, _ in words]
+        except subprocess.SubprocessError:
+            print("socklist: skipped: control groups: no mount namespace, or no /sys/fs/cgroup")
+            return
+        compare(f"{folders}", [it[2][-1:] for it in found],
+                [[f"cgroup {(top / it).stat().st_ino}"] for _, it in words])
+        runs.record(*dump("tcp", inet_reply(FAR, FAR) + attribute(21, struct.pack("<Q", 7))))
+        for target, shown in targets:
+            table = runs.end("-teHO", env=stand_ins(runs, 0, target), **how)[1]
+            compare(target, table.split()[-1], f"cgroup:{shown}")
 
 
 def test_both_versions(runs):
