@@ -17,7 +17,7 @@ struct kind {
 
 static const struct kind kinds[] = {
     {'t', "tcp", 1},    {'u', "udp", 1},   {'M', "mptcp", 1}, {'w', "raw", 1}, {'x', "unix", 0},
-    {'0', "packet", 0}, {0, "netlink", 0}, {0, "vsock", 0},   {0, "xdp", 0},
+    {'0', "packet", 0}, {0, "netlink", 0}, {0, "vsock", 0},   {0, "xdp", 0},   {0, NULL, 0},
 };
 
 /* Indices of kinds. */
@@ -91,7 +91,7 @@ static int reject(const char *why) {
 /* Selects the kind with a name of this length. Returns whether there is one. */
 static int select_kind(struct options *options, const char *name, size_t length) {
     size_t index;
-    for (index = 0; index < KINDS; index++)
+    for (index = 0; kinds[index].name != NULL; index++)
         if (strlen(kinds[index].name) == length && strncmp(kinds[index].name, name, length) == 0)
             return options->is_selected[index] = 1;
     return 0;
@@ -103,7 +103,7 @@ static int select_group(struct options *options, const char *name, size_t length
     const int is_all = length == 3 && strncmp(name, "all", length) == 0;
     const int is_inet = length == 4 && strncmp(name, "inet", length) == 0;
     size_t index;
-    for (index = 0; index < KINDS; index++)
+    for (index = 0; kinds[index].name != NULL; index++)
         if (is_all || (is_inet && kinds[index].is_inet))
             options->is_selected[index] = 1;
     return is_all || is_inet;
@@ -127,7 +127,7 @@ static int read_family(struct options *options, const char *name) {
     static const char *const inet[] = {"inet", "inet6", NULL};
     const char *kind = strcmp(name, "link") == 0 ? "packet" : name;
     size_t index;
-    for (index = 0; index < KINDS; index++)
+    for (index = 0; kinds[index].name != NULL; index++)
         if (!kinds[index].is_inet && strcmp(kinds[index].name, kind) == 0)
             return options->is_selected[index] = 1, 0;
     if (!is_among(name, inet))
@@ -160,7 +160,7 @@ static int read_value(struct options *options, char letter, const char *value) {
 /* Reads a letter. Returns whether sslist does not get it. */
 static int read_letter(struct options *options, char letter) {
     size_t index;
-    for (index = 0; index < KINDS; index++)
+    for (index = 0; kinds[index].name != NULL; index++)
         if (kinds[index].letter == letter)
             return options->is_selected[index] = 1;
     options->has_version |= letter == '4' || letter == '6';
@@ -309,7 +309,7 @@ static int read_arguments(struct options *options, int count, char **arguments) 
 /* Returns whether a kind is selected, of those that are of IPv4 and IPv6 or of the others. */
 static int has_selected(const struct options *options, int is_inet) {
     size_t index;
-    for (index = 0; index < KINDS; index++)
+    for (index = 0; kinds[index].name != NULL; index++)
         if (kinds[index].is_inet == is_inet && options->is_selected[index])
             return 1;
     return 0;
@@ -375,7 +375,7 @@ static int select_conditional(struct options *options) {
         return 0;
     if (!has_selected(options, 1) || options->is_selected[PACKET])
         return reject("conditions such as dport select IPv4 and IPv6 sockets: -t, -u, -M, -w");
-    for (index = 0; index < KINDS; index++)
+    for (index = 0; kinds[index].name != NULL; index++)
         options->is_selected[index] &= kinds[index].is_inet;
     return 0;
 }
@@ -398,7 +398,7 @@ static void append_requests(struct options *options) {
                events[options->is_selected[TCP] + 2 * options->is_selected[UDP]]);
     if (options->has_events)
         return;
-    for (index = 0; index < KINDS; index++)
+    for (index = 0; kinds[index].name != NULL; index++)
         if (options->is_selected[index] && (!options->has_version || has_selected(options, 1)))
             append(&options->recorder, kinds[index].name);
     append_filter(options->filter.text.bytes, &options->recorder);
@@ -408,7 +408,7 @@ static void append_requests(struct options *options) {
  * these options a capture has only what was requested. */
 static void append_families(const struct options *options, struct arguments *lister) {
     size_t index;
-    for (index = 0; options->has_version && index < KINDS; index++)
+    for (index = 0; options->has_version && kinds[index].name != NULL; index++)
         if (options->is_selected[index] && !kinds[index].is_inet) {
             append(lister, "-f");
             append(lister, kinds[index].name);

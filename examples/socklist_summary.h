@@ -11,10 +11,10 @@
 /* Other kinds than IPv4 and IPv6, in the order of their indices: the letter with which the column
  * Netid begins, and the name. */
 static const struct { char letter; const char *name; } others[] = {
-    {'u', "UNIX"}, {'p', "PACKET"}, {'n', "NETLINK"}, {'v', "VSOCK"}, {'x', "XDP"},
+    {'u', "UNIX"}, {'p', "PACKET"}, {'n', "NETLINK"}, {'v', "VSOCK"}, {'x', "XDP"}, {0, NULL},
 };
 
-enum { OTHERS = sizeof others / sizeof *others };
+enum { OTHERS = sizeof others / sizeof *others - 1 };
 
 /* Numbers of sockets. */
 struct summary {
@@ -65,7 +65,7 @@ static void count_line(struct summary *summary, const char *line) {
     if (protocol < PROTOCOLS)
         summary->inet[protocol][strchr("[*", *columns.start[LOCAL]) != NULL] +=
             protocol != PROTOCOL_TCP || count_tcp(summary, &columns);
-    for (index = 0; protocol == PROTOCOLS && index < OTHERS; index++)
+    for (index = 0; protocol == PROTOCOLS && others[index].name != NULL; index++)
         summary->others[index] += *line == others[index].letter;
 }
 
@@ -99,10 +99,10 @@ static int print_summary(const struct options *options, const struct summary *su
         if (is_counted(options, rows[index].kind))
             print_row(rows[index].name, summary->inet[rows[index].protocol]);
     print_row("INET", inet);
-    for (index = 0; index < OTHERS; index++)
+    for (index = 0; others[index].name != NULL; index++)
         if (is_counted(options, UNIX + index))
             printf("%-9s %lu\n", others[index].name, summary->others[index]);
-    return ferror(stdout) || fflush(stdout) != 0 ? fail("standard output") : 0;
+    return fflush(stdout) != 0 ? fail("standard output") : 0;
 }
 
 #endif
