@@ -160,6 +160,7 @@ static void add_detail(struct text *text, const char *detail, size_t length) {
         {"lastsnd:", "ms"}, {"lastrcv:", "ms"}, {"lastack:", "ms"}, {"total_rto_time:", "ms"},
         {"pacing_rate:", "B/s"}, {"max_pacing_rate:", "B/s"}, {"delivery_rate:", "B/s"},
         {"bw:", "B/s"}, {"mrtt:", "us"}, {"pacing_gain:", "/256"}, {"cwnd_gain:", "/256"},
+        {NULL, NULL},
     };
     static const char group[] = "cgroup:";
     char path[PATH_MAX];
@@ -171,7 +172,7 @@ static void add_detail(struct text *text, const char *detail, size_t length) {
         return;
     }
     add_bytes(text, detail, length);
-    for (index = 0; index < sizeof units / sizeof *units; index++)
+    for (index = 0; units[index].name != NULL; index++)
         if (strncmp(units[index].name, detail, strlen(units[index].name)) == 0)
             add_string(text, units[index].unit);
 }

@@ -219,7 +219,7 @@ static int add_index(struct text *text, const char *word) {
 /* Adds the id of a control group, which is the inode of its folder, if it is named by its path in
  * the hierarchy of version 2. Returns 0, or the exit status after an error. */
 static int add_group(struct text *text, const char *word) {
-    static const char *const roots[] = {"", GROUPS_FOLDER UNIFIED, GROUPS_FOLDER};
+    static const char *const roots[] = {"", GROUPS_FOLDER UNIFIED, GROUPS_FOLDER, NULL};
     char path[PATH_MAX];
     struct stat found;
     size_t index;
@@ -227,7 +227,7 @@ static int add_group(struct text *text, const char *word) {
         return add_word(text, word), 0;
     /* A path may begin with the folder. */
     index = strncmp(word, GROUPS_FOLDER "/", strlen(GROUPS_FOLDER "/")) != 0;
-    for (; index < sizeof roots / sizeof *roots; index++)
+    for (; roots[index] != NULL; index++)
         if ((size_t)snprintf(path, sizeof path, "%s/%s", roots[index], word) < sizeof path
             && stat(path, &found) == 0 && S_ISDIR(found.st_mode)) {
             snprintf(path, sizeof path, "%llu", (unsigned long long)found.st_ino);
