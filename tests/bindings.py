@@ -6,6 +6,9 @@
   examples, whole.
 - The number of a version has the weights that the header states, structs that can grow have the
   sizes of version 1.0, and the comment of an option has its bit.
+- Facts in comments: the attribute of a detail is the one that reply_reader.py parses it from, a
+  field of a connection is what man/sslist-json.5 says, a flag _SHOW_ names attributes with its name
+  or in its place, and lengths, codes and lists of names are those of the declarations.
 - tools/bindings reports what the template lacks.
 - With a C compiler, `$CC` or `cc`, it compiles the examples as C99 and as C++.
 
@@ -24,7 +27,8 @@ from pathlib import Path
 TOP = Path(__file__).resolve().parent.parent
 # Do not create tools/__pycache__.
 sys.dont_write_bytecode = True
-sys.path.append(str(TOP / "tools"))
+sys.path += [str(TOP / "tools"), str(TOP / "tests/api")]
+import reply_reader
 from declarations import Library, constants_in, decode_errors, record_names, socket_options
 
 HEADER = (TOP / "include/sockdiag.h").read_text("utf-8")
@@ -32,6 +36,9 @@ SIZES_1_0 = {"unix_details": 168, "inet_details": 264, "netlink_details": 136,
              "packet_details": 248, "vsock_header": 32, "xdp_details": 240, "error_details": 64,
              "filter_details": 24}
 CRATES = TOP / "crates"
+# Words of man/sslist-json.5 that a comment need not have.
+UNSAID = {*"""0 a an did digits for have hexadecimal if in it its lowercase next not or string that
+    the to two were""".split()}
 
 
 def words(text):
@@ -102,6 +109,119 @@ def option_errors():
     return found
 
 
+def comments():
+    """Returns the comments of the header, each as one line."""
+    found = re.findall(r"(?s)/\*(.*?)\*/", HEADER)
+    return [" ".join(re.sub(r"(?m)^ *\*", "", it).split()) for it in found]
+
+
+def values():
+    """Returns the constants of the header without their prefix."""
+    found = re.findall(r"(?m)^(?:    |#define )SOCKDIAG_(\w+) (?:= )?(0x[0-9a-f]+|\d+)\b", HEADER)
+    return {name: int(number, 0) for name, number in found}
+
+
+def fields(struct):
+    """Returns the comment of each field of a struct."""
+    body = re.search(rf"(?s)struct sockdiag_{struct} \{{\n(.*?)\n\}};", HEADER)[1]
+    found = re.findall(r"(?s)(\w+)(?:\[\d+\])?(?: : \d+)?;\s*/\*(.*?)\*/", body)
+    return {name: " ".join(doc.split()) for name, doc in found}
+
+
+def detail_errors():
+    """Returns the details whose comment names another attribute than the one that the independent
+    reader parses them from, as lines."""
+    errors, numbers = [], values()
+    for family, (_, _, attributes) in reply_reader.REPLIES.items():
+        for kind, (_, names) in attributes.items():
+            for name in {re.sub("^memory_.*", "memory", it) for it in names}:
+                doc = fields(f"{family}_details")[name]
+                if kind not in [numbers.get(it) for it in re.findall(r"\w+_DIAG_\w+", doc)]:
+                    errors.append(f"{name} of {family} is attribute {kind}, and not: {doc}")
+    return errors
+
+
+def said_of_members():
+    """Returns what man/sslist-json.5 says of each member of a kernel's struct: the first clause.
+    The page has the names without the prefix of the struct, which precedes them."""
+    page = re.sub(r"(?m)^\.(?:Cm|Dv) ", "", (TOP / "man/sslist-json.5").read_text("utf-8"))
+    line = r"(?m)^\.Ss (.*)|^\.It Cm (.*)\n(?:Number: )?((?:(?!\.(?:It|El|Ss|Pp)).*\n)*)"
+    found, prefix = {}, ""
+    for heading, name, text in re.findall(line, page):
+        if heading:
+            prefix = {"Members of info": "tcpi_",
+                      "Members of info of MPTCP sockets": "mptcpi_"}.get(heading, "")
+        elif group := re.search(r"Va (\w+_)\*", text):
+            prefix = group[1]
+        elif prefix:
+            found[prefix + name] = re.split(r"[.;:]\s|\n\.", text)[0]
+    return found
+
+
+def member_errors():
+    """Returns the words that man/sslist-json.5 has of a member and its comment lacks, as lines."""
+    errors, said = [], said_of_members()
+    for doc in comments():
+        for name in re.findall(r"\b([a-z]+_\w+)\)?,? at (?:offset )?\d", doc):
+            found, expected = ({*re.findall(r"[a-z0-9]+", it.lower())}
+                               for it in (doc, said.get(name, "")))
+            if lacking := sorted(expected - found - UNSAID):
+                errors.append(f"the comment of {name} lacks {lacking}: {doc}")
+    return errors
+
+
+def show_errors():
+    """Returns the flags that select attributes whose comment names another attribute, as lines."""
+    found = re.findall(r"(?s)SOCKDIAG_(\w+)_SHOW_(\w+) = \w+,?\s+/\*(.*?)\*/", HEADER)
+    numbers, errors = values(), []
+    for family, name, doc in found:
+        family = {"UDIAG": "UNIX", "NDIAG": "NETLINK"}.get(family, family)
+        named = re.findall(r"\w+_DIAG_\w+", doc)
+        own = f"{family}_DIAG_RX_RING" if name == "RING_CFG" else f"{family}_DIAG_{name}"
+        if named[:1] != [own] or any(it not in numbers for it in named):
+            errors.append(f"the comment of {family}_SHOW_{name}: {doc}")
+    return errors
+
+
+def length_errors():
+    """Returns the calls whose comment has other lengths or codes than the declarations, as lines:
+    of a struct, of a request, and the codes of framing errors."""
+    text = re.sub(r"(?m)^ \*(?!/)", "", HEADER)
+    start = r"/\*((?:(?!\*/)[^{])*)\*/\n"
+    sizes = {name: int(size) for doc, name in re.findall(start + r"struct (\w+) \{", text)
+             for size in re.findall(r"\b(\d+)\s+bytes", doc)}
+    calls = re.findall(start + r"(?:static inline )?\w+ sockdiag_(\w+)\(([^)]*)\)", text)
+    numbers, errors = values(), []
+    for doc, name, parameters in calls:
+        found = [int(it) for it in re.findall(r"\b(\d+)(?:\s+bytes| if)", doc)]
+        sized = [sizes[it] for it in re.findall(r"struct (\w+)", parameters) if it in sizes]
+        request = numbers.get(name.upper().removeprefix("WRITE_") + "_LENGTH")
+        if request:
+            sized = [72, request] if request == 80 else [request]
+        codes = (16, 18) if "datagram" in parameters else (7, 9)
+        ranges = re.findall(r"framing error[\w\s]*, (\d+) to (\d+)", doc)
+        if sized and sized != found or any(tuple(map(int, it)) != codes for it in ranges):
+            errors.append(f"{name} has {sized} bytes and framing errors {codes}, and not: {doc}")
+    return errors
+
+
+def list_errors():
+    """Returns what the lists of the first comment lack, or have and should not have, as lines: the
+    structs that may grow, and the functions of libc that c_api.sh lets the library call."""
+    first = comments()[0]
+    grows = first.partition("may get more fields")[0].rpartition(". ")[2]
+    sized = {it[:-1] for it in re.findall(r"#define SOCKDIAG_(\w+)SIZE_1_0", HEADER)}
+    sized = {it.lower() for it in sized if not it.endswith("_DETAILS")} | {"tcp_info", "mptcp_info"}
+    script = (TOP / "tests/api/c_api.sh").read_text("utf-8")
+    called = [*re.search(r"calls='(.*)'", script)[1].split("|"),
+              *re.search(r'calls="\$calls\|(.*)"', script)[1].split("|")]
+    errors = [] if {*re.findall(r"sockdiag_(\w+)", grows)} == sized else [
+        f"structs that may grow: {sorted(sized)}, and not: {grows}"]
+    if not re.search(rf"{', '.join(called[:-1])} and {called[-1]}\b", first):
+        errors.append(f"the first comment does not list {called}")
+    return errors
+
+
 def missing_errors():
     """Returns what tools/bindings does not report if the template lacks it, as lines."""
     missing = runpy.run_path(str(TOP / "tools/bindings"))["Writer"]().missing()
@@ -151,7 +271,8 @@ def compile_c(compiler):
 
 def main():
     errors = comment_errors() + code_errors() + option_errors() + missing_errors()
-    errors += version_errors() + size_errors()
+    errors += version_errors() + size_errors() + detail_errors() + member_errors() + show_errors()
+    errors += length_errors() + list_errors()
     if errors:
         print(*errors, "tests/bindings.py: failed", sep="\n")
         return 1

@@ -6,8 +6,8 @@ of the Rust struct. A C program prints the size of the kernel's struct, and the 
 of each of its members. The fields of `tcp_info` and `mptcp_info`, the bits of `inet_diag_sockopt`
 and the public constants are compared in the same way. The installed headers may be those of a
 kernel before KNOWN, and lack some of these: the last line but one of the output lists them. All
-fields of the two structs, which grow, are also compared with NEWEST. The offsets in comments of
-the C header are compared with both.
+fields of the two structs, which grow, are also compared with NEWEST. The offsets, sizes and
+constants in comments of the C header are compared with both, and so is the file of a struct.
 
 The exit status is 1 if anything differs, if headers lack what they must have, or if RECORDS and the
 layouts of specs/ do not have the same names and members. Without gcc or without the headers the
@@ -295,13 +295,36 @@ def about_comments():
                         for it in re.findall(r"\b[a-z]\w\w+", before) for inside in ("", "id."))
 
 
+def about_numbers():
+    """Yields the questions about constants and sizes of structs in the comments of the C header,
+    each with the number that the comment has."""
+    text = HEADER.read_text(encoding="utf-8")
+    sizes = re.findall(r"(\d+) +/\* Size of struct (\w+) in bytes", text)
+    yield from ((f"SIZE({struct})", int(size)) for size, struct in sizes)
+    for comment in re.findall(r"(?s)/\*(.*?)\*/", text):
+        comment = " ".join(re.sub(r"(?m)^ *\*", "", comment).split())
+        for name, number in re.findall(r"\b([A-Z]\w{3,})(?:, type | \()(\d+)\b", comment):
+            yield c_name(name), int(number)
+        for number, name in re.findall(r"(?<!else )\b(\d+) (?:\(|for )([A-Z]\w{4,})", comment):
+            yield c_name(name), int(number)
+        for struct, size in re.findall(r"\b(\w+)(?: of [\w/.]+)?, (\d+) bytes", comment):
+            yield f"SIZE({struct})", int(size)
+
+
 def comment_errors():
-    """Returns how many offsets in comments are compared, and those that the headers do not have."""
-    asked = [*about_comments()]
+    """Returns how many numbers in comments are compared, and those that the headers do not have."""
+    asked = [*about_comments(), *about_numbers()]
     unique = dict.fromkeys(one for one, _ in asked)
     found = answers(INCLUDES, unique) | answers(NEWEST, unique)
-    return len(found), [f"{one}: {found[one]} in the headers, {ours} in a comment of the C header"
-                        for one, ours in asked if found.get(one, ours) != ours]
+    text = re.sub(r"\n +\* ", " ", HEADER.read_text(encoding="utf-8"))
+    files = {struct: INCLUDED.parent.parent / file
+             for struct, file in re.findall(r"struct (\w+) of (linux/\w+\.h)", text)}
+    wrong = [f"{path} lacks struct {struct}, which a comment of the C header has"
+             for struct, path in files.items()
+             if path.exists() and f"struct {struct} {{" not in path.read_text(encoding="utf-8")]
+    wrong += [f"{one}: {found[one]} in the headers, {ours} in a comment of the C header"
+              for one, ours in asked if found.get(one, ours) != ours]
+    return len(found), wrong
 
 
 def answers(included, asked):
