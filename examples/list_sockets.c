@@ -319,12 +319,10 @@ static int list_selected(const struct selection *selection) {
 }
 
 /* Returns the port that a text has in decimal digits, or 0 if it is none. strtoul(3) also accepts
- * spaces and a sign before them. */
+ * spaces and a sign before them, and any bytes after them. */
 static uint16_t read_port(const char *text) {
-    char *end;
-    const unsigned long port = strtoul(text, &end, 10);
-    const int has_digits = *text >= '0' && *text <= '9' && *end == '\0';
-    return has_digits && port <= UINT16_MAX ? (uint16_t)port : 0;
+    const unsigned long port = strtoul(text, NULL, 10);
+    return text[strspn(text, "0123456789")] == '\0' && port <= UINT16_MAX ? (uint16_t)port : 0;
 }
 
 /* Reads the arguments. Returns 0, or -1 if they are wrong. */

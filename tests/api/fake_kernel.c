@@ -55,10 +55,11 @@
  * CLOCK_REALTIME.
  *
  * The program is aborted if its socket gets the number of standard input, output or error, if
- * exec(2) does not close it, or if the previous one is still open. A socket has to be connected to
- * the kernel before it sends and receives. If FAKE_KERNEL_REFUSES is set, connect fails. Requests
- * are answered all the same, as a kernel does, so a lister that ignores the failure lists sockets.
- * If FAKE_KERNEL_DENIES is set, recv fails with EPERM, and so does joining a group.
+ * exec(2) does not close it, or if the previous one is still open; and if the length, the type or
+ * the flags of a request are wrong, or one for a dump names a single socket. A socket has to be
+ * connected to the kernel before it sends and receives. If FAKE_KERNEL_REFUSES is set, connect
+ * fails. Requests are answered all the same, as a kernel does, so a lister that ignores the failure
+ * lists sockets. If FAKE_KERNEL_DENIES is set, recv fails with EPERM, and so does joining a group.
  */
 #define _DEFAULT_SOURCE /* For syscall. */
 #include "sockdiag.h"
@@ -195,6 +196,24 @@ static int repeats(const uint8_t *other) {
         && memcmp(request + 12, other + 12, sizeof request - 12) == 0;
 }
 
+/* Returns whether the stored request, of this length, is one to close a socket, or for a dump. The
+ * latter has zeros in the fields that name a single socket, except ports. */
+static int is_answered(size_t length) {
+    const size_t show = request[16] == AF_UNIX ? 28 : 24;
+    struct nlmsghdr head;
+    size_t at;
+    memcpy(&head, request, sizeof head);
+    if (head.nlmsg_len != length || (head.nlmsg_flags & NLM_F_REQUEST) == 0)
+        return 0;
+    if (head.nlmsg_type == SOCKDIAG_SOCK_DESTROY)
+        return 1;
+    for (at = 24; at < 72 && at < length; at++)
+        if (request[at] != 0 && (at < show || at >= show + 4))
+            return 0;
+    return head.nlmsg_type == SOCKDIAG_SOCK_DIAG_BY_FAMILY
+        && (head.nlmsg_flags & NLM_F_DUMP) == NLM_F_DUMP;
+}
+
 ssize_t send(int fd, const void *bytes, size_t length, int flags) {
     static uint8_t previous[sizeof request];
     (void)fd;
@@ -210,6 +229,8 @@ ssize_t send(int fd, const void *bytes, size_t length, int flags) {
     memset(request, 0, sizeof request);
     request_length = length < sizeof request ? length : sizeof request;
     memcpy(request, bytes, request_length);
+    if (!is_answered(length))
+        abort();
     repetitions = repeats(previous) ? repetitions + 1 : 0;
     requests++;
     datagrams = 0;

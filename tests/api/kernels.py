@@ -49,8 +49,9 @@ NOT_OPEN = "standard input, output or error is not open"
 SHORT = (("tcp-info", "tcp", "020100"), ("linux-6.18", "unix", "010100"),
          ("linux-6.18", "udp", "020100"), ("linux-6.18", "mptcp", "020100"),
          ("netlink-and-packet", "netlink", "100000"), ("netlink-and-packet", "packet", "110000"))
-# How often a dump is requested, if it is always interrupted.
+# How often a dump is requested, if it is always interrupted, and the error then.
 ATTEMPTS = 10
+INTERRUPTED = "interrupted, or data lost, at each attempt"
 # Numbers with which a dump ends, and the texts of the errors. Error numbers are -4095 to -1.
 ENDS = (("-1", "Operation not permitted"), ("-4095", "Unknown error 4095"),
         *((it, "Protocol error") for it in ("", "1", "2", "-4096", "-2147483648")))
@@ -150,13 +151,14 @@ def compare(lister, library, file, *arguments, status=0, error="", **variables):
 
 
 def compare_arguments(lister, library, file):
-    """Runs the lister with -l, with each local port of the file and those next to it, and with
-    both. Returns whether it prints what it has to. A lister that takes no port does not reject the
-    port 0."""
+    """Runs the lister with -l, with each local port of the file and those next to it, with ports
+    that have all digits, and with both. Returns whether it prints what it has to. A lister that
+    takes no port does not reject the port 0."""
     if run(lister, library, file, "0").returncode != 2:
         return True
     lines = re.findall(rf"(?m)^= ({'|'.join(PROTOCOLS)}) state \d+ \S+ (\d+) ", file.read_text())
     ports = {int(port) + step for _, port in lines for step in (-1, 0, 1)} & {*range(1, 65536)}
+    ports |= {12345, 60789}
     with_port = [(*options, str(port)) for port in sorted(ports) for options in ((), ("-l",))]
     return all(compare(lister, library, file, *it) for it in [("-l",), *with_port])
 
@@ -198,18 +200,20 @@ def repeats_dumps(lister, library, file, **how):
     interrupted at the last attempt."""
     last, more = str(ATTEMPTS - 1), str(ATTEMPTS)
     return (compare(lister, library, file, FAKE_KERNEL_INTERRUPTIONS=last, **how)
-            and compare(lister, library, file, status=1, error="interrupted",
+            and compare(lister, library, file, status=1, error=INTERRUPTED,
                         FAKE_KERNEL_INTERRUPTIONS=more, **how))
 
 
-def reports_full_disk(lister, library, file):
+def reports_full_disk(lister, library, file, is_rust):
     """Returns whether the lister fails if its output cannot be written."""
+    name = Path(lister).name if is_rust else f"{Path(lister).name}: standard output"
+    error = f"{name}: No space left on device"
     with open("/dev/full", "wb") as full:
         done = subprocess.run([lister], env=environment(library, file), stdout=full,
                               stderr=subprocess.PIPE, timeout=60)
-    if done.returncode == 1 and done.stderr:
+    if done.returncode == 1 and error in done.stderr.decode():
         return True
-    print(f"kernels: {lister} >/dev/full: status {done.returncode}, expected 1 and an error")
+    print(f"kernels: {lister} >/dev/full: status {done.returncode}, expected 1 and {error}")
     return False
 
 
@@ -233,8 +237,9 @@ def is_right(lister, library, files, folder, is_rust):
                if not is_list_rtt(lister) or "\ntcp " in file.read_text()]
     results += [fails(lister, library, files[0], "Operation not permitted", **{it: "1"})
                 for it in ("FAKE_KERNEL_REFUSES", "FAKE_KERNEL_DENIES")]
-    results += [fails(lister, library, files[0], FAKE_KERNEL_EXCESS=it) for it in EXCESSES]
-    results += [fails(lister, library, files[0], FAKE_KERNEL_LACK=it) for it in LACKS]
+    results += [fails(lister, library, files[0], "Message too long", FAKE_KERNEL_EXCESS=it)
+                for it in EXCESSES]
+    results += [fails(lister, library, files[0], INTERRUPTED, FAKE_KERNEL_LACK=it) for it in LACKS]
     results.append(compare(lister, library, files[0], FAKE_KERNEL_SIGNALS="1"))
     results.append(compare(lister, library, files[0], FAKE_KERNEL_ODD="1"))
     results.append(repeats_dumps(lister, library, files[0]))
@@ -243,7 +248,7 @@ def is_right(lister, library, files, folder, is_rust):
                 for it, error in ENDS]
     results += [reports_short_reply(lister, library, HERE / "kernels" / file, folder, *short)
                 for file, *short in SHORT if short[0] == "tcp" or not is_list_rtt(lister)]
-    results.append(reports_full_disk(lister, library, files[0]))
+    results.append(reports_full_disk(lister, library, files[0], is_rust))
     results.append(opens_no_stream(lister, library, files[0], is_rust))
     if not is_list_rtt(lister):
         results += [compare_arguments(lister, library, file) for file in files]
