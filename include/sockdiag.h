@@ -16,9 +16,9 @@
  * Each call returns 0 (SOCKDIAG_OK) if it has succeeded, or a positive code, which
  * sockdiag_error_text takes. Calls with _next_ in their names iterate: they return SOCKDIAG_ITEM,
  * SOCKDIAG_END, or the code of an error. Calls with _write_ or _rewrite_ store the number of bytes
- * that they wrote, and with SOCKDIAG_NO_SPACE the number that the buffer has to have. Five calls
- * return no code: sockdiag_version and sockdiag_error_text, and the tests sockdiag_is_answer,
- * sockdiag_is_interrupted and sockdiag_ends_answer, which return 1 or 0.
+ * that they wrote, and with SOCKDIAG_NO_SPACE the number that the buffer has to have. These return
+ * no code: sockdiag_version and sockdiag_error_text, and the tests sockdiag_is_answer,
+ * sockdiag_is_interrupted and sockdiag_ends_answer.
  *
  * The structs named sockdiag_.._details, and struct sockdiag_vsock_header, sockdiag_tcp_info and
  * sockdiag_mptcp_info, may get more fields at their end in a later version; no others do. A call
@@ -78,8 +78,8 @@
 #endif
 
 /*
- * The version of this header and of the library that it is shipped with, as a text and as a number:
- * 1,000,000 times the first number, plus 1,000 times the second one, plus the third one.
+ * The version of this header and of the library that it is shipped with, as a text and as the
+ * number that sockdiag_version returns.
  */
 #define SOCKDIAG_VERSION "1.0.0"
 #define SOCKDIAG_VERSION_NUMBER 1000000
@@ -97,8 +97,7 @@ uint32_t sockdiag_version(void);
 
 /*
  * Return values of the calls. Those between SOCKDIAG_OK and SOCKDIAG_ITEM are decode errors: why
- * bytes are rejected. If bytes have several errors, a call returns the first. The only text that
- * has to be valid UTF-8 is the name of a congestion control algorithm.
+ * bytes are rejected. If bytes have several errors, a call returns the first.
  */
 enum sockdiag_code {
     SOCKDIAG_OK = 0,                        /* The call has succeeded. */
@@ -147,10 +146,7 @@ enum sockdiag_code {
                                                conditions, operators and open groups. */
 };
 
-/*
- * Returns the text of a code: a constant string in English. Any number may be passed: the text of
- * one that no call returns is "unknown error code".
- */
+/* Returns the text of a code, a constant string in English. Any number has one. */
 static inline const char *sockdiag_error_text(uint32_t error)
 {
     switch (error) {
@@ -213,12 +209,10 @@ static inline const char *sockdiag_error_text(uint32_t error)
 
 /* ---- constants of the kernel
  *
- * They have the kernel's names with the prefix SOCKDIAG_. Comments here use the kernel's names. So
- * no header of the kernel or the C library is needed for them, and a program can be compiled with
- * -std=c99, under which netinet/tcp.h does not declare TCP_LISTEN, for example.
+ * They have the kernel's names with the prefix SOCKDIAG_, so that a program needs no header of the
+ * kernel or the C library for them. Comments here use the kernel's names.
  */
 
-/* The protocol of a socket of family AF_NETLINK, for socket(2). */
 enum sockdiag_netlink_protocol {
     SOCKDIAG_NETLINK_SOCK_DIAG = 4 /* The netlink protocol of sock_diag(7), for socket(2). */
 };
@@ -237,7 +231,6 @@ enum sockdiag_group {
     SOCKDIAG_SKNLGRP_INET6_UDP_DESTROY = 4  /* Destroyed UDP sockets of IPv6. */
 };
 
-/* Message types of netlink(7) and sock_diag(7). */
 enum sockdiag_message_type {
     SOCKDIAG_NLMSG_NOOP = 1,           /* Message type without any content, see netlink(7). */
     SOCKDIAG_NLMSG_ERROR = 2,          /* Message type of an error, or of the acknowledgement of
@@ -248,7 +241,6 @@ enum sockdiag_message_type {
     SOCKDIAG_SOCK_DESTROY = 21         /* A request to close a socket. */
 };
 
-/* Flags of a message header, netlink(7). */
 enum sockdiag_message_flag {
     SOCKDIAG_NLM_F_REQUEST = 1,          /* Header flag of every request. */
     SOCKDIAG_NLM_F_DUMP = 0x300,         /* Header flags that request all entries of a table:
@@ -270,10 +262,7 @@ enum sockdiag_message_flag {
                                             follow. */
 };
 
-/*
- * Socket states. UNIX, UDP and other sockets have these states too: a UNIX socket is in state 1, 7
- * or 10.
- */
+/* Socket states, also of UNIX, UDP and other sockets. */
 enum sockdiag_state {
     SOCKDIAG_TCP_ESTABLISHED = 1,    /* The connection is open. */
     SOCKDIAG_TCP_SYN_SENT = 2,       /* A SYN was sent. */
@@ -294,7 +283,6 @@ enum sockdiag_state {
                                         bit 13; replies have the state 7 (TCP_CLOSE). */
 };
 
-/* Attributes that a request for UNIX sockets selects. */
 enum sockdiag_unix_show {
     SOCKDIAG_UDIAG_SHOW_NAME = 1,     /* Requests UNIX_DIAG_NAME. */
     SOCKDIAG_UDIAG_SHOW_VFS = 2,      /* Requests UNIX_DIAG_VFS. */
@@ -305,13 +293,9 @@ enum sockdiag_unix_show {
     SOCKDIAG_UDIAG_SHOW_UID = 64      /* Flag of a UNIX request: requests UNIX_DIAG_UID. */
 };
 
-/*
- * The bits of the kind in the type field of an attribute, type_word (NLA_TYPE_MASK of
- * linux/netlink.h). The other two are NLA_F_NESTED and NLA_F_NET_BYTEORDER.
- */
+/* The bits of the kind in the type field of an attribute (NLA_TYPE_MASK of linux/netlink.h). */
 #define SOCKDIAG_NLA_TYPE_MASK 0x3fff
 
-/* Kinds of attributes in replies about UNIX sockets. */
 enum sockdiag_unix_attribute {
     SOCKDIAG_UNIX_DIAG_NAME = 0,     /* Name that the socket is bound to. */
     SOCKDIAG_UNIX_DIAG_VFS = 1,      /* File that the socket is bound to: struct unix_diag_vfs. */
@@ -444,7 +428,6 @@ enum sockdiag_error_attribute {
                                              header. */
 };
 
-/* Kinds of attributes in requests for IPv4 and IPv6 sockets. */
 enum sockdiag_inet_request_attribute {
     SOCKDIAG_INET_DIAG_REQ_NONE = 0,            /* Kind of no attribute. The kinds
                                                    INET_DIAG_REQ_.. (linux/inet_diag.h) are those
@@ -478,7 +461,6 @@ enum sockdiag_tcp_value {
                                          request. Since Linux 6.14. */
 };
 
-/* Flags of an MPTCP connection. */
 enum sockdiag_mptcp_flag {
     SOCKDIAG_MPTCP_INFO_FLAG_FALLBACK = 1,           /* The connection fell back to TCP. */
     SOCKDIAG_MPTCP_INFO_FLAG_REMOTE_KEY_RECEIVED = 2 /* The key of the peer was received. */
@@ -504,7 +486,6 @@ enum sockdiag_show {
     SOCKDIAG_XDP_SHOW_STATS = 0x10       /* Requests XDP_DIAG_STATS. */
 };
 
-/* Kinds of attributes in replies about netlink sockets. */
 enum sockdiag_netlink_attribute {
     SOCKDIAG_NETLINK_DIAG_MEMINFO = 0, /* Kind of the socket's memory: an array of u32, indexed
                                           by SK_MEMINFO_*. */
@@ -516,7 +497,6 @@ enum sockdiag_netlink_attribute {
                                           NDIAG_FLAG_*. */
 };
 
-/* Kinds of attributes in replies about packet sockets. */
 enum sockdiag_packet_attribute {
     SOCKDIAG_PACKET_DIAG_INFO = 0,    /* Kind of struct sockdiag_packet_info. */
     SOCKDIAG_PACKET_DIAG_MCLIST = 1,  /* Kind of the memberships of the socket
@@ -531,7 +511,6 @@ enum sockdiag_packet_attribute {
     SOCKDIAG_PACKET_DIAG_FILTER = 7   /* Kind of the socket's filter: a BPF program. */
 };
 
-/* Kinds of attributes in replies about XDP sockets. */
 enum sockdiag_xdp_attribute {
     SOCKDIAG_XDP_DIAG_INFO = 1,                 /* Kind of struct sockdiag_xdp_info. */
     SOCKDIAG_XDP_DIAG_UID = 2,                  /* Kind of the user id of the socket's owner: a
@@ -561,9 +540,6 @@ enum sockdiag_xdp_attribute {
  * error of each kind of attribute. Use the lenient calls to list sockets: kernels send values that
  * the library does not accept, an INET_DIAG_INFO without tcpi_snd_wnd (of MPTCP, and of TCP from
  * older kernels) and a UNIX_DIAG_MEMINFO without all fields of struct sockdiag_memory.
- *
- * A call that takes the size of its struct is an inline function. It passes the struct of version
- * 1.0, and the bytes after it, to the function sockdiag_.._fill_.. of the library.
  *
  * For all of them:
  * - A number, text or record that the reply does not contain is all 0.
@@ -746,7 +722,6 @@ struct sockdiag_legacy_memory {
                                     (idiag_tmem, at 12). */
 };
 
-/* The options of an IPv4 or IPv6 socket. */
 enum sockdiag_socket_option {
     SOCKDIAG_OPTION_RECV_ERR = 1,               /* IP_RECVERR: recverr, bit 0. */
     SOCKDIAG_OPTION_IS_ICSK = 2,                /* The socket is of a connection-oriented
@@ -987,9 +962,8 @@ struct sockdiag_tcp_info {
 
 /*
  * Returns whether the kernel sent a field of the struct info. value_length is the number that
- * sockdiag_inet_get_tcp_info or sockdiag_inet_get_mptcp_info has stored. The last four fields of
- * struct sockdiag_tcp_info are bit fields, which this macro does not take: they are 0 if the kernel
- * did not send them.
+ * sockdiag_inet_get_tcp_info or sockdiag_inet_get_mptcp_info has stored. Bit fields, which this
+ * macro does not take, are 0 if the kernel did not send them.
  */
 #define SOCKDIAG_HAS(value_length, info, field)                                                   \
     ((value_length) >= (size_t)((const char *)&(info).field - (const char *)&(info))              \
@@ -1723,7 +1697,7 @@ uint32_t sockdiag_ends_answer(const struct sockdiag_message *message);
  * PACKET_DIAG_FILTER. sockdiag_next_attribute returns them: pass the bytes of its value, which are
  * payload + attribute.offset and attribute.length. The caller chooses the call by the kind,
  * attribute.type_word & SOCKDIAG_NLA_TYPE_MASK. A value that is longer than the struct is accepted,
- * since newer kernels may append fields. A shorter one is SOCKDIAG_WRONG_LENGTH.
+ * since newer kernels may append fields.
  *
  * A value that is an array is read by a call that iterates over its items. If the rest of the value
  * is shorter than an item, the call returns SOCKDIAG_WRONG_LENGTH, and no bytes are left. The time
@@ -2105,7 +2079,7 @@ struct sockdiag_inet_request {
 
 /*
  * Length of a UNIX request, and maximum length of an internet request without attributes of the
- * caller, in bytes. The latter has 72 bytes if its protocol is below 256.
+ * caller, in bytes.
  */
 #define SOCKDIAG_UNIX_REQUEST_LENGTH 40
 #define SOCKDIAG_INET_REQUEST_LENGTH 80
