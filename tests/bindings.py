@@ -10,6 +10,7 @@
   field of a connection is what man/sslist-json.5 says, a flag _SHOW_ names attributes with its name
   or in its place, and lengths, codes and lists of names are those of the declarations.
 - tools/bindings reports what the template lacks.
+- With make, examples/Makefile runs the commands that are expected.
 - With a C compiler, `$CC` or `cc`, it compiles the examples as C99 and as C++.
 
 It prints which of these parts it skips. tools/bindings writes the header. With the library,
@@ -22,6 +23,7 @@ import runpy
 import shutil
 import subprocess
 import sys
+import tempfile
 from pathlib import Path
 
 TOP = Path(__file__).resolve().parent.parent
@@ -39,6 +41,16 @@ CRATES = TOP / "crates"
 # Words of man/sslist-json.5 that a comment need not have.
 UNSAID = {*"""0 a an did digits for have hexadecimal if in it its lowercase next not or string that
     the to two were""".split()}
+
+# A pkg-config that knows the library.
+PKG_CONFIG = """#!/bin/sh
+case $* in
+    "--cflags sockdiag") echo -I/p ;;
+    "--libs sockdiag") echo -L/p -lsockdiag ;;
+    "--exists sockdiag") ;;
+    *) exit 1 ;;
+esac
+"""
 
 
 def words(text):
@@ -235,6 +247,46 @@ def version_errors():
     return [] if number == 12034056 else [f"the number of version 12.34.56 is {number}"]
 
 
+def make_lines(path, *arguments):
+    """Returns the commands that make would run in a folder, as lines. Next to the folder is a
+    program pkg-config."""
+    words = ["make", "-n", "--no-print-directory", "-C", path, "CC=cc", "LDFLAGS=-s", *arguments]
+    own = {name: it for name, it in os.environ.items()
+           if "FLAGS" not in name and name != "PKG_CONFIG"}
+    own["PATH"] = f"{path.parent}:{own['PATH']}"
+    found = subprocess.run(words, capture_output=True, text=True, env=own, check=False).stdout
+    return [" ".join(it.split()) for it in found.splitlines()]
+
+
+def make_errors():
+    """Returns the commands of examples/Makefile that are not those expected, as lines: without the
+    library, with an installed one, and with that of a release, and after a header changed."""
+    names = ["list_sockets", "list_rtt", "sockdump", "socklist"]
+    compiled = "cc -std=c99 -O2 -Wall -Wextra -pedantic"
+    found = []
+    with tempfile.TemporaryDirectory() as folder:
+        path, library = Path(folder, "examples"), Path(folder, "lib/libsockdiag.a")
+        shutil.copytree(TOP / "examples", path, ignore=shutil.ignore_patterns(*names))
+        finder = Path(folder, "pkg-config")
+        finder.write_text(PKG_CONFIG, "utf-8")
+        finder.chmod(0o755)
+        found.append((make_lines(path, "PKG_CONFIG=false", "sockdump"),
+                      [f"{compiled} -o sockdump sockdump.c -s"]))
+        for header, linked in ("-I/p", "-L/p -lsockdiag"), ("-I../include", "../lib/libsockdiag.a"):
+            commands = [f"{compiled} {header} -o {it} {it}.c -s {linked}" for it in names]
+            commands[2] = commands[2].replace(header, f"-DWITH_FILTERS {header}")
+            found.append((make_lines(path), commands))
+            library.parent.mkdir(exist_ok=True)
+            library.touch()
+        for it in (*names, "all", "clean"):
+            (path / it).touch()
+        found.append((make_lines(path), ["make: Nothing to be done for 'all'."]))
+        found += [(make_lines(path, "-W", it), commands)
+                  for it in ("dump.h", "kernel.h", "socklist_text.h")]
+        found.append((make_lines(path, "clean"), [f"rm -f {' '.join(names)}"]))
+    return [f"make would run {it}, expected {expected}" for it, expected in found if it != expected]
+
+
 def compile_c(compiler):
     """Compiles the C files against the header. Returns an exit status."""
     strict = "-Wall -Wextra -Wpedantic -Werror -fsyntax-only -Iinclude -x".split()
@@ -272,7 +324,7 @@ def compile_c(compiler):
 def main():
     errors = comment_errors() + code_errors() + option_errors() + missing_errors()
     errors += version_errors() + size_errors() + detail_errors() + member_errors() + show_errors()
-    errors += length_errors() + list_errors()
+    errors += length_errors() + list_errors() + (make_errors() if shutil.which("make") else [])
     if errors:
         print(*errors, "tests/bindings.py: failed", sep="\n")
         return 1
