@@ -43,11 +43,12 @@ struct dump {
 static int dump_store(struct dump *dump, const uint8_t *reply, size_t length) {
     const size_t total = dump->length + sizeof length + length;
     if (total > dump->capacity) {
-        uint8_t *replies = (uint8_t *)realloc(dump->replies, 2 * total);
+        const size_t capacity = 2 * total;
+        uint8_t *replies = (uint8_t *)realloc(dump->replies, capacity);
         if (replies == NULL)
             return ENOMEM;
         dump->replies = replies;
-        dump->capacity = 2 * total;
+        dump->capacity = capacity;
     }
     memcpy(dump->replies + dump->length, &length, sizeof length);
     memcpy(dump->replies + dump->length + sizeof length, reply, length);

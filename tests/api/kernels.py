@@ -108,6 +108,9 @@ def run(lister, library, file, *arguments, closed=None, **variables):
     how = {"env": environment(library, file, **variables), "capture_output": True, "timeout": 60}
     done = subprocess.run([lister, *arguments], preexec_fn=without(closed), **how)
     done.stdout, done.stderr = done.stdout.decode("latin-1"), done.stderr.decode("latin-1")
+    # Each line of an error begins with the name of the program.
+    if re.search(rf"(?m)^(?!{Path(lister).name}: |usage: ).", done.stderr):
+        done.returncode = "of an error without the name of the program"
     return done
 
 
@@ -248,7 +251,8 @@ def is_right(lister, library, files, folder, is_rust):
                 for it, error in ENDS]
     results += [reports_short_reply(lister, library, HERE / "kernels" / file, folder, *short)
                 for file, *short in SHORT if short[0] == "tcp" or not is_list_rtt(lister)]
-    results.append(reports_full_disk(lister, library, files[0], is_rust))
+    results += [reports_full_disk(lister, library, file, is_rust) for file in files
+                if not is_list_rtt(lister) or "\ntcp " in file.read_text()]
     results.append(opens_no_stream(lister, library, files[0], is_rust))
     if not is_list_rtt(lister):
         results += [compare_arguments(lister, library, file) for file in files]
