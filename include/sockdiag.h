@@ -542,7 +542,7 @@ enum sockdiag_xdp_attribute {
  * older kernels) and a UNIX_DIAG_MEMINFO without all fields of struct sockdiag_memory.
  *
  * For all of them:
- * - A number, text or record that the reply does not contain is all 0.
+ * - A number or record that the reply does not contain is all 0, and a text has the kind 0.
  * - Of several attributes of a kind the first valid one counts.
  * - An attribute without a field is not an error: sockdiag_next_attribute returns it.
  * - Bytes after the last field of a record are ignored, since newer kernels send more. A shorter

@@ -153,6 +153,24 @@ def detail_errors():
     return errors
 
 
+def rejection_errors():
+    """Returns the families of which the comment of the rejections has other kinds of attributes
+    than those that the independent reader rejects, as lines."""
+    doc = next(it for it in comments() if it.startswith("Why attributes of a reply are rejected"))
+    errors = []
+    rows = zip(reply_reader.REPLIES.items(), doc.split(" - ")[1:], strict=True)
+    for (family, (_, _, attributes)), text in rows:
+        span = re.search(r"(\d+) to (\d+),", text)
+        found = range(int(span[1]), int(span[2]) + 1) if span else map(
+            int, re.findall(r"\((\d+)\)", text))
+        expected = [kind for kind, (error, _) in attributes.items()
+                    if any(isinstance(error(kind, b"\xff" * length), reply_reader.Error)
+                           for length in (0, 1, 5))]
+        if [*found] != expected:
+            errors.append(f"kinds of {family} that can be rejected: {expected}, and not: {text}")
+    return errors
+
+
 def said_of_members():
     """Returns what man/sslist-json.5 says of each member of a kernel's struct: the first clause.
     The page has the names without the prefix of the struct, which precedes them."""
@@ -322,9 +340,14 @@ def compile_c(compiler):
 
 
 def main():
-    errors = comment_errors() + code_errors() + option_errors() + missing_errors()
-    errors += version_errors() + size_errors() + detail_errors() + member_errors() + show_errors()
-    errors += length_errors() + list_errors() + (make_errors() if shutil.which("make") else [])
+    checks = [comment_errors, code_errors, option_errors, missing_errors, version_errors,
+              size_errors, detail_errors, rejection_errors, member_errors, show_errors,
+              length_errors, list_errors]
+    if shutil.which("make"):
+        checks.append(make_errors)
+    else:
+        print("skipped: the commands of examples/Makefile: no make")
+    errors = [it for check in checks for it in check()]
     if errors:
         print(*errors, "tests/bindings.py: failed", sep="\n")
         return 1

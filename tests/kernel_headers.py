@@ -307,6 +307,8 @@ def about_numbers():
             yield c_name(name), int(number)
         for number, name in re.findall(r"(?<!else )\b(\d+) (?:\(|for )([A-Z]\w{4,})", comment):
             yield c_name(name), int(number)
+        for *numbers, start, end in re.findall(r"(\d+) to (\d+), from (\w+) to (\w+)", comment):
+            yield from zip(map(c_name, (start, end)), map(int, numbers))
         for struct, size in re.findall(r"\b(\w+)(?: of [\w/.]+)?, (\d+) bytes", comment):
             yield f"SIZE({struct})", int(size)
 
