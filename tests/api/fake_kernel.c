@@ -133,7 +133,7 @@ int socket(int family, int type, int protocol) {
 int connect(int fd, const struct sockaddr *address, socklen_t length) {
     const struct sockaddr_nl *it = (const struct sockaddr_nl *)(const void *)address;
     is_connected = fd == kernel && length == sizeof *it && it->nl_family == AF_NETLINK &&
-                   it->nl_pid == 0;
+                   it->nl_pid == 0 && it->nl_groups == 0;
     errno = EPERM;
     return is_connected && getenv("FAKE_KERNEL_REFUSES") == NULL ? 0 : -1;
 }

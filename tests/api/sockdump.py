@@ -64,7 +64,7 @@ UNKNOWN = "sockdump: unknown kind, or a filter without -- before it: {}; try soc
 # Arguments, variables of the kernel, the exit status, and standard error.
 FAILURES = [
     (["every"], {}, 2, UNKNOWN.format("every")),
-    (["tcp", "a\033\177\udc9bb"], {}, 2, UNKNOWN.format("a???b")),
+    (["tcp", "a !~\033\177\udc9bb"], {}, 2, UNKNOWN.format("a?!~???b")),
     *(([*kinds, f"--every{it}"], {}, 2, SECONDS) for kinds in ([], ["unix"]) for it in (
         "", "=", "=0", "=86401", "=1s", "=-1", "=+1", "= 1", "=1 ", "=18446744073709551617", "s1")),
     (["--every=1", "nope"], {}, 2, UNKNOWN.format("nope")),
@@ -100,6 +100,9 @@ FAILURES = [
     (["unix", "tcp"], {"FAKE_KERNEL_END": str(-EINVAL)}, 0,
      "sockdump: unix: note: this kernel does not list such sockets; their module is unix_diag\n"
      "sockdump: tcp: Invalid argument\n"),
+    # The end of an answer that has other messages is an error.
+    (["unix"], {"FAKE_KERNEL_END": str(-EINVAL), "FAKE_KERNEL_ODD": "1"}, 0,
+     "sockdump: unix: Invalid argument\n"),
     # Without a file, this kernel loses the first datagram about UDP sockets.
     (["udp"], {"FAKE_KERNEL_REPLIES": None}, 1, "sockdump: recv: No buffer space available\n"),
 ]
@@ -232,7 +235,7 @@ def test_alone(*_):
 def test_kinds(runs, files):
     """Requests all kinds, and some of them, also while signals interrupt the calls. A kind that the
     kernel lacks is written if it is named."""
-    selections = ([], ["tcp"], ["xdp", "vsock", "raw", "unix"], ["mptcp", "netlink"])
+    selections = ([], ["tcp"], ["xdp", "vsock", "raw", "unix"], ["mptcp", "netlink", "packet"])
     signals = ({}, {"FAKE_KERNEL_SIGNALS": "1"})
     for file, kinds, variables in itertools.product(files, selections, signals):
         what = f"{file.name} {kinds} {variables}"
@@ -295,6 +298,8 @@ def test_rounds(runs, files):
     with tempfile.NamedTemporaryFile() as output, runs.start(every, output, files[0]) as running:
         while os.fstat(output.fileno()).st_size < size and running.poll() is None:
             time.sleep(0.05)
+        opened = len(os.listdir(f"/proc/{running.pid}/fd"))
+        assert opened < 6, f"{opened} descriptors are open"
         running.send_signal(signal.SIGTERM)
         compare("signal", (running.communicate()[1], running.returncode), (b"", -signal.SIGTERM))
         written = Path(output.name).read_bytes()
