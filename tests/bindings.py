@@ -150,6 +150,9 @@ def detail_errors():
                 doc = fields(f"{family}_details")[name]
                 if kind not in [numbers.get(it) for it in re.findall(r"\w+_DIAG_\w+", doc)]:
                     errors.append(f"{name} of {family} is attribute {kind}, and not: {doc}")
+    for name, doc in re.findall(r"(?s)\bhas_(\w+);\s+/\*(.*?)\*/", HEADER):
+        if " ".join(doc.split()) != f"1 if {name} is set, else 0.":
+            errors.append(f"the comment of has_{name}: {doc}")
     return errors
 
 
@@ -181,22 +184,26 @@ def said_of_members():
         if heading:
             prefix = {"Members of info": "tcpi_",
                       "Members of info of MPTCP sockets": "mptcpi_"}.get(heading, "")
-        elif group := re.search(r"Va (\w+_)\*", text):
+        elif group := re.search(r"(?:Va |\.Po\n(?!TLS))(\w+_)\*", text):
             prefix = group[1]
         elif prefix:
+            name = name.upper() if prefix.isupper() else name
             found[prefix + name] = re.split(r"[.;:]\s|\n\.", text)[0]
     return found
 
 
 def member_errors():
     """Returns the words that man/sslist-json.5 has of a member and its comment lacks, as lines."""
+    docs = [(name, doc) for doc in comments()
+            for name in re.findall(r"\b([a-z]+_\w+)\)?,? at (?:offset )?\d", doc)]
+    docs += re.findall(r"(?s)SOCKDIAG_(\w+) = \w+,?\s+/\*(.*?)\*/", HEADER)
     errors, said = [], said_of_members()
-    for doc in comments():
-        for name in re.findall(r"\b([a-z]+_\w+)\)?,? at (?:offset )?\d", doc):
-            found, expected = ({*re.findall(r"[a-z0-9]+", it.lower())}
-                               for it in (doc, said.get(name, "")))
-            if lacking := sorted(expected - found - UNSAID):
-                errors.append(f"the comment of {name} lacks {lacking}: {doc}")
+    for name, doc in docs:
+        # Words, and names of other members without their prefix.
+        found, expected = ({*re.findall(r"\b(?:[a-z]+_)?([a-z0-9]+)\b", it.lower())}
+                           for it in (doc, said.get(name, "")))
+        if lacking := sorted(expected - found - UNSAID):
+            errors.append(f"the comment of {name} lacks {lacking}: {doc}")
     return errors
 
 
@@ -232,6 +239,22 @@ def length_errors():
         ranges = re.findall(r"framing error[\w\s]*, (\d+) to (\d+)", doc)
         if sized and sized != found or any(tuple(map(int, it)) != codes for it in ranges):
             errors.append(f"{name} has {sized} bytes and framing errors {codes}, and not: {doc}")
+    return errors
+
+
+def code_name_errors():
+    """Returns the codes that the comment of a call names, and with which no test of tests/api
+    compares its result, as lines. No test has a message of 4 GiB, which is SOCKDIAG_TOO_LONG."""
+    tests = "".join(it.read_text("utf-8") for it in sorted((TOP / "tests/api").glob("*.[ch]")))
+    tests = re.sub(r"GETTER\([^;]*?(sockdiag_get_\w+),", r"\1 SOCKDIAG_WRONG_LENGTH", tests)
+    codes = {f"SOCKDIAG_{name}" for name, number in values().items() if number < 108}
+    start, errors = r"/\*((?:(?!\*/)[^{])*)\*/\n(?:static inline )?uint32_t ", []
+    for doc, name in re.findall(start + r"(\w+)\(", HEADER):
+        call = {"sockdiag_parse_filter": "parse", "sockdiag_explain": "EXPLAINS"}.get(name, name)
+        call = f"(?:{name}|{call})"
+        errors += [f"no test has {name} and {it}, which its comment names"
+                   for it in codes & {*re.findall(r"\bSOCKDIAG_\w+", doc)} - {"SOCKDIAG_TOO_LONG"}
+                   if not re.search(rf"\b{call}\b[^;]*\b{it}\b", tests)]
     return errors
 
 
@@ -342,7 +365,7 @@ def compile_c(compiler):
 def main():
     checks = [comment_errors, code_errors, option_errors, missing_errors, version_errors,
               size_errors, detail_errors, rejection_errors, member_errors, show_errors,
-              length_errors, list_errors]
+              length_errors, code_name_errors, list_errors]
     if shutil.which("make"):
         checks.append(make_errors)
     else:

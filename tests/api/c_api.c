@@ -709,6 +709,8 @@ static void follows_a_dump(void) {
     check(message.message_type == SOCKDIAG_NLMSG_DONE && message.offset == 108, "the end");
     check(sockdiag_next_any_message(bytes, length, &cursor, &message) == SOCKDIAG_ENVELOPE_CUT,
           "two remaining bytes after messages");
+    check(sockdiag_next_any_message(bytes, length, &cursor, &message) == SOCKDIAG_END,
+          "the end of an iteration over all messages");
     message.flags = 0x12;
     check(sockdiag_is_interrupted(&message), "a dump that is interrupted");
     message.message_type = SOCKDIAG_NLMSG_ERROR;
