@@ -38,10 +38,12 @@ SIZES_1_0 = {"unix_details": 168, "inet_details": 264, "netlink_details": 136,
              "packet_details": 248, "vsock_header": 32, "xdp_details": 240, "error_details": 64,
              "filter_details": 24}
 CRATES = TOP / "crates"
-# Words of man/sslist-json.5 that a comment need not have.
-UNSAID = {*"""0 a an did digits for have hexadecimal if in it its lowercase next not or string that
-    the to two were""".split()}
-
+# Words of man/sslist-json.5 that a comment need not have, and members that it describes otherwise.
+UNSAID = {*"""0 a an array are boolean did digits for have hexadecimal if in it its lowercase next
+    not object of or string that the to two were whether""".split()}
+OTHERWISE = {*"""UNIX_DIAG_NAME UNIX_DIAG_VFS UNIX_DIAG_RQLEN UNIX_DIAG_UID INET_DIAG_INFO
+    NETLINK_DIAG_GROUPS XDP_DIAG_INFO XDP_DIAG_UMEM idiag_family idiag_retrans idiag_wmem
+    idiag_fmem tcpi_ecn_mode""".split()}
 # A pkg-config that knows the library.
 PKG_CONFIG = """#!/bin/sh
 case $* in
@@ -175,12 +177,15 @@ def rejection_errors():
 
 
 def said_of_members():
-    """Returns what man/sslist-json.5 says of each member of a kernel's struct: the first clause.
-    The page has the names without the prefix of the struct, which precedes them."""
+    """Returns what man/sslist-json.5 says of each member of a kernel's struct, and of attributes:
+    the first clause. The names of members are there without the prefix of their struct, which
+    precedes them, or they are in parentheses."""
     page = re.sub(r"(?m)^\.(?:Cm|Dv) ", "", (TOP / "man/sslist-json.5").read_text("utf-8"))
-    line = r"(?m)^\.Ss (.*)|^\.It Cm (.*)\n(?:Number: )?((?:(?!\.(?:It|El|Ss|Pp)).*\n)*)"
+    line = r"(?m)^\.Ss (.*)|^\.It Cm (.*)\n(?:\w+: )?((?:(?!\.(?:It|El|Ss|Pp)).*\n)*)"
     found, prefix = {}, ""
     for heading, name, text in re.findall(line, page):
+        clause = re.split(r"[.;:,]\s|\n\.", text)[0]
+        found |= {it: clause for it in re.findall(r"\n\.Pq (?:Dv|Va) (\w+) \.", text)}
         if heading:
             prefix = {"Members of info": "tcpi_",
                       "Members of info of MPTCP sockets": "mptcpi_"}.get(heading, "")
@@ -194,15 +199,15 @@ def said_of_members():
 
 def member_errors():
     """Returns the words that man/sslist-json.5 has of a member and its comment lacks, as lines."""
-    docs = [(name, doc) for doc in comments()
-            for name in re.findall(r"\b([a-z]+_\w+)\)?,? at (?:offset )?\d", doc)]
-    docs += re.findall(r"(?s)SOCKDIAG_(\w+) = \w+,?\s+/\*(.*?)\*/", HEADER)
+    named = r"\b([a-zA-Z]+_\w+)(?:\)?,? at (?:offset )?\d|(?:, type \d+)?\))"
+    docs = [(name, doc) for doc in comments() for name in re.findall(named, doc)]
+    docs += re.findall(r"(?s)SOCKDIAG_(MPTCP_SUBFLOW_\w+) = \w+,?\s+/\*(.*?)\*/", HEADER)
     errors, said = [], said_of_members()
     for name, doc in docs:
         # Words, and names of other members without their prefix.
         found, expected = ({*re.findall(r"\b(?:[a-z]+_)?([a-z0-9]+)\b", it.lower())}
                            for it in (doc, said.get(name, "")))
-        if lacking := sorted(expected - found - UNSAID):
+        if name not in OTHERWISE and (lacking := sorted(expected - found - UNSAID)):
             errors.append(f"the comment of {name} lacks {lacking}: {doc}")
     return errors
 
