@@ -301,7 +301,7 @@ def make_lines(path, *arguments):
            if "FLAGS" not in name and name != "PKG_CONFIG"}
     own["PATH"] = f"{path.parent}:{own['PATH']}"
     found = subprocess.run(words, capture_output=True, text=True, env=own, check=False).stdout
-    return [" ".join(it.split()) for it in found.splitlines()]
+    return [" ".join(it.split()) for it in found.splitlines() if not it.startswith("make:")]
 
 
 def make_errors():
@@ -326,7 +326,7 @@ def make_errors():
             library.touch()
         for it in (*names, "all", "clean"):
             (path / it).touch()
-        found.append((make_lines(path), ["make: Nothing to be done for 'all'."]))
+        found.append((make_lines(path), []))
         found += [(make_lines(path, "-W", it), commands)
                   for it in ("dump.h", "kernel.h", "socklist_text.h")]
         found.append((make_lines(path, "clean"), [f"rm -f {' '.join(names)}"]))

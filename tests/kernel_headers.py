@@ -324,9 +324,9 @@ def comment_errors():
     wrong = [f"{path} lacks struct {struct}, which a comment of the C header has"
              for struct, path in files.items()
              if path.exists() and f"struct {struct} {{" not in path.read_text(encoding="utf-8")]
-    grown = re.findall(r"in Linux ([\d.]+)\. Later versions of this header", text)
-    wrong += [f"a struct of Linux {it} in the C header" for it in grown
-              if tuple(map(int, it.split("."))) != KNOWN]
+    grown = re.findall(r"in Linux (\d+)\.(\d+)\. Later versions of this header append", text)
+    if [tuple(map(int, it)) for it in grown] != [KNOWN, KNOWN]:
+        wrong.append(f"the structs that grow are those of {grown} in comments of the C header")
     wrong += [f"{one}: {found[one]} in the headers, {ours} in a comment of the C header"
               for one, ours in asked if found.get(one, ours) != ours]
     return len(found), wrong

@@ -216,8 +216,8 @@ static int is_answered(size_t length) {
 
 ssize_t send(int fd, const void *bytes, size_t length, int flags) {
     static uint8_t previous[sizeof request];
-    (void)fd;
-    (void)flags;
+    if (fd != kernel || flags != 0)
+        abort();
     if (is_interrupted() || !has_connected())
         return -1;
     errno = EPERM;
@@ -566,7 +566,8 @@ ssize_t recv(int fd, void *buffer, size_t capacity, int flags) {
     uint8_t *bytes = (uint8_t *)buffer;
     uint32_t number;
     size_t end = 0;
-    (void)fd;
+    if (fd != kernel || (flags & ~MSG_TRUNC) != 0)
+        abort();
     if (is_interrupted() || !has_connected())
         return -1;
     errno = ETIMEDOUT;

@@ -214,6 +214,8 @@ def test_usage(runs, files):
         status, usage, errors = runs.end([argument], subprocess.PIPE, files[0])
         compare(argument, (status, usage[:16], errors), (0, b"usage: sockdump ", ""))
     page = (TOP / "man/sockdump.1").read_text("utf-8")
+    used, known = ({*re.findall(r"\w+", it.lower())} for it in (usage.decode(), page))
+    compare("words of the usage that the manual page lacks", used - known - {"usage"}, set())
     kinds = sorted({name for name, *_ in REQUESTS})
     for found in (re.findall(r"(?m)^\.It Cm (\w+)$", page),
                   re.findall(r"[a-z]+", usage.decode().partition("KIND is")[2].split(".")[0])):
