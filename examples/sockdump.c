@@ -1,36 +1,13 @@
 /*
- * sockdump [--netns=FILE] [--every=SECONDS] [KIND ..] [-- FILTER]: requests the sockets of this
- * machine from the kernel, and writes the requests and the answers as a capture to standard output,
- * for sslist:
- *
- *     sockdump | sslist
- *
- * It needs no privileges, and not the module nlmon. With KIND, only sockets of these kinds are
- * requested: unix, tcp, udp, mptcp, raw, netlink, packet, vsock and xdp. A kernel without a kind
- * answers ENOENT or EINVAL. Such an answer is written only if KIND names the kind.
- *
- * With FILTER, in the words of ss(8) that sockdiag.h describes, the kernel sends only the sockets
- * in its states, and of internet sockets only those that meet its conditions. If it has conditions,
- * other sockets are requested only if KIND names them. It needs the C library: compile with
- * -DWITH_FILTERS, and link with -lsockdiag. Without the library the program takes no FILTER.
- *
- * With --every, the sockets are requested every SECONDS seconds, 1 to 86400, in one capture. It is
- * flushed after each round. The program ends by a signal, at an error, or when the readers of the
- * pipe at standard output have closed it.
- *
- * sockdump --events[=tcp,udp] [--netns=FILE] requests nothing, and writes the message that the
- * kernel sends as each TCP or UDP socket is destroyed. It ends as with --every. If the kernel
- * dropped messages, since they came faster than they were written, this is reported.
- *
- * With --netns, the sockets are those of the network namespace of a file, such as
- * /run/netns/NAME or /proc/PID/ns/net. This needs privileges.
+ * sockdump: requests the sockets of this machine from the kernel, and writes the requests and the
+ * answers as a capture to standard output, for sslist: see sockdump(1).
  *
  * Each kind is requested from NETLINK_SOCK_DIAG by a dump request, as sock_diag(7) shows, in all
  * states and with the attributes that sslist decodes. The capture is in pcap format with link type
- * 253 (LINKTYPE_NETLINK), as tcpdump writes it for an nlmon device. The exit status is 0 if the
- * answers were written to their end or, with --every and --events, until the pipe was closed. It is
- * 1 if not, and if messages were dropped, and 2 for wrong arguments. The program is valid C99 and
- * C++.
+ * 253 (LINKTYPE_NETLINK).
+ *
+ * Only a FILTER needs the C library: compile with -DWITH_FILTERS, and link with -lsockdiag. The
+ * program is valid C99 and C++.
  */
 #ifndef _GNU_SOURCE
 #define _GNU_SOURCE /* For setns. */
