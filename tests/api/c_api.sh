@@ -3,10 +3,10 @@
 # c_values.c and c_messages.c compare what the calls return, also linked as C++, if the compiler
 # supports it. If valgrind is installed, it runs these programs, and tests/api/cost.c, which counts
 # the instructions of the calls. tests/api/fuzz_c.c calls them with changed replies, and
-# tests/api/compare_replies.sh compares the lenient calls with an independent reader. Then installs
-# the library, builds the examples, runs them with the replies of other kernels, and lists the
-# sockets of this machine by list_sockets, if the kernel permits it. Needs the kit's rt, a C
-# compiler and Python. The gate runs this script.
+# tests/api/compare_replies.sh compares the lenient calls with an independent reader. Then runs the
+# examples with the replies of other kernels, installs the library, builds the examples with it, and
+# lists the sockets of this machine by list_sockets, if the kernel permits it. Needs the kit's rt, a
+# C compiler and Python. The gate runs this script.
 #
 # With SOCKDIAG_LIBRARY, the path of a libsockdiag_c.a, it tests this library instead, which may
 # also call bcmp(3) and abort(3), and installs nothing: erased.sh does so. With SSLIST_PROGRAM, the
