@@ -263,6 +263,15 @@ def code_name_errors():
     return errors
 
 
+def text_errors():
+    """Returns the codes whose comment has other numbers than their text, as lines. The numbers of
+    families are not in a comment."""
+    docs = dict(re.findall(r"(?s)(SOCKDIAG_\w+) = \d+,?\s+/\*(.*?)\*/", HEADER))
+    texts = re.findall(r'case (\w+):\s+return "(.*)";', HEADER)
+    return [f"the comment of {name} and its text: {docs[name]}, {text}" for name, text in texts
+            if not {*re.findall(r"(?<!\()\b\d+", text)} <= {*re.findall(r"\d+", docs[name])}]
+
+
 def list_errors():
     """Returns what the lists of the first comment lack, or have and should not have, as lines: the
     structs that may grow, and the functions of libc that c_api.sh lets the library call."""
@@ -370,7 +379,7 @@ def compile_c(compiler):
 def main():
     checks = [comment_errors, code_errors, option_errors, missing_errors, version_errors,
               size_errors, detail_errors, rejection_errors, member_errors, show_errors,
-              length_errors, code_name_errors, list_errors]
+              length_errors, code_name_errors, text_errors, list_errors]
     if shutil.which("make"):
         checks.append(make_errors)
     else:
