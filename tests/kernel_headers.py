@@ -319,11 +319,12 @@ def comment_errors():
     unique = dict.fromkeys(one for one, _ in asked)
     found = answers(INCLUDES, unique) | answers(NEWEST, unique)
     text = re.sub(r"\n +\* ", " ", HEADER.read_text(encoding="utf-8"))
-    files = {struct: INCLUDED.parent.parent / file
-             for struct, file in re.findall(r"struct (\w+) of (linux/\w+\.h)", text)}
-    wrong = [f"{path} lacks struct {struct}, which a comment of the C header has"
-             for struct, path in files.items()
-             if path.exists() and f"struct {struct} {{" not in path.read_text(encoding="utf-8")]
+    wrong = []
+    for struct, file in re.findall(r"struct (\w+) of (linux/\w+\.h)", text):
+        path = INCLUDED.parent.parent / file
+        if file not in HEADERS or path.exists() and f"struct {struct} {{" not in path.read_text(
+                encoding="utf-8"):
+            wrong.append(f"{path} lacks struct {struct}, which a comment of the C header has")
     grown = re.findall(r"in Linux (\d+)\.(\d+)\. Later versions of this header append", text)
     if [tuple(map(int, it)) for it in grown] != [KNOWN, KNOWN]:
         wrong.append(f"the structs that grow are those of {grown} in comments of the C header")
