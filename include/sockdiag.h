@@ -30,8 +30,7 @@
  * The library does not allocate, opens no files or sockets, and has no state between calls. So any
  * thread may call it at any time, with memory that meets the requirements below. It needs at most
  * memcpy, memmove, memset, bcmp and abort of the system (libc). Only the library that cargo builds
- * needs the last two, and no call reaches abort. The host has to be little-endian, with pointers of
- * 64 bits.
+ * needs the last two, and no call reaches abort.
  *
  * The caller has to ensure the following, and nothing checks it:
  * - A pointer to bytes is valid for the length in bytes that the parameter next to it gives. The
@@ -351,7 +350,6 @@ enum sockdiag_inet_attribute {
                                                 socket. */
 };
 
-/* Kinds of attributes in INET_DIAG_ULP_INFO, whose value is iterated like the reply. */
 enum sockdiag_ulp_attribute {
     SOCKDIAG_INET_ULP_INFO_UNSPEC = 0, /* No attribute. */
     SOCKDIAG_INET_ULP_INFO_NAME = 1,   /* The name of the upper layer protocol, with a
@@ -362,7 +360,6 @@ enum sockdiag_ulp_attribute {
                                           MPTCP_SUBFLOW_ATTR_... */
 };
 
-/* Kinds of attributes in INET_ULP_INFO_TLS. */
 enum sockdiag_tls_attribute {
     SOCKDIAG_TLS_INFO_UNSPEC = 0,            /* No attribute. */
     SOCKDIAG_TLS_INFO_VERSION = 1,           /* The TLS version. */
@@ -377,7 +374,6 @@ enum sockdiag_tls_attribute {
                                                 sent, in bytes. Linux 6.18 does not send it. */
 };
 
-/* Kinds of attributes in INET_ULP_INFO_MPTCP. */
 enum sockdiag_subflow_attribute {
     SOCKDIAG_MPTCP_SUBFLOW_ATTR_UNSPEC = 0,       /* No attribute. */
     SOCKDIAG_MPTCP_SUBFLOW_ATTR_TOKEN_REM = 1,    /* Token of the connection at the remote end. */
@@ -397,7 +393,6 @@ enum sockdiag_subflow_attribute {
     SOCKDIAG_MPTCP_SUBFLOW_ATTR_PAD = 11          /* Padding. */
 };
 
-/* Kinds of attributes in INET_DIAG_SK_BPF_STORAGES, and in each of its storages. */
 enum sockdiag_bpf_storage_attribute {
     SOCKDIAG_SK_DIAG_BPF_STORAGE_REQ_MAP_FD = 1, /* In a request: the file descriptor of a map
                                                     whose storages are requested, a u32. */
@@ -413,7 +408,6 @@ enum sockdiag_bpf_storage_attribute {
                                                     socket. */
 };
 
-/* Kinds of attributes in an extended acknowledgement. */
 enum sockdiag_error_attribute {
     SOCKDIAG_NLMSGERR_ATTR_UNUSED = 0,    /* No attribute. */
     SOCKDIAG_NLMSGERR_ATTR_MSG = 1,       /* Error message, a text with a terminating NUL. */
@@ -466,7 +460,6 @@ enum sockdiag_mptcp_flag {
     SOCKDIAG_MPTCP_INFO_FLAG_REMOTE_KEY_RECEIVED = 2 /* The key of the peer was received. */
 };
 
-/* Protocols and attributes that a request for netlink, packet or XDP sockets selects. */
 enum sockdiag_show {
     SOCKDIAG_NDIAG_PROTO_ALL = 255,      /* Requests sockets of all protocols. */
     SOCKDIAG_NDIAG_SHOW_MEMINFO = 0x1,   /* Requests NETLINK_DIAG_MEMINFO. */
@@ -2139,7 +2132,6 @@ struct sockdiag_vsock_request {
                                               16). Linux ignores it. */
 };
 
-/* Lengths of these requests in bytes. */
 #define SOCKDIAG_SHOW_REQUEST_LENGTH 36
 #define SOCKDIAG_VSOCK_REQUEST_LENGTH 40
 
