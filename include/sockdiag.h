@@ -30,7 +30,7 @@
  * The library does not allocate, opens no files or sockets, and has no state between calls. So any
  * thread may call it at any time, with memory that meets the requirements below. It needs at most
  * memcpy, memmove, memset, bcmp and abort of the system (libc). Only the library that cargo builds
- * needs the last two, and no call reaches abort.
+ * needs the last two, and no call reaches abort. The host has to be little-endian.
  *
  * The caller has to ensure the following, and nothing checks it:
  * - A pointer to bytes is valid for the length in bytes that the parameter next to it gives. The
