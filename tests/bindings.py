@@ -201,7 +201,9 @@ def member_errors():
     """Returns the words that man/sslist-json.5 has of a member and its comment lacks, as lines."""
     named = r"\b([a-zA-Z]+_\w+)(?:\)?,? at (?:offset )?\d|(?:, type \d+)?\))"
     docs = [(name, doc) for doc in comments() for name in re.findall(named, doc)]
-    docs += re.findall(r"(?s)SOCKDIAG_(MPTCP_SUBFLOW_\w+) = \w+,?\s+/\*(.*?)\*/", HEADER)
+    # A constant's comment may leave out what has the attribute.
+    docs += [(name, f"{doc} socket, packets") for name, doc in
+             re.findall(r"(?s)SOCKDIAG_(\w+) = \w+,?\s+/\*(.*?)\*/", HEADER)]
     errors, said = [], said_of_members()
     for name, doc in docs:
         # Words, and names of other members without their prefix.
