@@ -42,8 +42,8 @@ CRATES = TOP / "crates"
 UNSAID = {*"""0 a an array are boolean did digits for have hexadecimal if in it its lowercase next
     not object of or string that the to two were whether""".split()}
 OTHERWISE = {*"""UNIX_DIAG_NAME UNIX_DIAG_VFS UNIX_DIAG_RQLEN UNIX_DIAG_UID INET_DIAG_INFO
-    NETLINK_DIAG_GROUPS XDP_DIAG_INFO XDP_DIAG_UMEM idiag_family idiag_retrans idiag_wmem
-    idiag_fmem tcpi_ecn_mode""".split()}
+    INET_DIAG_SOCKOPT NETLINK_DIAG_GROUPS XDP_DIAG_INFO XDP_DIAG_UMEM idiag_family idiag_state
+    idiag_retrans idiag_wmem idiag_fmem tcpi_ecn_mode""".split()}
 # A pkg-config that knows the library.
 PKG_CONFIG = """#!/bin/sh
 case $* in
@@ -181,10 +181,11 @@ def said_of_members():
     the first clause. The names of members are there without the prefix of their struct, which
     precedes them, or they are in parentheses."""
     page = re.sub(r"(?m)^\.(?:Cm|Dv) ", "", (TOP / "man/sslist-json.5").read_text("utf-8"))
+    page = page.replace("TIME-WAIT", "TIME_WAIT")
     line = r"(?m)^\.Ss (.*)|^\.It Cm (.*)\n(?:\w+: )?((?:(?!\.(?:It|El|Ss|Pp)).*\n)*)"
     found, prefix = {}, ""
     for heading, name, text in re.findall(line, page):
-        clause = re.split(r"[.;:,]\s|\n\.", text)[0]
+        clause = re.split(r"[.;:]\s|, see\n|\n\.", text)[0]
         found |= {it: clause for it in re.findall(r"\n\.Pq (?:Dv|Va) (\w+) \.", text)}
         if heading:
             prefix = {"Members of info": "tcpi_",
@@ -202,7 +203,7 @@ def member_errors():
     named = r"\b([a-zA-Z]+_\w+)(?:\)?,? at (?:offset )?\d|(?:, type \d+)?\))"
     docs = [(name, doc) for doc in comments() for name in re.findall(named, doc)]
     # A constant's comment may leave out what has the attribute.
-    docs += [(name, f"{doc} socket, packets") for name, doc in
+    docs += [(name, f"{doc} socket, packets, 3 both") for name, doc in
              re.findall(r"(?s)SOCKDIAG_(\w+) = \w+,?\s+/\*(.*?)\*/", HEADER)]
     errors, said = [], said_of_members()
     for name, doc in docs:
