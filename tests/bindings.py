@@ -194,7 +194,7 @@ def said_of_members():
             prefix = group[1]
         elif prefix:
             name = name.upper() if prefix.isupper() else name
-            found[prefix + name] = re.split(r"[.;:]\s|\n\.", text)[0]
+            found[prefix + name] = clause
     return found
 
 
@@ -202,7 +202,7 @@ def member_errors():
     """Returns the words that man/sslist-json.5 has of a member and its comment lacks, as lines."""
     named = r"\b([a-zA-Z]+_\w+)(?:\)?,? at (?:offset )?\d|(?:, type \d+)?\))"
     docs = [(name, doc) for doc in comments() for name in re.findall(named, doc)]
-    # A constant's comment may leave out what has the attribute.
+    # The comment of a constant need not have these words.
     docs += [(name, f"{doc} socket, packets, 3 both") for name, doc in
              re.findall(r"(?s)SOCKDIAG_(\w+) = \w+,?\s+/\*(.*?)\*/", HEADER)]
     errors, said = [], said_of_members()
