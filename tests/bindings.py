@@ -44,6 +44,17 @@ UNSAID = {*"""0 a an array are boolean did digits for have hexadecimal if in it 
 OTHERWISE = {*"""UNIX_DIAG_NAME UNIX_DIAG_VFS UNIX_DIAG_RQLEN UNIX_DIAG_UID INET_DIAG_INFO
     INET_DIAG_SOCKOPT NETLINK_DIAG_GROUPS XDP_DIAG_INFO XDP_DIAG_UMEM idiag_family idiag_state
     idiag_retrans idiag_wmem idiag_fmem tcpi_ecn_mode""".split()}
+# The attributes whose values these calls read, and the fields in network byte order.
+READ_BY = {
+    "next_pending": ["UNIX_DIAG_ICONS"], "get_vegas_info": ["INET_DIAG_VEGASINFO"],
+    "get_dctcp_info": ["INET_DIAG_DCTCPINFO"], "get_bbr_info": ["INET_DIAG_BBRINFO"],
+    "next_md5_signature": ["INET_DIAG_MD5SIG"], "next_membership": ["PACKET_DIAG_MCLIST"],
+    "next_address": ["INET_DIAG_LOCALS", "INET_DIAG_PEERS"],
+    "next_instruction": ["PACKET_DIAG_FILTER"], "inet_get_tcp_info": ["INET_DIAG_INFO"],
+    "write_inet_request_with_attributes": ["INET_DIAG_REQ_BYTECODE"],
+    "parse_filter": ["INET_DIAG_REQ_BYTECODE"],
+}
+BIG_ENDIAN = """source_address source_address address port front segments""".split()
 # A pkg-config that knows the library.
 PKG_CONFIG = """#!/bin/sh
 case $* in
@@ -266,6 +277,24 @@ def code_name_errors():
     return errors
 
 
+def value_errors():
+    """Returns the calls whose comment names other attributes than those whose values they read or
+    write, and the fields that are in network byte order by their comments, if these are wrong, as
+    lines."""
+    start, errors = r"/\*((?:(?!\*/)[^{])*)\*/\n(?:static inline )?uint32_t sockdiag_", []
+    docs = {name: doc for doc, name in re.findall(start + r"(\w+)\(", HEADER)}
+    for name, expected in READ_BY.items():
+        found = sorted({*re.findall(r"\b[A-Z]+_DIAG_(?!BC_)[A-Z]\w+", docs[name])})
+        if found != expected:
+            errors.append(f"{name} is for {expected}, and not {found}")
+    fields_in = r"(?s)(\w+)(?:\[\d+\])?;\s*/\*((?:(?!\*/).)*)\*/"
+    found = [name for name, doc in re.findall(fields_in, HEADER)
+             if re.search(r"(?<!not in) network\s+byte\s+order|big.endian", doc)]
+    if sorted(found) != sorted(BIG_ENDIAN):
+        errors.append(f"in network byte order: {BIG_ENDIAN}, and not {found}")
+    return errors
+
+
 def text_errors():
     """Returns the codes whose comment has other numbers than their text, as lines. The numbers of
     families are not in a comment."""
@@ -384,7 +413,8 @@ def compile_c(compiler):
 def main():
     checks = [comment_errors, code_errors, option_errors, missing_errors, version_errors,
               size_errors, detail_errors, rejection_errors, member_errors, show_errors,
-              length_errors, code_name_errors, text_errors, list_errors]
+              length_errors, code_name_errors, text_errors, value_errors,
+              list_errors]
     if shutil.which("make"):
         checks.append(make_errors)
     else:
