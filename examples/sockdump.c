@@ -661,9 +661,8 @@ static int capture(int kernel, const struct selection *selection) {
         signal(SIGPIPE, end_quietly);
     if (selection->has_events && join_groups(kernel, selection) != 0)
         return 1;
-    if (write_file_header() != 0)
-        return 1;
-    return (selection->has_events ? write_events(kernel) : dump_rounds(kernel, selection)) != 0;
+    return write_file_header() != 0
+        || (selection->has_events ? write_events(kernel) : dump_rounds(kernel, selection)) != 0;
 }
 
 int main(int argc, char **argv) {
