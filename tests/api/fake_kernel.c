@@ -78,7 +78,8 @@
 #include <time.h>
 #include <unistd.h>
 
-#define OWN_PORT 77
+/* The port id of the socket. If a process has two, the kernel chooses one above INT32_MAX. */
+#define OWN_PORT 0xfedcba77u
 /* IPPROTO_MPTCP, which older headers of the C library lack. */
 #define PROTOCOL_MPTCP 262
 

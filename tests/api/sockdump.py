@@ -53,7 +53,7 @@ LONG = kernels.HERE / "kernels/linux-6.18"
 TOP = kernels.HERE.parent.parent
 FILE_HEADER = bytes.fromhex("d4c3b2a1 02000400 00000000 00000000 00000400 fd000000")
 COOKED_HEADER = bytes.fromhex("00040338 00000000 00000000 00000004")
-OWN_PORT = 77
+OWN_PORT = 0xFEDCBA77
 # The longest time that a run may take, in seconds.
 LIMIT = 60
 DUMP, BY_FAMILY, NOOP, ERROR, DONE, MULTI, ENOENT, EINVAL = 0x301, 20, 1, 2, 3, 2, 2, 22
