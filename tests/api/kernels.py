@@ -109,8 +109,8 @@ def run(lister, library, file, *arguments, closed=None, **variables):
     done = subprocess.run([lister, *arguments], preexec_fn=without(closed), **how)
     done.stdout, done.stderr = done.stdout.decode("latin-1"), done.stderr.decode("latin-1")
     # Each line of an error begins with the name of the program.
-    if re.search(rf"(?m)^(?!{Path(lister).name}: |usage: ).", done.stderr):
-        done.returncode = "of an error without the name of the program"
+    if done.returncode == 1 and re.search(rf"(?m)^(?!{Path(lister).name}: ).", done.stderr):
+        done.returncode = "1 of an error without the name of the program"
     return done
 
 

@@ -300,8 +300,9 @@ def test_rounds(runs, files):
     with tempfile.NamedTemporaryFile() as output, runs.start(every, output, files[0]) as running:
         while os.fstat(output.fileno()).st_size < size and running.poll() is None:
             time.sleep(0.05)
-        opened = len(os.listdir(f"/proc/{running.pid}/fd"))
-        assert opened < 6, f"{opened} descriptors are open"
+        if running.poll() is None:
+            opened = len(os.listdir(f"/proc/{running.pid}/fd"))
+            assert opened < 6, f"{opened} descriptors are open"
         running.send_signal(signal.SIGTERM)
         compare("signal", (running.communicate()[1], running.returncode), (b"", -signal.SIGTERM))
         written = Path(output.name).read_bytes()
