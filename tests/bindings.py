@@ -103,7 +103,7 @@ def comment_errors():
     docs += [words(" ".join(field.doc)) for it in structs for field in it.fields]
     docs += [paragraphs(it.doc)[0] for rows in (
         structs, constants(), decode_errors(), record_names(), socket_options()) for it in rows]
-    linked = re.findall(r"\[[A-Z]\w*\]", " ".join(shown))
+    linked = re.findall(r"\[[A-Z][a-z]\w*\]", " ".join(shown))
     return [f"the header lacks the comment: {it}" for it in docs if it not in text] + [
         f"the header has a link of Rattle: {it}" for it in linked]
 
