@@ -198,9 +198,11 @@ static int repeats(const uint8_t *other) {
 }
 
 /* Returns whether the stored request, of this length, is one to close a socket, or for a dump. The
- * latter has zeros in the fields that name a single socket, except ports. */
+ * latter has zeros in the fields that name a single socket, except ports, and for a cookie zeros or
+ * INET_DIAG_NOCOOKIE. */
 static int is_answered(size_t length) {
     const size_t show = request[16] == AF_UNIX ? 28 : 24;
+    const size_t cookie = request[16] == AF_UNIX ? 32 : 64;
     struct nlmsghdr head;
     size_t at;
     memcpy(&head, request, sizeof head);
@@ -209,7 +211,8 @@ static int is_answered(size_t length) {
     if (head.nlmsg_type == SOCKDIAG_SOCK_DESTROY)
         return 1;
     for (at = 24; at < 72 && at < length; at++)
-        if (request[at] != 0 && (at < show || at >= show + 4))
+        if (request[at] != 0 && (at < show || at >= show + 4)
+            && (at < cookie || request[at] != 0xff))
             return 0;
     return head.nlmsg_type == SOCKDIAG_SOCK_DIAG_BY_FAMILY
         && (head.nlmsg_flags & NLM_F_DUMP) == NLM_F_DUMP;
