@@ -292,7 +292,7 @@ class Runs:
         library = self.folder / name
         if not library.exists():
             subprocess.run([os.environ.get("CC", "cc"), "-shared", "-fPIC", "-o", library, "-x",
-                            "c", "-"], input=source.encode(), check=True)
+                            "c", "-", "-ldl"], input=source.encode(), check=True)
         return str(library)
 
     def use(self, **stand_ins):
