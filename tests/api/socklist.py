@@ -1087,6 +1087,13 @@ int prctl(int option, ...) {
     return fails("prctl") ? -1 : 0;
 }
 
+/* Netlink has no flags for sending. */
+ssize_t send(int file, const void *bytes, size_t size, int flags) {
+    ssize_t (*real)(int, const void *, size_t, int) =
+        (ssize_t(*)(int, const void *, size_t, int))dlsym(RTLD_NEXT, "send");
+    return flags == 0 ? real(file, bytes, size, flags) : -1;
+}
+
 /* An answer may be too short for an error number. */
 ssize_t recv(int file, void *bytes, size_t size, int flags) {
     ssize_t (*real)(int, void *, size_t, int) = (ssize_t(*)(int, void *, size_t, int))dlsym(
