@@ -89,7 +89,7 @@ static int store_target(void *context, const char *object) {
 /* Asks on the terminal whether sockets shall be closed. Returns 1 if the answer begins with y, or
  * else 0. */
 static int is_wanted(size_t count) {
-    FILE *terminal = fopen("/dev/tty", "r+");
+    FILE *terminal = fopen("/dev/tty", "r+e");
     int answer;
     if (terminal == NULL)
         return fputs(PROGRAM ": no terminal to ask on; --yes closes without asking\n", stderr), 0;

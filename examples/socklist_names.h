@@ -69,7 +69,7 @@ static int read_entry(FILE *file, struct entry *entry) {
 
 /* Opens a file with names. Returns NULL if it is out of reach, or after an error is reported. */
 static FILE *open_names(const char *path, int *failed) {
-    FILE *file = fopen(path, "r");
+    FILE *file = fopen(path, "re");
     if (file == NULL && !is_out_of_reach())
         *failed = fail(path);
     return file;
@@ -179,9 +179,9 @@ static const char *find_host(struct names *names, const char *address, size_t le
 static void add_interface(struct text *text, struct names *names, const char *number,
                           size_t length) {
     char name[IF_NAMESIZE], *end;
-    const unsigned index = (unsigned)strtoul(number, &end, 10);
-    const int is_index = end == number + length;
-    if (is_index && if_indextoname(index, name) != NULL) {
+    const unsigned long index = strtoul(number, &end, 10);
+    const int is_index = end == number + length && index > 0 && index <= UINT_MAX;
+    if (is_index && if_indextoname((unsigned)index, name) != NULL) {
         add_name(text, name);
         return;
     }

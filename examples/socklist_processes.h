@@ -51,7 +51,7 @@ static int is_out_of_reach(void) {
 static size_t add_process_name(struct processes *processes, int folder) {
     const size_t start = processes->names.length;
     char name[64];
-    const int file = openat(folder, "../comm", O_RDONLY);
+    const int file = openat(folder, "../comm", O_RDONLY | O_CLOEXEC);
     const ssize_t length = file < 0 ? -1 : read(file, name, sizeof name);
     if (length < 0 && !is_out_of_reach())
         processes->failed = fail("/proc");

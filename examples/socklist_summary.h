@@ -102,7 +102,7 @@ static int print_summary(const struct options *options, const struct summary *su
     for (index = 0; others[index].name != NULL; index++)
         if (is_counted(options, UNIX + index))
             printf("%-9s %lu\n", others[index].name, summary->others[index]);
-    return fflush(stdout) != 0 ? fail("standard output") : 0;
+    return ferror(stdout) || fflush(stdout) != 0 ? fail("standard output") : 0;
 }
 
 #endif
