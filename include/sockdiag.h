@@ -18,7 +18,7 @@
  * SOCKDIAG_END, or the code of an error. Calls with _write_ or _rewrite_ store the number of bytes
  * that they wrote, and with SOCKDIAG_NO_SPACE the number that the buffer has to have. These return
  * no code: sockdiag_version and sockdiag_error_text, and the tests sockdiag_is_answer,
- * sockdiag_is_interrupted and sockdiag_ends_answer.
+ * sockdiag_is_interrupted and sockdiag_ends_answer, which return 1 or 0.
  *
  * The structs named sockdiag_.._details, and struct sockdiag_vsock_header, sockdiag_tcp_info and
  * sockdiag_mptcp_info, may get more fields at their end in a later version; no others do. A call
@@ -30,7 +30,8 @@
  * The library does not allocate, opens no files or sockets, and has no state between calls. So any
  * thread may call it at any time, with memory that meets the requirements below. It needs at most
  * memcpy, memmove, memset, bcmp and abort of the system (libc). Only the library that cargo builds
- * needs the last two, and no call reaches abort. The host has to be little-endian.
+ * needs the last two, and no call reaches abort. The host has to be little-endian, with pointers of
+ * 64 bits.
  *
  * The caller has to ensure the following, and nothing checks it:
  * - A pointer to bytes is valid for the length in bytes that the parameter next to it gives. The
@@ -96,7 +97,8 @@ uint32_t sockdiag_version(void);
 
 /*
  * Return values of the calls. Those between SOCKDIAG_OK and SOCKDIAG_ITEM are decode errors: why
- * bytes are rejected. If bytes have several errors, a call returns the first.
+ * bytes are rejected. If bytes have several errors, a call returns the first. The only text that
+ * has to be valid UTF-8 is the name of a congestion control algorithm.
  */
 enum sockdiag_code {
     SOCKDIAG_OK = 0,                        /* The call has succeeded. */
@@ -145,7 +147,10 @@ enum sockdiag_code {
                                                conditions, operators and open groups. */
 };
 
-/* Returns the text of a code, a constant string in English. Any number has one. */
+/*
+ * Returns the text of a code: a constant string in English. Any number may be passed: the text of
+ * one that no call returns is "unknown error code".
+ */
 static inline const char *sockdiag_error_text(uint32_t error)
 {
     switch (error) {
@@ -212,6 +217,7 @@ static inline const char *sockdiag_error_text(uint32_t error)
  * kernel or the C library for them. Comments here use the kernel's names.
  */
 
+/* The protocol of a socket of family AF_NETLINK, for socket(2). */
 enum sockdiag_netlink_protocol {
     SOCKDIAG_NETLINK_SOCK_DIAG = 4 /* The netlink protocol of sock_diag(7), for socket(2). */
 };
@@ -230,6 +236,7 @@ enum sockdiag_group {
     SOCKDIAG_SKNLGRP_INET6_UDP_DESTROY = 4  /* Destroyed UDP sockets of IPv6. */
 };
 
+/* Message types of netlink(7) and sock_diag(7). */
 enum sockdiag_message_type {
     SOCKDIAG_NLMSG_NOOP = 1,           /* Message type without any content, see netlink(7). */
     SOCKDIAG_NLMSG_ERROR = 2,          /* Message type of an error, or of the acknowledgement of
@@ -240,6 +247,7 @@ enum sockdiag_message_type {
     SOCKDIAG_SOCK_DESTROY = 21         /* A request to close a socket. */
 };
 
+/* Flags of a message header, netlink(7). */
 enum sockdiag_message_flag {
     SOCKDIAG_NLM_F_REQUEST = 1,          /* Header flag of every request. */
     SOCKDIAG_NLM_F_DUMP = 0x300,         /* Header flags that request all entries of a table:
@@ -261,7 +269,10 @@ enum sockdiag_message_flag {
                                             follow. */
 };
 
-/* Socket states, also of UNIX, UDP and other sockets. */
+/*
+ * Socket states. UNIX, UDP and other sockets have these states too: a UNIX socket is in state 1, 7
+ * or 10.
+ */
 enum sockdiag_state {
     SOCKDIAG_TCP_ESTABLISHED = 1,    /* The connection is open. */
     SOCKDIAG_TCP_SYN_SENT = 2,       /* A SYN was sent. */
@@ -282,6 +293,7 @@ enum sockdiag_state {
                                         bit 13; replies have the state 7 (TCP_CLOSE). */
 };
 
+/* Attributes that a request for UNIX sockets selects. */
 enum sockdiag_unix_show {
     SOCKDIAG_UDIAG_SHOW_NAME = 1,     /* Requests UNIX_DIAG_NAME. */
     SOCKDIAG_UDIAG_SHOW_VFS = 2,      /* Requests UNIX_DIAG_VFS. */
@@ -292,9 +304,13 @@ enum sockdiag_unix_show {
     SOCKDIAG_UDIAG_SHOW_UID = 64      /* Flag of a UNIX request: requests UNIX_DIAG_UID. */
 };
 
-/* The bits of the kind in the type field of an attribute (NLA_TYPE_MASK of linux/netlink.h). */
+/*
+ * The bits of the kind in the type field of an attribute, type_word (NLA_TYPE_MASK of
+ * linux/netlink.h). The other two are NLA_F_NESTED and NLA_F_NET_BYTEORDER.
+ */
 #define SOCKDIAG_NLA_TYPE_MASK 0x3fff
 
+/* Kinds of attributes in replies about UNIX sockets. */
 enum sockdiag_unix_attribute {
     SOCKDIAG_UNIX_DIAG_NAME = 0,     /* Name that the socket is bound to. */
     SOCKDIAG_UNIX_DIAG_VFS = 1,      /* File that the socket is bound to: struct unix_diag_vfs. */
@@ -350,6 +366,7 @@ enum sockdiag_inet_attribute {
                                                 socket. */
 };
 
+/* Kinds of attributes in INET_DIAG_ULP_INFO, whose value is iterated like the reply. */
 enum sockdiag_ulp_attribute {
     SOCKDIAG_INET_ULP_INFO_UNSPEC = 0, /* No attribute. */
     SOCKDIAG_INET_ULP_INFO_NAME = 1,   /* The name of the upper layer protocol, with a
@@ -360,6 +377,7 @@ enum sockdiag_ulp_attribute {
                                           MPTCP_SUBFLOW_ATTR_... */
 };
 
+/* Kinds of attributes in INET_ULP_INFO_TLS. */
 enum sockdiag_tls_attribute {
     SOCKDIAG_TLS_INFO_UNSPEC = 0,            /* No attribute. */
     SOCKDIAG_TLS_INFO_VERSION = 1,           /* The TLS version. */
@@ -374,6 +392,7 @@ enum sockdiag_tls_attribute {
                                                 sent, in bytes. Linux 6.18 does not send it. */
 };
 
+/* Kinds of attributes in INET_ULP_INFO_MPTCP. */
 enum sockdiag_subflow_attribute {
     SOCKDIAG_MPTCP_SUBFLOW_ATTR_UNSPEC = 0,       /* No attribute. */
     SOCKDIAG_MPTCP_SUBFLOW_ATTR_TOKEN_REM = 1,    /* Token of the connection at the remote end. */
@@ -393,6 +412,7 @@ enum sockdiag_subflow_attribute {
     SOCKDIAG_MPTCP_SUBFLOW_ATTR_PAD = 11          /* Padding. */
 };
 
+/* Kinds of attributes in INET_DIAG_SK_BPF_STORAGES, and in each of its storages. */
 enum sockdiag_bpf_storage_attribute {
     SOCKDIAG_SK_DIAG_BPF_STORAGE_REQ_MAP_FD = 1, /* In a request: the file descriptor of a map
                                                     whose storages are requested, a u32. */
@@ -408,6 +428,7 @@ enum sockdiag_bpf_storage_attribute {
                                                     socket. */
 };
 
+/* Kinds of attributes in an extended acknowledgement. */
 enum sockdiag_error_attribute {
     SOCKDIAG_NLMSGERR_ATTR_UNUSED = 0,    /* No attribute. */
     SOCKDIAG_NLMSGERR_ATTR_MSG = 1,       /* Error message, a text with a terminating NUL. */
@@ -422,6 +443,7 @@ enum sockdiag_error_attribute {
                                              header. */
 };
 
+/* Kinds of attributes in requests for IPv4 and IPv6 sockets. */
 enum sockdiag_inet_request_attribute {
     SOCKDIAG_INET_DIAG_REQ_NONE = 0,            /* Kind of no attribute. The kinds
                                                    INET_DIAG_REQ_.. (linux/inet_diag.h) are those
@@ -455,11 +477,13 @@ enum sockdiag_tcp_value {
                                          request. Since Linux 6.14. */
 };
 
+/* Flags of an MPTCP connection. */
 enum sockdiag_mptcp_flag {
     SOCKDIAG_MPTCP_INFO_FLAG_FALLBACK = 1,           /* The connection fell back to TCP. */
     SOCKDIAG_MPTCP_INFO_FLAG_REMOTE_KEY_RECEIVED = 2 /* The key of the peer was received. */
 };
 
+/* Protocols and attributes that a request for netlink, packet or XDP sockets selects. */
 enum sockdiag_show {
     SOCKDIAG_NDIAG_PROTO_ALL = 255,      /* Requests sockets of all protocols. */
     SOCKDIAG_NDIAG_SHOW_MEMINFO = 0x1,   /* Requests NETLINK_DIAG_MEMINFO. */
@@ -479,6 +503,7 @@ enum sockdiag_show {
     SOCKDIAG_XDP_SHOW_STATS = 0x10       /* Requests XDP_DIAG_STATS. */
 };
 
+/* Kinds of attributes in replies about netlink sockets. */
 enum sockdiag_netlink_attribute {
     SOCKDIAG_NETLINK_DIAG_MEMINFO = 0, /* Kind of the socket's memory: an array of u32, indexed
                                           by SK_MEMINFO_*. */
@@ -490,6 +515,7 @@ enum sockdiag_netlink_attribute {
                                           NDIAG_FLAG_*. */
 };
 
+/* Kinds of attributes in replies about packet sockets. */
 enum sockdiag_packet_attribute {
     SOCKDIAG_PACKET_DIAG_INFO = 0,    /* Kind of struct sockdiag_packet_info. */
     SOCKDIAG_PACKET_DIAG_MCLIST = 1,  /* Kind of the memberships of the socket
@@ -504,6 +530,7 @@ enum sockdiag_packet_attribute {
     SOCKDIAG_PACKET_DIAG_FILTER = 7   /* Kind of the socket's filter: a BPF program. */
 };
 
+/* Kinds of attributes in replies about XDP sockets. */
 enum sockdiag_xdp_attribute {
     SOCKDIAG_XDP_DIAG_INFO = 1,                 /* Kind of struct sockdiag_xdp_info. */
     SOCKDIAG_XDP_DIAG_UID = 2,                  /* Kind of the user id of the socket's owner: a
@@ -715,6 +742,7 @@ struct sockdiag_legacy_memory {
                                     (idiag_tmem, at 12). */
 };
 
+/* The options of an IPv4 or IPv6 socket. */
 enum sockdiag_socket_option {
     SOCKDIAG_OPTION_RECV_ERR = 1,               /* IP_RECVERR: recverr, bit 0. */
     SOCKDIAG_OPTION_IS_ICSK = 2,                /* The socket is of a connection-oriented
@@ -2072,7 +2100,7 @@ struct sockdiag_inet_request {
 
 /*
  * Length of a UNIX request, and maximum length of an internet request without attributes of the
- * caller, in bytes.
+ * caller, in bytes. The latter has 72 bytes if its protocol is below 256.
  */
 #define SOCKDIAG_UNIX_REQUEST_LENGTH 40
 #define SOCKDIAG_INET_REQUEST_LENGTH 80
@@ -2132,6 +2160,7 @@ struct sockdiag_vsock_request {
                                               16). Linux ignores it. */
 };
 
+/* Lengths of these requests in bytes. */
 #define SOCKDIAG_SHOW_REQUEST_LENGTH 36
 #define SOCKDIAG_VSOCK_REQUEST_LENGTH 40
 
