@@ -58,8 +58,9 @@
  * exec(2) does not close it, or if the previous one is still open; and if the length, the type or
  * the flags of a request are wrong, or one for a dump names a single socket. A socket has to be
  * connected to the kernel before it sends and receives. If FAKE_KERNEL_REFUSES is set, connect
- * fails. Requests are answered all the same, as a kernel does, so a lister that ignores the failure
- * lists sockets. If FAKE_KERNEL_DENIES is set, recv fails with EPERM, and so does joining a group.
+ * fails, or with the text socket this call. Requests are answered all the same, as a kernel does:
+ * a lister that ignores the failure of connect lists sockets. If FAKE_KERNEL_DENIES is set, recv
+ * fails with EPERM, and so does joining a group.
  */
 #define _DEFAULT_SOURCE /* For syscall. */
 #include "sockdiag.h"
@@ -118,7 +119,11 @@ static int open_replies(const char *path) {
 
 int socket(int family, int type, int protocol) {
     const char *path = getenv("FAKE_KERNEL_REPLIES");
+    const char *refuses = getenv("FAKE_KERNEL_REFUSES");
     const int is_open = kernel >= 0 && fcntl(kernel, F_GETFD) >= 0;
+    errno = EPERM;
+    if (refuses != NULL && strcmp(refuses, "socket") == 0)
+        return -1;
     if (family != AF_NETLINK || protocol != NETLINK_SOCK_DIAG)
         return -1;
     kernel = open("/dev/null", O_RDWR);

@@ -14,12 +14,13 @@ not compared. A lister that takes arguments has to print the lines with a local 
 those of sockets that listen. The lister list_rtt has to print the established TCP connections.
 
 A lister has to print no character that could control a terminal. It has to end with status 1,
-without a line, if it cannot connect to the kernel or receive from it, and if each datagram is
-longer than its buffer or truncated. It also has to end with status 1, after the lines, if ten dumps
-of a request are interrupted or lose data, if a dump ends with an error or with an invalid number,
-if another reply is too short, and if its output cannot be written. If standard input, output or
-error is not open, it has to end with status 1 before it opens a socket. A lister in Rust has to end
-with status 0: before it begins, Rust's runtime opens /dev/null in place of these.
+without a line, if it cannot open a socket, connect to the kernel or receive from it, and if each
+datagram is longer than its buffer or truncated. It also has to end with status 1, after the lines,
+if ten dumps of a request are interrupted or lose data, if a dump ends with an error or with an
+invalid number, if another reply is too short, and if its output cannot be written. If standard
+input, output or error is not open, it has to end with status 1 before it opens a socket. A lister
+in Rust has to end with status 0: before it begins, Rust's runtime opens /dev/null in place of
+these.
 
 The attributes of the replies about TCP, UDP and MPTCP sockets have to be in the order in which the
 kernel sends them. The exit status is 1 if they are not, or if a lister fails.
@@ -238,8 +239,9 @@ def is_right(lister, library, files, folder, is_rust):
     list_rtt reports a file without TCP sockets as an error."""
     results = [compare(lister, library, file) for file in files
                if not is_list_rtt(lister) or "\ntcp " in file.read_text()]
-    results += [fails(lister, library, files[0], "Operation not permitted", **{it: "1"})
-                for it in ("FAKE_KERNEL_REFUSES", "FAKE_KERNEL_DENIES")]
+    results += [fails(lister, library, files[0], "Operation not permitted", **it) for it in (
+        *({"FAKE_KERNEL_REFUSES": call} for call in ("connect", "socket")),
+        {"FAKE_KERNEL_DENIES": "1"})]
     results += [fails(lister, library, files[0], "Message too long", FAKE_KERNEL_EXCESS=it)
                 for it in EXCESSES]
     results += [fails(lister, library, files[0], INTERRUPTED, FAKE_KERNEL_LACK=it) for it in LACKS]

@@ -87,7 +87,8 @@ FAILURES = [
        f"sockdump: {call}: Operation not permitted\n")
       for name, call in (("REFUSES", "connect"), ("DENIES", "setsockopt"))),
     *((arguments, *how) for arguments in (["unix"], ["--every=1", "unix"]) for how in (
-        ({"FAKE_KERNEL_REFUSES": "1"}, 1, "sockdump: connect: Operation not permitted\n"),
+        *(({"FAKE_KERNEL_REFUSES": it}, 1, f"sockdump: {it}: Operation not permitted\n")
+          for it in ("connect", "socket")),
         ({"FAKE_KERNEL_LACK": "1"}, 1, "sockdump: unix: truncated message\n"),
         ({"FAKE_KERNEL_EXCESS": "1"}, 1,
          "sockdump: unix: datagram of 65537 bytes exceeds the buffer\n"))),

@@ -499,6 +499,12 @@ def test_services(runs):
     table = runs.end("-aH", preexec_fn=with_files(file, chosen))[1]
     compare("chosen", [it.split()[6] for it in table.splitlines()],
             ["127.0.0.1:10", f"127.0.0.1:{PACKETS}"])
+    # Without the files of names, ports are numbers, and no service is known.
+    (runs.folder / "etc").mkdir()
+    without = {"preexec_fn": with_mounts((runs.folder / "etc", "/etc"))}
+    compare("no files", runs.end("-aH", **without), runs.end("-anH"))
+    compare("no service", runs.end("-t", "sport = :http", **without),
+            (2, "", f"socklist: unknown service: http{TRY}"))
     # This file cannot be read at its start.
     failing = "/proc/self/mem"
     for files, path, arguments in (
@@ -947,28 +953,31 @@ def test_processes(runs):
 
 
 def test_order(runs):
-    """Finds the processes of sockets whose descriptors are not in the order of their inodes."""
+    """Finds the processes of sockets whose descriptors are not in the order of their inodes, of which
+    some are above 2^31."""
     with contextlib.ExitStack() as ended:
         opened = [ended.enter_context(socket.socket()) for _ in range(9)]
         for number, it in enumerate(reversed(opened), 100):
             ended.callback(os.close, os.dup2(it.fileno(), number))
-        runs.record(*dump("tcp", *(inet_reply(FAR, FAR, inode=os.fstat(it.fileno()).st_ino)
-                                   for it in opened)))
-        status, table, errors = runs.end("-aHp")
+        runs.record(*dump("tcp", *(inet_reply(FAR, FAR, inode=high(it)) for it in opened)))
+        status, table, errors = runs.end("-aHp", env=stand_ins(runs, errno.ESRCH))
         compare("order", (status, errors, re.findall(r"fd=(\d+)\),.*fd=(\d+)\)\)\n", table)),
                 (0, "", [(str(it.fileno()), str(108 - number))
                          for number, it in enumerate(opened)]))
 
 
-# A library with which names of processes and interfaces cannot be read, with an error number; and
-# each control group is the folder TARGET, but only the group 7 can be opened by its id.
+# A library with which names of processes and interfaces cannot be read, with an error number; each
+# control group is the folder TARGET, but only the group 7 can be opened by its id; sockets have the
+# inodes of `high`; and the clock that can be set is set back at each call.
 STAND_INS = """
 #define _GNU_SOURCE
 #include <errno.h>
 #include <fcntl.h>
+#include <stdio.h>
 #include <stdlib.h>
 #include <string.h>
 #include <sys/syscall.h>
+#include <time.h>
 #include <unistd.h>
 
 int openat(int folder, const char *path, int flags, ...) {
@@ -1001,7 +1010,31 @@ ssize_t readlink(const char *path, char *target, size_t size) {
     memcpy(target, group, strlen(group));
     return (ssize_t)strlen(group);
 }
+
+ssize_t readlinkat(int folder, const char *path, char *target, size_t size) {
+    char link[64] = "";
+    unsigned inode;
+    if (syscall(SYS_readlinkat, folder, path, link, sizeof link - 1) < 0)
+        return -1;
+    if (sscanf(link, "socket:[%u", &inode) == 1)
+        sprintf(link, "socket:[%u]", inode | inode % 2 << 31);
+    memcpy(target, link, size < sizeof link ? size : sizeof link);
+    return (ssize_t)strlen(link);
+}
+
+int clock_gettime(clockid_t clock, struct timespec *time) {
+    static time_t back;
+    const int failed = (int)syscall(SYS_clock_gettime, clock, time);
+    time->tv_sec -= clock == CLOCK_REALTIME ? back += 1000 : 0;
+    return failed;
+}
 """
+
+
+def high(opened):
+    """Returns the inode that a socket has with STAND_INS: if it is odd, it is above 2^31."""
+    inode = os.fstat(opened.fileno()).st_ino
+    return inode | inode % 2 << 31
 
 
 def stand_ins(runs, number=0, target=""):
@@ -1168,7 +1201,7 @@ def test_ended_process(runs):
     """
     with socket.socket() as opened:
         number = opened.fileno()
-        runs.record(*dump("tcp", inet_reply(FAR, FAR, inode=os.fstat(number).st_ino)))
+        runs.record(*dump("tcp", inet_reply(FAR, FAR, inode=high(opened))))
         for error in (errno.ESRCH, errno.ENOENT, errno.EACCES, errno.EPERM, errno.EMFILE):
             is_reported = error == errno.EMFILE
             status, table, errors = runs.end("-aHp", env=stand_ins(runs, error))
@@ -1337,12 +1370,12 @@ def test_close_errors(runs):
 
 
 def test_fresh(runs):
-    """A list shows the processes of its time."""
+    """A list shows the processes of its time, also if the clock is set back."""
     with socket.socket() as opened:
-        runs.record(*dump("tcp", inet_reply(FAR, FAR, inode=os.fstat(opened.fileno()).st_ino)))
+        runs.record(*dump("tcp", inet_reply(FAR, FAR, inode=high(opened))))
         file = runs.folder / "capture"
         runs.use(sockdump=f"cat {file}; sleep 1.2; tail -c +25 {file}")
-        with runs.start("-aHp", "--every=1") as running:
+        with runs.start("-aHp", "--every=1", env=stand_ins(runs, errno.ESRCH)) as running:
             one = running.stdout.readline()
             opened.close()
             other = running.stdout.readline()
@@ -1462,9 +1495,10 @@ def test_hostile(runs):
     for arguments in ([], ["--help"], ["--version"], ["--every=1"], ["-ap", "--json"], ["-s"],
                       ["-p", words]):
         with open("/dev/full", "wb") as full:
-            found = runs.end(*arguments, env=environment, stdout=full)
+            found = [runs.end(*arguments, under=it, env=environment, stdout=full)
+                     for it in ((), ("stdbuf", "-oL"))]
         compare(f"{arguments} >/dev/full", found,
-                (1, None, "socklist: standard output: No space left on device\n"))
+                2 * [(1, None, "socklist: standard output: No space left on device\n")])
     found = runs.end("-u", env={name: it for name, it in environment.items()
                                 if name != "FAKE_KERNEL_REPLIES"})
     assert found[0] == 1 and "sockdump: recv: No buffer space available\n" in found[2], found
@@ -1501,11 +1535,12 @@ def test_programs(runs):
     (runs.folder / "getent").chmod(0o755)
     compare("descriptors: getent", runs.end("-tpr")[::2], (0, shown))
     (runs.folder / "getent").unlink()
-    # An sslist that writes no ports and no objects.
-    runs.use(sockdump="", sslist="echo tcp ESTAB 0 0 0 0 1.2.3.4:65536 1.2.3.4:99999999999\n"
-                                 "echo tcp ESTAB 0 0 0 0 '*' 1.2.3.4")
-    compare("no ports", [it.split()[6:8] for it in runs.end("-t")[1].splitlines()],
-            [["1.2.3.4:65536", "1.2.3.4:99999999999"], ["*", "1.2.3.4"]])
+    # An sslist that writes no ports, no interfaces and no objects.
+    shown = [["1.2.3.4:65536", "1.2.3.4:99999999999"], ["*", "1.2.3.4"],
+             *([f"1.2.3.4%{it}:99", "*:*"] for it in (0, 1 << 32 | 1, "1x"))]
+    runs.use(sockdump="", sslist="".join(f"echo tcp ESTAB 0 0 0 0 '{one}' '{other}'\n"
+                                         for one, other in shown))
+    compare("no ports", [it.split()[6:8] for it in runs.end("-t")[1].splitlines()], shown)
     runs.use(sockdump="", sslist="echo; echo tcp x")
     for arguments in (["-p", "--json"], ["-p"]):
         compare(f"no sockets: {arguments}", runs.end(*arguments), (0, "\ntcp x\n", ""))
