@@ -14,6 +14,10 @@
 
 static const char spaces[] = " \t\n\v\f\r";
 
+/* Operators of conditions. */
+static const char *const signs[] = {"=", "==", "eq", "!=", "ne", "neq", ">=", "ge", "geq",
+                                    "<=", "le", "leq", ">", "gt", "<", "lt", NULL};
+
 /* The words that were read. */
 struct words {
     struct text text;  /* They, with numbers in place of names. */
@@ -153,11 +157,16 @@ static int is_host(const char *text) {
         && *text != '-' && strpbrk(text, "/[]") == NULL;
 }
 
-/* Returns whether a word is one of a list. */
-static int is_among(const char *word, const char *const *list) {
-    while (*list != NULL && strcmp(*list, word) != 0)
+/* Returns whether the word of this length is one of a list. */
+static int is_one_of(const char *word, size_t length, const char *const *list) {
+    while (*list != NULL && (strlen(*list) != length || strncmp(*list, word, length) != 0))
         list++;
     return *list != NULL;
+}
+
+/* Returns whether a word is one of a list. */
+static int is_among(const char *word, const char *const *list) {
+    return is_one_of(word, strlen(word), list);
 }
 
 /* Adds the address of a condition. As in ss(8), zeros follow the first numbers of an IPv4 one. */
@@ -253,8 +262,6 @@ static int add_value(struct words *words, char *word) {
 static int read_word(struct words *words, char *word) {
     static const char *const fields[] = {"sport", "dport", "src", "dst", "dev", "cgroup",
                                          NULL};
-    static const char *const signs[] = {"=", "==", "eq", "!=", "ne", "neq", ">=", "ge", "geq",
-                                        "<=", "le", "leq", ">", "gt", "<", "lt", NULL};
     int status = 0;
     if (words->field != NULL && (words->sign != NULL || !is_among(word, signs))) {
         status = add_value(words, word);
@@ -278,6 +285,7 @@ static const struct { const char *field, *why; } values[] = {
     {"src", "no address, such as 192.0.2.0/24, [2001:db8::/32] or *:80"},
     {"dst", "no address, such as 192.0.2.0/24, [2001:db8::/32] or *:80"},
     {"fwmark", "no mark, such as 1 or 0x1/0x3"}, {"cgroup", "no id of a control group"},
+    {"dev", "no index of an interface from 0 to 4294967295"},
 };
 
 /* Returns where the spaces, or the other bytes, begin that end at an offset of a text. */
@@ -296,19 +304,14 @@ static const char *find_reason(const char *text, size_t offset) {
         if (strlen(values[index].field) == end - start
             && strncmp(values[index].field, text + start, end - start) == 0)
             return values[index].why;
-    return end > start && strchr("=!<>", text[start]) != NULL ? find_reason(text, start) : NULL;
+    return is_one_of(text + start, end - start, signs) ? find_reason(text, start) : NULL;
 }
 
 /* Returns whether a filter begins with words that select states. */
 static int has_states(const char *words) {
-    static const char *const names[] = {"state", "exclude", "excl"};
+    static const char *const names[] = {"state", "exclude", "excl", NULL};
     const char *word = words + strspn(words, spaces);
-    const size_t length = strcspn(word, spaces);
-    size_t index = 0;
-    while (index < sizeof names / sizeof *names
-           && (strlen(names[index]) != length || strncmp(names[index], word, length) != 0))
-        index++;
-    return index < sizeof names / sizeof *names;
+    return is_one_of(word, strcspn(word, spaces), names);
 }
 
 /* Returns what follows the first word of a text. */

@@ -179,7 +179,10 @@ NO_WORDS = [
     ("src = 1.2.3.4/33", f"filter: {NO_ADDRESS}: 1.2.3.4/33"),
     *((f"sport = {it}", f"filter: no port from 0 to 65535: {it}") for it in ("*", ":", ":*")),
     *((f"{it} :65536", "filter: no port from 0 to 65535: :65536") for it in (
-        "sport", "dport =", "( dport", "sport >=", "sport !=", "sport <", "sport >")),
+        "sport", "dport =", "( dport", "sport >=", "sport !=", "sport <", "sport >", "sport gt",
+        "dport leq", "! sport eq")),
+    *((f"dev {it}", f"filter: no index of an interface from 0 to 4294967295: {it.split()[-1]}")
+      for it in ("4294967296", "= 99999999999", "ne 010")),
     ("state 7", "filter: unknown state: 7"),
     *((f"{it} up", "filter: unknown state: up") for it in ("exclude", "excl")),
     ("cgroup = /none.slice", "unknown control group: /none.slice"),
