@@ -94,7 +94,8 @@ def code_errors():
     functions = re.findall(r"(?m)^(?:static|int) .*\{\n(?:(?!\}$).*\n)*\}$", examples)
     blocks = re.findall(r"(?m)(?:^ \*     .*\n)+", HEADER)
     code = [re.sub(r"(?m)^ \*     ", "", it).rstrip("\n") for it in blocks]
-    return [f"no function of an example: {it}" for it in code if it not in functions]
+    return [f"no function of an example: {it}" for it in code if it not in functions] or (
+        [] if code else ["the header has no code of examples"])
 
 
 def size_errors():

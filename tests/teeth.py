@@ -217,6 +217,22 @@ CALLS = ("python3 tests/pages.py out/static/sockdiag", "python3 tests/tables.py 
          *(f"python3 {it}" if it.endswith(".py") else Path(it).name
            for it in SCRIPTS if it not in {ERASED, *CALLED, *OF_C_API}))
 COMPARED = ("tests/api/reply_reader.py", None, READER)
+# Changes of the sources of the C library that a header cannot have, and what is reported: a file in
+# `crates`, the old and the new text.
+NO_HEADER = (
+    ("sockdiag_c/src/version.rt", "u32 = ", "u32 = 9_", "VERSION of the library is not "),
+    ("sockdiag_c/src/version.rt", "-> u32", "-> u64",
+     "sockdiag_version returns u64, expected a u32"),
+    ("sockdiag_c/src/version.rt", "#[unsafe(no_mangle)]\n", "", "sockdiag_version is not exported"),
+    ("sockdiag_c/src/walks.rt", "size_of::<Cursor>() == 8", "size_of::<Cursor>() == 9",
+     "the source does not state that Cursor has 8 bytes"),
+    ("sockdiag_c/src/walks.rt", "type_word: u16", "type_word: bool",
+     "the header has no type for bool"),
+    ("sockdiag_c/src/filters.rt", "limit { result ≤ 80 }", "limit { result < 80 }",
+     "the source has no number for request_len"),
+    ("sock_diag_extras/src/tcp_info.rt", "TcpField::Probes => (3, 1)", "TcpField::Probes => (4, 1)",
+     "probes of TcpInfo is not probes of TcpField"),
+)
 ROWS = [
     Row(GATE, (f"ci: failed: {ERASED}", *(f"passed: {it}" for it in CALLS)), STUBS, "erased.sh"),
     Row(GATE, ("ci: failed: rt ci",), STUBS, "rt ci"),
@@ -331,6 +347,9 @@ ROWS = [
         (("include/sockdiag.h", "", "planted\n"),)),
     Row("tools/bindings --check", ("tools/templates/sockdiag.h.in lacks VegasInfo",),
         (("tools/templates/sockdiag.h.in", "@struct VegasInfo\n", ""),)),
+    Row("tools/bindings --planted", ("tools/bindings [--check]: writes include/sockdiag.h",)),
+    *(Row("tools/bindings --check", (reported,), ((f"crates/{file}", old, new),))
+      for file, old, new, reported in NO_HEADER),
     Row("tools/usage --check", ("tests/help/sslist is out of date",),
         (("tests/help/sslist", "", "planted\n"),)),
     Row("tools/usage --check", ("the description of .It Fl n , -numeric lacks: never",),
