@@ -4,11 +4,12 @@
 - The header has the doc comments of the source, whole, or their first paragraphs: of each struct,
   field, function, constant, option, record and error. Code in its comments is that of functions of
   examples, whole.
-- Structs that can grow have the sizes of version 1.0. The number of a version has three digits for
-  each of its later parts.
+- The constants in enums are those of the source, with their numbers. Structs that can grow have the
+  sizes of version 1.0. The number of a version has three digits for each of its later parts.
 - tools/bindings reports what the template lacks.
 - With make, examples/Makefile runs the commands that are expected.
-- With a C compiler, `$CC` or `cc`, it compiles the examples as C99 and as C++.
+- With a C compiler, `$CC` or `cc`, it compiles the examples as C99 and as C++. Each struct and each
+  field has the size and the offset of the source.
 
 It prints which of these parts it skips. tools/bindings writes the header. With the library,
 tests/api/c_api.sh runs the calls.
@@ -29,6 +30,7 @@ sys.dont_write_bytecode = True
 sys.path.append(str(TOP / "tools"))
 from declarations import Library, constants_in, decode_errors, record_names, socket_options
 
+BINDINGS = runpy.run_path(str(TOP / "tools/bindings"))
 HEADER = (TOP / "include/sockdiag.h").read_text("utf-8")
 SIZES_1_0 = {"unix_details": 168, "inet_details": 264, "netlink_details": 136,
              "packet_details": 248, "vsock_header": 32, "xdp_details": 240, "error_details": 64,
@@ -71,6 +73,18 @@ def constants():
     return [it for it in found if re.search(rf"\bSOCKDIAG_{it.name}(?: = | \d)", HEADER)]
 
 
+def number_errors():
+    """Returns the constants in enums of the header that the source does not have, as lines."""
+    upper = BINDINGS["upper"]
+    known = {(it.name, it.value) for it in constants()}
+    known |= {(upper(it.name), it.code) for it in decode_errors()}
+    known |= {(f"OPTION_{upper(it.name)}", it.number) for it in socket_options()}
+    known |= {(f"RECORD_{upper(it.name)}", it.number) for it in record_names()}
+    found = re.findall(r"(?m)^    SOCKDIAG_(\w+) = (\w+)", HEADER)
+    return [f"no constant of the source: {name} = {number}" for name, number in found
+            if (name, number) not in known]
+
+
 def comment_errors():
     """Returns the doc comments that the header lacks, as lines."""
     shown = [re.sub(r"(?m)^ *\*", "", it) for it in re.findall(r"(?s)/\*(.*?)\*/", HEADER)]
@@ -108,7 +122,7 @@ def size_errors():
 
 def missing_errors():
     """Returns what tools/bindings does not report if the template lacks it, as lines."""
-    writer = runpy.run_path(str(TOP / "tools/bindings"))["Writer"]()
+    writer = BINDINGS["Writer"]()
     writer.without("sock_diag_families/src/xdp/mod.rt=AF_XDP")
     missing = writer.missing()
     return [f"a template without {it} is accepted"
@@ -117,7 +131,7 @@ def missing_errors():
 
 def version_errors():
     """Returns the errors of the number that tools/bindings makes of a version, as lines."""
-    number = runpy.run_path(str(TOP / "tools/bindings"))["number_of"]("12.34.56")
+    number = BINDINGS["number_of"]("12.34.56")
     return [] if number == 12034056 else [f"the number of version 12.34.56 is {number}"]
 
 
@@ -161,6 +175,23 @@ def make_errors():
     return [f"make would run {it}, expected {expected}" for it, expected in found if it != expected]
 
 
+def layout():
+    """Returns a text in C that can be compiled if each struct and each field has its size and offset.
+    The compiler lays out bit fields."""
+    library = Library()
+    lines = ['#include "sockdiag.h"',
+             "#define IS(it, number) extern int is[(it) == (number) ? 1 : -1]"]
+    for name, struct in library.structs.items():
+        in_c, offsets = f"struct {BINDINGS['struct_in_c'](name)}", library.layout(struct.fields)
+        lines.append(f"IS(sizeof({in_c}), {library.sizes[name]});")
+        for it in struct.fields:
+            if not it.bits:
+                size = library.size_and_align(it.kind)[0]
+                lines += [f"IS(offsetof({in_c}, {it.name}), {offsets[it.name]});",
+                          f"IS(sizeof((({in_c} *)0)->{it.name}), {size});"]
+    return "\n".join(lines) + "\n"
+
+
 def compile_c(compiler):
     """Compiles the C files against the header. Returns an exit status."""
     strict = "-Wall -Wextra -Wpedantic -Werror -fsyntax-only -Iinclude -x".split()
@@ -186,6 +217,10 @@ def compile_c(compiler):
         status = subprocess.run(words, cwd=TOP).returncode
         if status != 0:
             return status
+    words = [compiler, "-std=c99", *strict, "c", "-"]
+    status = subprocess.run(words, cwd=TOP, input=layout(), text=True).returncode
+    if status != 0:
+        return status
     narrow = ["-U__SIZEOF_POINTER__", "-D__SIZEOF_POINTER__=4", "include/sockdiag.h"]
     done = subprocess.run([compiler, "-Wno-builtin-macro-redefined", *strict, "c", *narrow],
                           cwd=TOP, stderr=subprocess.PIPE, text=True)
@@ -196,7 +231,8 @@ def compile_c(compiler):
 
 
 def main():
-    checks = [comment_errors, code_errors, size_errors, missing_errors, version_errors]
+    checks = [comment_errors, code_errors, number_errors, size_errors, missing_errors,
+              version_errors]
     if shutil.which("make"):
         checks.append(make_errors)
     else:
