@@ -95,6 +95,8 @@ FAILURES = [
     # A length field below the 16 bytes of the header, in the end of an answer and in a reply.
     *(([kind], {"FAKE_KERNEL_LENGTH": it}, 1, f"sockdump: {kind}: truncated message\n")
       for kind in ("xdp", "unix") for it in ("0", "1", "4", "12", "15")),
+    # A message that is only a header, at the end of a datagram.
+    (["xdp"], {"FAKE_KERNEL_LENGTH": "16", "FAKE_KERNEL_LACK": "4"}, 0, ""),
     (["unix", "tcp"], {"FAKE_KERNEL_END": "-1"}, 0,
      "".join(f"sockdump: {it}: Operation not permitted\n" for it in ("unix", "tcp"))),
     # A kernel that knows no such sockets, and one that rejects a filter.

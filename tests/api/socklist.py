@@ -1361,9 +1361,11 @@ def test_close_errors(runs):
         wrong = f"socklist: not a TCP or UDP socket: {listed.replace(old, new)[:60]}\n"
         compare(f"{old} {new}", (found[0], found[2], log.read_text()), (1, wrong + NOT_CLOSED, ""))
     runs.record(*dump("tcp", CLOSED[0][1]))
-    found = runs.end(*kill, env=os.environ | {"LD_PRELOAD": runs.library,
-                                              "FAKE_KERNEL_REFUSES": "1"})
-    compare("connect", found[::2], (1, "socklist: connect: Operation not permitted\n"))
+    for name, value, what in (("REFUSES", "socket", "socket"), ("REFUSES", "connect", "connect"),
+                              ("DENIES", "1", f"not closed: {ends[0]}")):
+        found = runs.end(*kill, env=os.environ | {"LD_PRELOAD": runs.library,
+                                                  f"FAKE_KERNEL_{name}": value})
+        compare(what, found[::2], (1, f"socklist: {what}: Operation not permitted\n"))
     environment = runs.kernel(file, FAKE_KERNEL_CLOSED=str(log))
     for most in range(4, 14):
         log.write_text("")
@@ -1433,11 +1435,14 @@ def test_rounds(runs):
             running.stdout.close()
             compare(f"{arguments}", (running.wait(), running.stderr.read()),
                     (-signal.SIGPIPE, b""))
+    # A socket that is closed while both programs wait: no write to it fails.
+    runs.use(sockdump="exec sleep 60", sslist="exec sleep 60")
     one, other = socket.socketpair()
     with runs.start("-E", stdout=other) as running:
         one.close()
         other.close()
         compare("socket", running.wait(), -signal.SIGPIPE)
+    runs.use()
     with runs.start("-E", stderr=subprocess.PIPE,
                     preexec_fn=lambda: signal.signal(signal.SIGPIPE, signal.SIG_IGN)) as running:
         running.stdout.close()
