@@ -84,6 +84,7 @@ ARGUMENTS = [
     (["-4a"], [], ["-4", *FEW], ""),
     (["-4ta"], ["tcp"], ["-4", *FEW], ""),
     *(([it, "-xa"], [], [it, *FEW, "-f", "unix"], "") for it in ("--ipv4", "--ipv6")),
+    (["-f", "inet6", "-xa"], [], ["-f", "inet6", *FEW, "-f", "unix"], ""),
     (["-6uxa"], ["udp", "unix"], ["-6", *FEW, "-f", "unix"], ""),
     (["--json", "-l"], [], ["--json", *FEW], LISTENING),
     (["--every=5", "-a"], ["--every=5"], FEW, ""),
