@@ -14,6 +14,7 @@ pub mod AttributeContent
 pub mod Texts
 pub mod PrefixCodecs
 pub mod Responses
+pub mod HeaderFields
 pub mod Headers
 pub mod Framing
 pub mod Datagrams

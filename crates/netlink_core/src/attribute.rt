@@ -61,17 +61,28 @@ impl<'a> NlaBuffer<'a> {
         if left < NLA_HEADER_SIZE {
             return Err(DecodeError::AttributeHeaderCut { left });
         }
-        let length = LittleEndian::read_u16(bytes);
-        let end = length as usize;
-        if end < NLA_HEADER_SIZE {
-            return Err(DecodeError::AttributeLengthUnder4 { length });
+        NlaBuffer::after_header(bytes, left - NLA_HEADER_SIZE)
+    }
+
+    // Parses the attribute at the start of the bytes, which are a whole header and `most` further
+    // bytes. Both fields of the header are one load, and both bounds of the length one test.
+    #[inline(always)]
+    fn after_header(bytes: &'a [u8], most: usize) -> Result<NlaBuffer<'a>, DecodeError>
+        requires { length bytes.now ≡ 4 + most }
+        ensures { MatchResult result
+            (λ buffer. HasAttributePrefix bytes.entry.now (buffered_attribute buffer))
+            (IsFramingError bytes.entry.now) }
+    {
+        let header = LittleEndian::read_u32(bytes);
+        let length = (header & 0xffff) as usize;
+        let value_len = length.wrapping_sub(NLA_HEADER_SIZE);
+        if value_len > most {
+            return Err(length_error(bytes));
         }
-        if end > left {
-            return Err(DecodeError::AttributeLengthPast { length, left });
-        }
+        let after = &bytes[NLA_HEADER_SIZE..];
         Ok(NlaBuffer {
-            type_word: LittleEndian::read_u16(&bytes[2..]),
-            value: &bytes[NLA_HEADER_SIZE..end],
+            type_word: (header >> 16) as u16,
+            value: &after[..value_len],
         })
     }
 
@@ -207,16 +218,24 @@ impl<'a> Iterator for NlasIterator<'a> {
     /// padding. Returns the error of [`NlaBuffer::new_checked`] if these bytes do not start with an
     /// attribute; then no bytes are left. Returns `None` if and only if no bytes were left.
     fn next(&mut self) -> Option<Result<NlaBuffer<'a>, DecodeError>> {
-        if self.at >= self.bytes.len() {
-            return None;
+        // One test for the end and for a truncated header.
+        let len = self.bytes.len();
+        if len < NLA_HEADER_SIZE || len - NLA_HEADER_SIZE < self.at {
+            if len <= self.at {
+                return None;
+            }
+            let left = len - self.at;
+            self.at = len;
+            return Some(Err(DecodeError::AttributeHeaderCut { left }));
         }
-        match NlaBuffer::new_checked(&self.bytes[self.at..]) {
+        let most = len - NLA_HEADER_SIZE - self.at;
+        match NlaBuffer::after_header(&self.bytes[self.at..], most) {
             Ok(nla) => {
                 self.at += padded(nla.length() as usize);
                 Some(Ok(nla))
             }
             Err(error) => {
-                self.at = self.bytes.len();
+                self.at = len;
                 Some(Err(error))
             }
         }
@@ -232,6 +251,22 @@ impl<'a> Iterator for NlasIterator<'a> {
             (UpTo (at_most ((length (unread_bytes self.now) + 3) / 4))) }
     {
         (0, None)
+    }
+}
+
+// Returns the error of bytes that have a whole header, and a length field that is below 4 or above
+// their number.
+fn length_error(bytes: &[u8]) -> DecodeError
+    requires header { 4 ≤ length bytes.now }
+    requires wrong { 4 ≤ little_number 2 bytes.now → length bytes.now < little_number 2 bytes.now }
+    ensures { IsFramingError bytes.now result }
+{
+    let length = LittleEndian::read_u16(bytes);
+    if (length as usize) < NLA_HEADER_SIZE {
+        DecodeError::AttributeLengthUnder4 { length }
+    } else {
+        let left = bytes.len();
+        DecodeError::AttributeLengthPast { length, left }
     }
 }
 
