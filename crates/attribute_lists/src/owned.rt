@@ -64,11 +64,8 @@ pub fn own_nlas<T: FamilyNla>(
     if count > nlas.capacity() {
         make_room(nlas, count)?;
     }
-    for item in NlasIterator::new(bytes) {
-        let Ok(nla) = item else {
-            // The bytes have no error (`clean`).
-            unreachable!();
-        };
+    let mut walk = NlasIterator::new(bytes);
+    while let Some(nla) = walk.next_accepted() {
         push_accepted(alloc, &nla, nlas)?;
     }
     Ok(())
