@@ -224,34 +224,22 @@ fn read_unix<'a>(nla: &NlaBuffer<'a>) -> Result<AnyNla<'a>, DecodeError>
     })
 }
 
-// Decodes an attribute of a UNIX socket as the port does.
+// Decodes an attribute of a UNIX socket as the port does. The memory is parsed again, since the
+// port has only three of its nine fields.
 #[inline(always)]
 fn read_port_unix<'a>(nla: &NlaBuffer<'a>) -> Result<AnyNla<'a>, DecodeError>
     ensures { map_ok any_model result ≡ read_port_unix (buffered_attribute nla.now) }
 {
-    match UnixNlaView::parse(nla) {
-        Ok(view) => unix_value(nla, view),
-        Err(error) => Err(error),
+    match UnixNlaView::parse(nla)? {
+        UnixNlaView::Name(name) => Ok(AnyNla::Name(name)),
+        UnixNlaView::Vfs(file) => Ok(AnyNla::Vfs(file)),
+        UnixNlaView::Peer(inode) => Ok(AnyNla::Peer(inode)),
+        UnixNlaView::PendingConnections(inodes) => Ok(AnyNla::PendingConnections(inodes)),
+        UnixNlaView::ReceiveQueueLength(receive, send) => Ok(AnyNla::QueueLengths(receive, send)),
+        UnixNlaView::MemInfo(_) => Ok(AnyNla::Memory(MemInfo::parse(nla.value())?)),
+        UnixNlaView::Shutdown(directions) => Ok(AnyNla::Shutdown(directions)),
+        UnixNlaView::Other(other) => Ok(AnyNla::Unknown(other)),
     }
-}
-
-// Returns what an attribute of a UNIX socket says, which the port has decoded. The memory is parsed
-// again, since the port has only three of its nine fields.
-#[inline(always)]
-fn unix_value<'a>(nla: &NlaBuffer<'a>, view: UnixNlaView<'a>) -> Result<AnyNla<'a>, DecodeError>
-    ensures { map_ok any_model result ≡ unix_value (buffered_attribute nla.now)
-        (unix_variant (unix_nla_view_model view.entry)) }
-{
-    Ok(match view {
-        UnixNlaView::Name(name) => AnyNla::Name(name),
-        UnixNlaView::Vfs(file) => AnyNla::Vfs(file),
-        UnixNlaView::Peer(inode) => AnyNla::Peer(inode),
-        UnixNlaView::PendingConnections(inodes) => AnyNla::PendingConnections(inodes),
-        UnixNlaView::ReceiveQueueLength(receive, send) => AnyNla::QueueLengths(receive, send),
-        UnixNlaView::MemInfo(_) => AnyNla::Memory(MemInfo::parse(nla.value())?),
-        UnixNlaView::Shutdown(directions) => AnyNla::Shutdown(directions),
-        UnixNlaView::Other(other) => AnyNla::Unknown(other),
-    })
 }
 
 // Decodes an attribute of an IPv4 or IPv6 socket, whose `INET_DIAG_INFO` has this format.
@@ -303,25 +291,13 @@ fn read_inet_list<'a>(nla: &NlaBuffer<'a>) -> Result<AnyNla<'a>, DecodeError>
     })
 }
 
-// Decodes an attribute of an IPv4 or IPv6 socket as the port does.
+// Decodes an attribute of an IPv4 or IPv6 socket as the port does. A `struct tcp_info` is all of
+// its bytes, which may be more than the port decodes.
 #[inline(always)]
 fn read_port_inet<'a>(nla: &NlaBuffer<'a>) -> Result<AnyNla<'a>, DecodeError>
     ensures { map_ok any_model result ≡ read_port_inet (buffered_attribute nla.now) }
 {
-    match InetNlaView::parse(nla) {
-        Ok(view) => Ok(inet_value(nla, view)),
-        Err(error) => Err(error),
-    }
-}
-
-// Returns what an attribute of an IPv4 or IPv6 socket says, which the port has decoded. A `struct
-// tcp_info` is all of its bytes, which may be more than the port decodes.
-#[inline(always)]
-fn inet_value<'a>(nla: &NlaBuffer<'a>, view: InetNlaView<'a>) -> AnyNla<'a>
-    ensures { any_model result ≡ inet_value (buffered_attribute nla.now)
-        (inet_variant (inet_nla_view_model view.entry)) }
-{
-    match view {
+    Ok(match InetNlaView::parse(nla)? {
         InetNlaView::LegacyMemInfo(memory) => AnyNla::LegacyMemory(memory),
         InetNlaView::TcpInfo(_) => AnyNla::TcpInfo(TcpInfoBytes::new(nla.value())),
         InetNlaView::Congestion(algorithm) => AnyNla::Congestion(algorithm),
@@ -334,7 +310,7 @@ fn inet_value<'a>(nla: &NlaBuffer<'a>, view: InetNlaView<'a>) -> AnyNla<'a>
         InetNlaView::Mark(mark) => AnyNla::Mark(mark),
         InetNlaView::ClassId(class) => AnyNla::ClassId(class),
         InetNlaView::Other(other) => AnyNla::Unknown(other),
-    }
+    })
 }
 
 // Decodes an attribute of a netlink socket.
