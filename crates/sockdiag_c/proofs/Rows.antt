@@ -32,6 +32,15 @@ first_of_prefix : {B : Type 0} (o p : Option B) (now later : List B)
 first_of_prefix o p now later e =
     grind arith
 
+first_is_none : {B : Type 0} (o : Option B) (later : List B)
+    → slice_get (cons_option o later) 0 ≡ None → (o ≡ None) × (slice_get later 0 ≡ None)
+first_is_none None later none = (refl, none)
+first_is_none (Some x) later none = absurd (grind arith)
+
+pub none_if_not_some : {A : Type 0} (o : Option A) → ((x : A) → o ≡ Some x → ⊥) → o ≡ None
+none_if_not_some None not = refl
+none_if_not_some (Some x) not = absurd (not x refl)
+
 pub or_none : {A : Type 0} (o : Option A) → option_or o None ≡ o
 or_none None = refl
 or_none (Some x) = refl
@@ -134,6 +143,18 @@ module _ {D : Type 0} (family : Family D) where
       ∙ ap (option_or (first_content_of (error_of_kind family k) xs))
       (if_equal _ _ (attribute_kind a == k) (sym error))
       ∙ sym (first_more (error_of_kind family k) xs a)
+
+  -- if no attribute has an error, none of a kind has one
+  pub no_error_of_kind : (k : ℕ) (xs : List Attribute)
+      → first_content_of (value_error family) xs ≡ None
+      → first_content_of (error_of_kind family k) xs ≡ None
+  no_error_of_kind k [] none = refl
+  no_error_of_kind k (x ∷ xs) none =
+      let parts = first_is_none (value_error family x) (filter_map (value_error family) xs) none in
+      ap (λ (o : Option DecodeError).
+      slice_get (cons_option o (filter_map (error_of_kind family k) xs)) 0)
+      (no_value_if (value_error family x) (attribute_kind x == k) parts.0)
+      ∙ no_error_of_kind k xs parts.1
 
 -- no error has the code 0
 pub code_is_not_zero : (e : DecodeError) → error_code e ≢ 0

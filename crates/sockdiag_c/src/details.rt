@@ -4,18 +4,20 @@
 //! call, or None; nothing is stated of a struct with other contents, which does not occur. No error
 //! has the code 0.
 
-ghost use Rattle.std.specs.Prelude.{◌≡◌, ◌≢◌, ℕ, [], drop, Err, IfErr, IfOk, None, Ok, Option};
-ghost use Rattle.std.specs.Prelude.{Some};
+ghost use Rattle.std.specs.Prelude.{◌≡◌, ◌≢◌, ℕ, List, [], drop, Err, IfErr, IfOk, IsTrue, None};
+ghost use Rattle.std.specs.Prelude.{Ok, Option, Some};
 ghost use Rattle.std.specs.Option.{option_or};
+ghost use Rattle.netlink_core.specs.Attribute.{Attribute, SplitsIntoAttributes};
 ghost use Rattle.netlink_core.specs.Errors.{map_ok};
 ghost use Rattle.netlink_core.specs.Walk.{buffered_attribute};
+ghost use Rattle.sock_diag_replies.specs.UnixGetters.{first_content_of};
 ghost use Rattle.sockdiag_c.specs.Details.{optional_number, text_parts};
 ghost use Rattle.sockdiag_c.specs.Family.{AreDetailsOf, HasHeaderAndValuesOf, SplitsWithError};
 ghost use Rattle.sockdiag_c.specs.Family.{Family};
 ghost use Rattle.sockdiag_c.specs.Family.{HasRejections, HasValues, IsFirstError, StoresDetails};
 ghost use Rattle.sockdiag_c.specs.Family.{IsHeaderError, LenientDetailsAre, ReplyParts};
 ghost use Rattle.sockdiag_c.specs.Family.{StoresLenientDetails};
-ghost use Rattle.sockdiag_c.specs.Family.{first_error};
+ghost use Rattle.sockdiag_c.specs.Family.{first_error, value_error};
 ghost use Rattle.sockdiag_c.specs.private.Rows.{AddsParts};
 
 use crate::lenient::{Errors, Rejections};
@@ -132,6 +134,11 @@ pub(crate) trait ReplyDetails<'a>: Copy + Default {
         ensures header { family.header self.new ≡ family.header self.old }
         ensures values { AddsParts family.rows (model nla)
             record { old = self.old; new = self.new } };
+
+    /// Sets all fields to zeros, except for the header.
+    fn clear_values(&mut self)
+        ensures header { family.header self.new ≡ family.header self.old }
+        ensures values { HasValues family.read family.rows self.new [] };
 }
 
 /// Stores the contents of the reply in the details, and zeros in the fields of later versions.
@@ -167,15 +174,16 @@ pub(crate) fn fill_details<'a, T: ReplyDetails<'a>>(
     ensures unchanged { IfErr result (λ e. details.new ≡ details.old) }
 {
     let (mut found, attributes) = T::parse_header(payload)?;
-    let mut errors = Errors::default();
-    set_values(attributes, &mut found, &mut errors);
-    match errors.first {
-        Some(error) => Err(error),
-        None => {
-            *details = found;
-            Ok(())
+    if !set_valid_values(attributes, &mut found) {
+        found.clear_values();
+        let mut errors = Errors::default();
+        set_values(attributes, &mut found, &mut errors);
+        if let Some(error) = errors.first {
+            return Err(error);
         }
     }
+    *details = found;
+    Ok(())
 }
 
 /// Stores the header and the first valid value of each kind in the details, zeros in the fields of
@@ -197,18 +205,52 @@ pub(crate) fn store_lenient_details<'a, T: ReplyDetails<'a>>(
         Ok(parts) => parts,
         Err(error) => return u32::from(error.number()),
     };
+    copy_padded(&[], later);
     // The struct of the caller is filled in place: it is not copied.
     *details = found;
-    let mut errors = Errors::default();
-    set_values(attributes, details, &mut errors);
-    *rejections = errors.rejections;
-    copy_padded(&[], later);
+    if set_valid_values(attributes, details) {
+        *rejections = Rejections::default();
+    } else {
+        details.clear_values();
+        let mut errors = Errors::default();
+        set_values(attributes, details, &mut errors);
+        *rejections = errors.rejections;
+    }
     OK
+}
+
+// Sets the fields of each attribute, unless they are set already, and returns `true`. Returns
+// `false` if there is an error; then the details have the values of some of the attributes. The
+// details have to be without values before the call, as `parse_header` returns them.
+//
+// Most replies have no error, and a loop that stores none takes fewer instructions. A reply with an
+// error is read once more, by `set_values`.
+#[inline(never)]
+fn set_valid_values<'a, T: ReplyDetails<'a>>(bytes: &'a [u8], details: &mut T) -> bool
+    ensures header { T.family.header details.new ≡ T.family.header details.old }
+    // If the details have no values (`[]`) before the call, they have those of all attributes after
+    // it, none of which has an error.
+    ensures values { HasValues T.family.read T.family.rows details.old [] → IsTrue result
+        → (attributes : List Attribute) × SplitsIntoAttributes bytes.entry.now attributes []
+        × (first_content_of (value_error T.family) attributes ≡ None)
+        × HasValues T.family.read T.family.rows details.new attributes }
+{
+    for item in NlasIterator::new(bytes) {
+        match item {
+            Ok(nla) => match T::read(&nla) {
+                Ok(decoded) => details.set(decoded),
+                Err(_) => return false,
+            },
+            Err(_) => return false,
+        }
+    }
+    true
 }
 
 // Reads each attribute up to a framing error. Sets the fields of the valid ones, unless they are
 // set already, and returns the errors of the others. The details have to be without values before
 // the call, as `parse_header` returns them.
+#[inline(never)]
 fn set_values<'a, T: ReplyDetails<'a>>(bytes: &'a [u8], details: &mut T, errors: &mut Errors)
     // If the details have no values (`[]`) before the call: `parts` are the header that they have,
     // and the attributes and the framing error of the bytes. After the call the details have the

@@ -6,11 +6,13 @@ ghost use Rattle.netlink_core.specs.Errors.{map_ok};
 ghost use Rattle.netlink_core.specs.Walk.{buffered_attribute};
 ghost use Rattle.sock_diag_attributes.specs.InetAttributes.{inet_attribute_set};
 ghost use Rattle.sock_diag_extras.specs.AnyNla.{any_model, read_any};
+ghost use Rattle.sock_diag_extras.specs.declared.any.nla.AnyNla.TheVariants.{Protocol};
 ghost use Rattle.sock_diag_extras.specs.declared.any.nla.InfoFormat.TheVariants.{Unknown};
 ghost use Rattle.sock_diag_extras.specs.declared.any.nla.Sockets.TheVariants.{Inet};
 ghost use Rattle.sockdiag_c.specs.CheckedKinds.{read_checked};
 ghost use Rattle.sockdiag_c.specs.Family.{StoresDetails};
 ghost use Rattle.sockdiag_c.specs.InetDetails.{inet_family, legacy_memory_struct};
+ghost use Rattle.sockdiag_c.specs.private.Rows.{AddsParts};
 
 use crate::details::{Number, ReplyDetails, TEXT, Text, store_details};
 use crate::family_values::{Memory, set_record};
@@ -143,7 +145,7 @@ impl<'a> ReplyDetails<'a> for InetDetails<'a> {
             AnyNla::Tos(tos) => self.tos.set(u32::from(tos)),
             AnyNla::TrafficClass(class) => self.tclass.set(u32::from(class)),
             AnyNla::Shutdown(directions) => self.shutdown.set(u32::from(directions)),
-            AnyNla::Protocol(protocol) => self.protocol.set(u32::from(protocol)),
+            AnyNla::Protocol(protocol) => self.set_protocol(protocol),
             AnyNla::V6Only(only) => self.v6only.set(u32::from(only)),
             AnyNla::Mark(mark) => self.mark.set(mark),
             AnyNla::ClassId(class) => self.class_id.set(class),
@@ -159,6 +161,25 @@ impl<'a> ReplyDetails<'a> for InetDetails<'a> {
             // These have no field: other calls return the connection and raw attributes.
             _ => {}
         }
+    }
+
+    fn clear_values(&mut self) {
+        let header = self.header;
+        *self = InetDetails::default();
+        self.header = header;
+    }
+}
+
+impl InetDetails<'_> {
+    // Sets the protocol, which few replies have, unless it is set already. This is a call for the
+    // same reason as `UnixDetails::set_name`.
+    #[inline(never)]
+    fn set_protocol(&mut self, protocol: u8)
+        ensures header { self.new.header ≡ self.old.header }
+        ensures values { AddsParts inet_family.rows (any_model (Protocol protocol))
+            record { old = self.old; new = self.new } }
+    {
+        self.protocol.set(u32::from(protocol));
     }
 }
 

@@ -78,4 +78,10 @@ impl<'a> ReplyDetails<'a> for NetlinkDetails<'a> {
             _ => {}
         }
     }
+
+    fn clear_values(&mut self) {
+        let header = self.header;
+        *self = NetlinkDetails::default();
+        self.header = header;
+    }
 }

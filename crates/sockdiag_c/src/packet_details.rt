@@ -109,4 +109,10 @@ impl<'a> ReplyDetails<'a> for PacketDetails<'a> {
             _ => {}
         }
     }
+
+    fn clear_values(&mut self) {
+        let header = self.header;
+        *self = PacketDetails::default();
+        self.header = header;
+    }
 }

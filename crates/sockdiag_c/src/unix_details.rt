@@ -1,12 +1,14 @@
 //! The contents of a reply about a UNIX socket, as a C struct.
 
-ghost use Rattle.std.specs.Prelude.{◌≡◌, Err};
+ghost use Rattle.std.specs.Prelude.{◌≡◌, ◌≢◌, Err, Some};
+ghost use Rattle.std.specs.Option.{option_or};
 ghost use Rattle.netlink_core.specs.Errors.{map_ok};
 ghost use Rattle.netlink_core.specs.Walk.{buffered_attribute};
 ghost use Rattle.sock_diag_attributes.specs.UnixAttributes.{unix_attribute_set};
 ghost use Rattle.sock_diag_extras.specs.AnyNla.{any_model, read_any};
 ghost use Rattle.sock_diag_extras.specs.declared.any.nla.Sockets.TheVariants.{Unix};
 ghost use Rattle.sockdiag_c.specs.CheckedKinds.{read_checked};
+ghost use Rattle.sockdiag_c.specs.Details.{text_parts};
 ghost use Rattle.sockdiag_c.specs.Family.{StoresDetails};
 ghost use Rattle.sockdiag_c.specs.UnixDetails.{unix_family};
 
@@ -98,8 +100,8 @@ impl<'a> ReplyDetails<'a> for UnixDetails<'a> {
     fn set(&mut self, nla: AnyNla<'a>) {
         match nla {
             AnyNla::Name(name) => match name {
-                NameView::Pathname(path) => self.name.set(TEXT, path),
-                NameView::Abstract(address) => self.name.set(ABSTRACT, address),
+                NameView::Pathname(path) => self.set_name(TEXT, path),
+                NameView::Abstract(address) => self.set_name(ABSTRACT, address),
             },
             AnyNla::Vfs(file) => {
                 self.file_inode.set(file.inode());
@@ -116,6 +118,27 @@ impl<'a> ReplyDetails<'a> for UnixDetails<'a> {
             // These have no field: `sockdiag_next_attribute` returns them.
             _ => {}
         }
+    }
+
+    fn clear_values(&mut self) {
+        let header = self.header;
+        *self = UnixDetails::default();
+        self.header = header;
+    }
+}
+
+impl<'a> UnixDetails<'a> {
+    // Sets the name, unless it is set already. This is a call that may change any field, so that
+    // the loop over attributes does not hold the fields `is_set` on the stack, which takes more
+    // instructions.
+    #[inline(never)]
+    fn set_name(&mut self, kind: u32, bytes: &'a [u8])
+        requires { kind ≢ 0 }
+        ensures others { self.new ≡ record self.old { name = self.new.name } }
+        ensures name { text_parts self.new.name
+            ≡ option_or (text_parts self.old.name) (Some (kind, bytes.entry.now)) }
+    {
+        self.name.set(kind, bytes);
     }
 }
 

@@ -1,8 +1,8 @@
 //! The contents of a reply about a vsock socket: its header.
 
-ghost use Rattle.std.specs.Prelude.{◌≡◌, ◌≢◌};
+ghost use Rattle.std.specs.Prelude.{◌≡◌, ◌≢◌, []};
 ghost use Rattle.sock_diag_extras.specs.AnyNla.{any_model};
-ghost use Rattle.sockdiag_c.specs.Family.{StoresDetails};
+ghost use Rattle.sockdiag_c.specs.Family.{HasValues, StoresDetails};
 ghost use Rattle.sockdiag_c.specs.VsockDetails.{vsock_family};
 
 use crate::details::{ReplyDetails, store_details};
@@ -50,4 +50,9 @@ impl<'a> ReplyDetails<'a> for VsockResponseHeader {
 
     #[inline(always)]
     fn set(&mut self, _nla: AnyNla<'a>) {}
+
+    fn clear_values(&mut self)
+        ensures header { self.new ≡ self.old }
+        ensures values { HasValues vsock_family.read vsock_family.rows self.new [] }
+    {}
 }

@@ -1,8 +1,8 @@
 //! The contents of a reply about an XDP socket, as a C struct.
 
-ghost use Rattle.std.specs.Prelude.{◌≡◌, ◌≢◌};
+ghost use Rattle.std.specs.Prelude.{◌≡◌, ◌≢◌, []};
 ghost use Rattle.sock_diag_extras.specs.AnyNla.{any_model};
-ghost use Rattle.sockdiag_c.specs.Family.{StoresDetails};
+ghost use Rattle.sockdiag_c.specs.Family.{HasValues, StoresDetails};
 ghost use Rattle.sockdiag_c.specs.XdpDetails.{xdp_family};
 
 use crate::details::{Number, ReplyDetails, store_details};
@@ -107,5 +107,14 @@ impl<'a> ReplyDetails<'a> for XdpDetails {
             // A reply about an XDP socket has no other attributes that are known.
             _ => {}
         }
+    }
+
+    fn clear_values(&mut self)
+        ensures header { self.new.header ≡ self.old.header }
+        ensures values { HasValues xdp_family.read xdp_family.rows self.new [] }
+    {
+        let header = self.header;
+        *self = XdpDetails::default();
+        self.header = header;
     }
 }
