@@ -118,8 +118,8 @@ static size_t fill_inet(struct request *request, const struct kind *kind, uint32
     request->body.inet.fixed.idiag_states = states;
     if (kind->protocol <= UINT8_MAX)
         return sizeof request->body.inet.fixed;
-    /* Kernels without MPTCP ignore the attribute. By the low byte of the protocol, IPPROTO_TCP,
-     * they would list TCP sockets. For 0 they answer with ENOENT. */
+    /* Some kernels without MPTCP ignore the attribute. By the low byte of the protocol,
+     * IPPROTO_TCP, they would list TCP sockets. For 0 they answer with ENOENT. */
     request->body.inet.fixed.sdiag_protocol = 0;
     request->body.inet.head.nla_type = INET_DIAG_REQ_PROTOCOL;
     request->body.inet.head.nla_len = sizeof request->body.inet.head

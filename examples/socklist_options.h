@@ -367,7 +367,7 @@ static int make_filter(struct options *options) {
 }
 
 /* Selects only kinds to which the conditions of the filter apply, if it has some. Returns 0, or -1
- * if no kind is left. */
+ * if none is selected, or packet sockets are. */
 static int select_conditional(struct options *options) {
     const char *conditions = after_states(options->words.bytes);
     size_t index;

@@ -2073,12 +2073,12 @@ struct sockdiag_inet_request {
                                               use a lenient call: sockdiag_inet_get_details
                                               rejects their replies. */
     uint32_t protocol;                     /* Protocol, one of IPPROTO_.. (sdiag_protocol).
-                                              Request one protocol at a time: replies to a
-                                              request do not contain it. A protocol above 255,
-                                              such as IPPROTO_MPTCP, is written as an attribute
-                                              INET_DIAG_REQ_PROTOCOL, and sdiag_protocol is 0. A
-                                              kernel that does not know the attribute answers
-                                              with an error. */
+                                              Request one protocol at a time: of the replies to a
+                                              request only those about raw sockets contain it. A
+                                              protocol above 255, such as IPPROTO_MPTCP, is
+                                              written as an attribute INET_DIAG_REQ_PROTOCOL, and
+                                              sdiag_protocol is 0. A kernel that does not know
+                                              the attribute answers with an error. */
     uint32_t states;                       /* States to include, with the bit 1 << TCP_LISTEN for
                                               TCP_LISTEN (idiag_states). UINT32_MAX includes all.
                                               The bit 1 << TCP_BOUND_INACTIVE includes TCP
@@ -2283,9 +2283,9 @@ static inline uint32_t sockdiag_parse_filter(const uint8_t *text, size_t length,
  * All replies that differ only in ignored bits have the same canonical form, which serves to
  * compare them. Ignored bits are undefined flags, pad fields, padding, and bytes that no parser
  * reads, for example. So the form lacks some values that other calls return: the time of timer 3
- * (TIME_WAIT), the number of retransmissions of a timer other than 1, all of timer 5, and the
- * fields of INET_DIAG_INFO after tcpi_snd_wnd. The form is written at the start of the buffer, and
- * its length is stored, as those of a request.
+ * (TIME_WAIT), the number of retransmissions of a timer other than 1, all of timer 5, six of the
+ * nine fields of UNIX_DIAG_MEMINFO, and the fields of INET_DIAG_INFO after tcpi_snd_wnd. The form
+ * is written at the start of the buffer, and its length is stored, as those of a request.
  */
 
 /*

@@ -82,10 +82,10 @@ pub struct InetRequest {
     /// `tcpi_snd_wnd`, leave out `INET_DIAG_INFO`, or use a lenient call:
     /// `sockdiag_inet_get_details` rejects their replies.
     pub extensions: u8,
-    /// Protocol, one of `IPPROTO_..` (`sdiag_protocol`). Request one protocol at a time: replies to
-    /// a request do not contain it. A protocol above 255, such as `IPPROTO_MPTCP`, is written as an
-    /// attribute `INET_DIAG_REQ_PROTOCOL`, and `sdiag_protocol` is 0. A kernel that does not know
-    /// the attribute answers with an error.
+    /// Protocol, one of `IPPROTO_..` (`sdiag_protocol`). Request one protocol at a time: of the
+    /// replies to a request only those about raw sockets contain it. A protocol above 255, such as
+    /// `IPPROTO_MPTCP`, is written as an attribute `INET_DIAG_REQ_PROTOCOL`, and `sdiag_protocol`
+    /// is 0. A kernel that does not know the attribute answers with an error.
     pub protocol: u32,
     /// States to include, with the bit `1 << TCP_LISTEN` for `TCP_LISTEN` (`idiag_states`).
     /// `UINT32_MAX` includes all. The bit `1 << TCP_BOUND_INACTIVE` includes TCP sockets that are
