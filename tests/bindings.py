@@ -4,8 +4,8 @@
 - The header has the doc comments of the source, whole, or their first paragraphs: of each struct,
   field, function, constant, option, record and error. Code in its comments is that of functions of
   examples, whole.
-- The constants in enums are those of the source, with their numbers. Structs that can grow have the
-  sizes of version 1.0. The number of a version has three digits for each of its later parts.
+- The constants in enums are those of the source, with their numbers. Structs have the layout of
+  version 1.0. The number of a version has three digits for each of its later parts.
 - tools/bindings reports what the template lacks.
 - With make, examples/Makefile runs the commands that are expected.
 - With a C compiler, `$CC` or `cc`, it compiles the examples as C99 and as C++. Each struct and each
@@ -32,9 +32,8 @@ from declarations import Library, constants_in, decode_errors, record_names, soc
 
 BINDINGS = runpy.run_path(str(TOP / "tools/bindings"))
 HEADER = (TOP / "include/sockdiag.h").read_text("utf-8")
-SIZES_1_0 = {"unix_details": 168, "inet_details": 264, "netlink_details": 136,
-             "packet_details": 248, "vsock_header": 32, "xdp_details": 240, "error_details": 64,
-             "filter_details": 24}
+# Each struct with its size, and its fields with their offsets.
+LAYOUTS_1_0 = (TOP / "tests/api/layouts_1_0.txt").read_text("utf-8")
 CRATES = TOP / "crates"
 # A pkg-config that knows the library.
 PKG_CONFIG = """#!/bin/sh
@@ -112,12 +111,22 @@ def code_errors():
         [] if code else ["the header has no code of examples"])
 
 
-def size_errors():
-    """Returns the sizes of version 1.0 that the header does not have, as lines. A program that was
-    compiled with 1.0 passes structs of these sizes, so they never change in 1.N."""
-    found = {name.lower(): int(size) for name, size in
-             re.findall(r"#define SOCKDIAG_(\w+)_SIZE_1_0 (\d+)", HEADER)}
-    return [] if found == SIZES_1_0 else [f"the sizes of version 1.0 are {found}"]
+def layout_errors():
+    """Returns the structs that have not the layout of version 1.0, as lines. A program that was
+    compiled with 1.0 reads and writes the fields where they were then, so they never move in 1.N,
+    and passes the sizes that the header has in macros."""
+    library, found = Library(), []
+    passed = dict(re.findall(r"#define (\w+)_SIZE_1_0 (\d+)", HEADER))
+    structs = {BINDINGS["struct_in_c"](name): it for name, it in library.structs.items()}
+    lines = LAYOUTS_1_0.replace("\n    ", " ")
+    for struct, size, fields in re.findall(r"(?m)^(\w+) (\d+): (.*)", lines):
+        now = library.layout(structs[struct].fields) if struct in structs else {}
+        found += [f"{struct}.{name} was at {offset} in version 1.0"
+                  for name, offset in re.findall(r"(\w+) (\d+)", fields)
+                  if now.get(name) != int(offset)]
+        if passed.pop(struct.upper(), size) != size:
+            found.append(f"{struct} had {size} bytes in version 1.0")
+    return found + [f"the size of an unknown struct: {it}" for it in passed]
 
 
 def missing_errors():
@@ -231,7 +240,7 @@ def compile_c(compiler):
 
 
 def main():
-    checks = [comment_errors, code_errors, number_errors, size_errors, missing_errors,
+    checks = [comment_errors, code_errors, number_errors, layout_errors, missing_errors,
               version_errors]
     if shutil.which("make"):
         checks.append(make_errors)

@@ -125,6 +125,9 @@ ADDED = re.compile(
       | ^impl\ core::fmt::Display\ for\ (?s:.*?)^impl\ core::error::Error\ for\ \w+\ \{\}$""",
     re.M | re.X,
 )
+# Sources, and what is left of them without the first token: not the comments above it, but the
+# spaces at the ends of other lines.
+REMOVED_FIRST = [("// of a\na\nb", "b\n"), ('a\n"b \n"', '"b \n"\n')]
 # Forms that the script has to refuse.
 REFUSED = [
     "fn f() { g().unwrap! {} }",
@@ -286,6 +289,17 @@ def broken_promises(written):
             yield f"c_api.rs: {length} is the length of {name}"
 
 
+def source_errors():
+    """Yields what is wrong with sources of which something is removed, and with their tokens."""
+    for text, expected in REMOVED_FIRST:
+        source = eraser.Source(text)
+        source.remove(0, 0)
+        if source.result() != expected:
+            yield f"{text!r} without its first token is {source.result()!r}"
+    if eraser.Source("a\t\r\nb").texts != ["a", "b"]:
+        yield "white space is a token"
+
+
 def accepted_forms():
     """Yields the forms that tools/erase has to refuse and accepts."""
     for text in REFUSED:
@@ -320,7 +334,7 @@ def main():
         wrong += (f"{name}: {it}" for it in lost_documentation(text, erased))
         sides = without(tokens, laws), tokens_of(ADDED.sub("", erased))
         wrong += differences(name, crate, *sides, counts)
-    wrong += [*broken_promises(written), *accepted_forms()]
+    wrong += [*broken_promises(written), *source_errors(), *accepted_forms()]
     for name, (_, old, new) in enumerate(ALL_CHANGES):
         print(f"{counts[name]:4} times {old or 'nothing':.40} became {new or 'nothing':.40}")
     print(*wrong, f"tests/erased.py: {len(wrong)} errors", sep="\n")

@@ -115,9 +115,9 @@ CFLAGS="$*" SOCKDIAG_LIBRARY="$library" "$top/tests/api/compare_replies.sh"
 # attribute does not hide its socket. Netlink and packet sockets are requested only without
 # arguments.
 build fake_list "$top/examples/list_sockets.c" "$top/tests/api/fake_kernel.c" "$@"
-"$work/fake_list" >"$work/found" 2>"$work/errors" && exit 1
-"$work/fake_list" -l >>"$work/found" 2>>"$work/errors" && exit 1
-"$work/fake_list" 65535 >>"$work/found" 2>>"$work/errors" && exit 1
+timeout 60 "$work/fake_list" >"$work/found" 2>"$work/errors" && exit 1
+timeout 60 "$work/fake_list" -l >>"$work/found" 2>>"$work/errors" && exit 1
+timeout 60 "$work/fake_list" 65535 >>"$work/found" 2>>"$work/errors" && exit 1
 sort "$work/errors" | uniq -c | sed 's/^ *//' >>"$work/found"
 diff "$work/found" /dev/fd/3 3<<'END'
 unix type 1 state 7 inode 2
@@ -142,7 +142,7 @@ for arguments in 0 65536 443x -x '' ' 5' +80 -1 -18446744073709551536 1844674407
     (
         IFS=/
         # shellcheck disable=SC2086 # Each part is an argument.
-        exec "$work/fake_list" ${arguments:-''} >"$work/found" 2>"$work/errors"
+        exec timeout 60 "$work/fake_list" ${arguments:-''} >"$work/found" 2>"$work/errors"
     ) || status=$?
     if [ "$status" -ne 2 ] || [ -s "$work/found" ] ||
         ! grep -q '^usage: .* from 1 to 65535$' "$work/errors"; then
