@@ -345,6 +345,8 @@ ROWS = [
         (("tools/install", "usage: tools/install PREFIX", "planted"),), needs="cc make pkg-config"),
     Row("tools/bindings --check", ("-planted", "include/sockdiag.h is out of date"),
         (("include/sockdiag.h", "", "planted\n"),)),
+    Row("tools/bindings --check", ("+/* planted@example.org */",),
+        (("tools/templates/sockdiag.h.in", "", "/* planted@example.org */\n"),)),
     Row("tools/bindings --check", ("tools/templates/sockdiag.h.in lacks VegasInfo",),
         (("tools/templates/sockdiag.h.in", "@struct VegasInfo\n", ""),)),
     Row("tools/bindings --planted", ("tools/bindings [--check]: writes include/sockdiag.h",)),

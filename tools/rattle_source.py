@@ -141,8 +141,8 @@ class Source:
 
 
 def tidied(text):
-    """Returns a text without the lines that only had removed text, without the blank lines around
-    these, and with `{}` in place of brackets in which nothing is left."""
+    """Returns a text without the lines that only had removed text, without surplus blank lines
+    around these, and with `{}` in place of brackets in which nothing is left."""
     lines, is_after_removed = [], False
     for line in text.split("\n"):
         if REMOVED in line:
