@@ -85,7 +85,7 @@ cmp "$built/libsockdiag_c.so" "$work/other/target/release/libsockdiag_c.so"
 objdump -d --no-show-raw-insn "$built/libsockdiag_c.so" >"$work/code"
 panics=$(grep -cE 'call.*(panic|_fail)' "$work/code") || :
 echo "erased: the C library calls a function that panics at $panics places"
-case $(rustc --version) in 'rustc 1.95.'*) [ "$panics" -le 128 ] || exit 1 ;; esac
+case $(rustc --version) in 'rustc 1.95.'*) [ "$panics" -le 107 ] || exit 1 ;; esac
 grep -q 'call.*overflow' "$work/code" || { echo "erased: overflow is not checked" >&2; exit 1; }
 
 # Cargo adds objects of Rust's own library, of which the one of the library needs nothing.

@@ -61,14 +61,14 @@ impl<'a> NlaBuffer<'a> {
         if left < NLA_HEADER_SIZE {
             return Err(DecodeError::AttributeHeaderCut { left });
         }
-        NlaBuffer::after_header(bytes, left - NLA_HEADER_SIZE)
+        NlaBuffer::after_header(bytes)
     }
 
-    // Parses the attribute at the start of the bytes, which are a whole header and `most` further
-    // bytes. Both fields of the header are one load, and both bounds of the length one test.
+    // Parses the attribute at the start of the bytes, which have a whole header. Both fields of the
+    // header are one load, and both bounds of the length one test.
     #[inline(always)]
-    fn after_header(bytes: &'a [u8], most: usize) -> Result<NlaBuffer<'a>, DecodeError>
-        requires { length bytes.now ≡ 4 + most }
+    fn after_header(bytes: &'a [u8]) -> Result<NlaBuffer<'a>, DecodeError>
+        requires { 4 ≤ length bytes.now }
         ensures { MatchResult result
             (λ buffer. HasAttributePrefix bytes.entry.now (buffered_attribute buffer))
             (IsFramingError bytes.entry.now) }
@@ -76,10 +76,10 @@ impl<'a> NlaBuffer<'a> {
         let header = LittleEndian::read_u32(bytes);
         let length = (header & 0xffff) as usize;
         let value_len = length.wrapping_sub(NLA_HEADER_SIZE);
-        if value_len > most {
+        let after = &bytes[NLA_HEADER_SIZE..];
+        if value_len > after.len() {
             return Err(length_error(bytes));
         }
-        let after = &bytes[NLA_HEADER_SIZE..];
         Ok(NlaBuffer {
             type_word: (header >> 16) as u16,
             value: &after[..value_len],
@@ -228,10 +228,10 @@ impl<'a> Iterator for NlasIterator<'a> {
             self.at = len;
             return Some(Err(DecodeError::AttributeHeaderCut { left }));
         }
-        let most = len - NLA_HEADER_SIZE - self.at;
-        match NlaBuffer::after_header(&self.bytes[self.at..], most) {
+        match NlaBuffer::after_header(&self.bytes[self.at..]) {
             Ok(nla) => {
-                self.at += padded(nla.length() as usize);
+                // The sum does not wrap: the offset is at most `isize::MAX`, as that of each slice.
+                self.at = self.at.wrapping_add(padded(nla.length() as usize));
                 Some(Ok(nla))
             }
             Err(error) => {
