@@ -201,7 +201,12 @@ impl<'a> NlaView<'a> {
         let value = nla.value();
         Ok(match nla.kind() {
             UNIX_DIAG_NAME => NlaView::Name(NameView::parse(value)?),
-            UNIX_DIAG_VFS => NlaView::Vfs(Vfs::parse(value)?),
+            UNIX_DIAG_VFS => {
+                // As two numbers: a whole `Vfs` is copied through the memory of the enum, which
+                // then is set to zeros for each attribute.
+                let file = Vfs::parse(value)?;
+                NlaView::Vfs(Vfs::new(file.inode(), file.device()))
+            }
             UNIX_DIAG_PEER => NlaView::Peer(exact_u32(UNIX_DIAG_PEER, value)?),
             UNIX_DIAG_ICONS => NlaView::PendingConnections(NumbersView::parse(value)?),
             UNIX_DIAG_RQLEN => {

@@ -64,6 +64,15 @@ impl Fills<VFS_LEN> for Vfs {
 }
 
 impl Vfs {
+    /// Returns the file with this inode number (`udiag_vfs_ino`) on this device (`udiag_vfs_dev`).
+    #[inline(always)]
+    pub fn new(inode: u32, device: u32) -> Self
+        ensures inode { result.inode ≡ inode }
+        ensures device { result.device ≡ device }
+    {
+        Vfs { inode, device }
+    }
+
     /// Parses the first 8 bytes, and ignores the bytes after them. Fewer bytes are
     /// [`DecodeError::BufferTooSmall`].
     pub fn parse(payload: &[u8]) -> Result<Self, DecodeError>
