@@ -175,10 +175,7 @@ pub(crate) fn fill_details<'a, T: ReplyDetails<'a>>(
 {
     let (mut found, attributes) = T::parse_header(payload)?;
     if !set_valid_values(attributes, &mut found) {
-        found.clear_values();
-        let mut errors = Errors::default();
-        set_values(attributes, &mut found, &mut errors);
-        if let Some(error) = errors.first {
+        if let Some(error) = set_values(attributes, &mut found).first {
             return Err(error);
         }
     }
@@ -208,14 +205,11 @@ pub(crate) fn store_lenient_details<'a, T: ReplyDetails<'a>>(
     copy_padded(&[], later);
     // The struct of the caller is filled in place: it is not copied.
     *details = found;
-    if set_valid_values(attributes, details) {
-        *rejections = Rejections::default();
+    *rejections = if set_valid_values(attributes, details) {
+        Rejections::default()
     } else {
-        details.clear_values();
-        let mut errors = Errors::default();
-        set_values(attributes, details, &mut errors);
-        *rejections = errors.rejections;
-    }
+        set_values(attributes, details).rejections
+    };
     OK
 }
 
@@ -225,7 +219,7 @@ pub(crate) fn store_lenient_details<'a, T: ReplyDetails<'a>>(
 //
 // Most replies have no error, and a loop that stores none takes fewer instructions. A reply with an
 // error is read once more, by `set_values`.
-#[inline(never)]
+#[inline(always)]
 fn set_valid_values<'a, T: ReplyDetails<'a>>(bytes: &'a [u8], details: &mut T) -> bool
     ensures header { T.family.header details.new ≡ T.family.header details.old }
     // If the details have no values (`[]`) before the call, they have those of all attributes after
@@ -247,23 +241,21 @@ fn set_valid_values<'a, T: ReplyDetails<'a>>(bytes: &'a [u8], details: &mut T) -
     true
 }
 
-// Reads each attribute up to a framing error. Sets the fields of the valid ones, unless they are
-// set already, and returns the errors of the others. The details have to be without values before
-// the call, as `parse_header` returns them.
+// Sets the fields of the valid attributes up to a framing error, and all other fields except the
+// header to zeros. Returns the errors of the other attributes.
 #[inline(never)]
-fn set_values<'a, T: ReplyDetails<'a>>(bytes: &'a [u8], details: &mut T, errors: &mut Errors)
-    // If the details have no values (`[]`) before the call: `parts` are the header that they have,
-    // and the attributes and the framing error of the bytes. After the call the details have the
-    // values of these attributes, and the errors have their codes and the first one.
-    ensures { HasValues T.family.read T.family.rows details.old []
-        → (parts : ReplyParts T.family.Header)
+fn set_values<'a, T: ReplyDetails<'a>>(bytes: &'a [u8], details: &mut T) -> Errors
+    // `parts` are the header of the details, and the attributes and the framing error of the bytes.
+    // The details get the values of these attributes, and the errors are theirs.
+    ensures { (parts : ReplyParts T.family.Header)
         × SplitsWithError parts.attributes parts.framing_error bytes.entry.now
         × (parts.header ≡ T.family.header details.old)
         × HasHeaderAndValuesOf T.family details.new parts
-        × HasRejections T.family errors.new.rejections parts
-        × (errors.new.first ≡ first_error T.family parts) }
+        × HasRejections T.family result.rejections parts
+        × (result.first ≡ first_error T.family parts) }
 {
-    *errors = Errors::default();
+    details.clear_values();
+    let mut errors = Errors::default();
     for item in NlasIterator::new(bytes) {
         match item {
             Ok(nla) => match T::read(&nla) {
@@ -273,8 +265,9 @@ fn set_values<'a, T: ReplyDetails<'a>>(bytes: &'a [u8], details: &mut T, errors:
             Err(error) => {
                 errors.rejections.framing = u32::from(error.number());
                 errors.add(error);
-                return;
+                return errors;
             }
         }
     }
+    errors
 }

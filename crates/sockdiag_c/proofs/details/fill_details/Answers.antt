@@ -8,8 +8,8 @@ use Rattle.sockdiag_c.proofs.details.fill_details.Goals as goal
 pub returns-in-Some-clause-error : goal.returns-in-Some-clause-error
 returns-in-Some-clause-error g c =
     let head = c.in_ok-found.ensures in
-    let parts = c.set_values.ensures c.clear_values.ensures.values in
-    let header = parts.2 ∙ c.clear_values.ensures.header ∙ c.set_valid_values.ensures.header in
+    let parts = c.set_values.ensures in
+    let header = parts.2 ∙ c.set_valid_values.ensures.header in
     inr (
       parts.0,
       are_parts g.T.ReplyDetails.family _ _ _ parts.0 head.header head.rest parts.1 header,
@@ -19,8 +19,8 @@ returns-in-Some-clause-error g c =
 pub returns-in_default-clause-details : goal.returns-in_default-clause-details
 returns-in_default-clause-details g c =
     let head = c.in_ok-found.ensures in
-    let parts = c.set_values.ensures c.clear_values.ensures.values in
-    let header = parts.2 ∙ c.clear_values.ensures.header ∙ c.set_valid_values.ensures.header in (
+    let parts = c.set_values.ensures in
+    let header = parts.2 ∙ c.set_valid_values.ensures.header in (
       parts.0,
       are_parts g.T.ReplyDetails.family _ _ _ parts.0 head.header head.rest parts.1 header,
       sym parts.5 ∙ none_if_not_some _ c.in_default.not-Some,

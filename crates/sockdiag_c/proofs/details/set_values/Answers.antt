@@ -12,12 +12,12 @@ use Rattle.sockdiag_c.proofs.Rows.{until_framing_error, values_after, values_unc
 use Rattle.sockdiag_c.proofs.details.set_values.Goals as goal
 
 pub loop-item-init : goal.loop-item-init
-loop-item-init g c = let none = c.default.ensures in record {
+loop-item-init g c = let none = c.default-errors.ensures in record {
   so_far = [];
   walk = no_attributes_yet _ _
       (rw (c.into_iter-item-iterator.ensures.into_iter_gives, c.new-item-items.ensures) refl);
-  header = refl;
-  values = λ values. values;
+  header = c.clear_values.ensures.header;
+  values = c.clear_values.ensures.values;
   first = none.0;
   code = none.1.0 ∙ sym (ap optional_code none.0);
   framing = none.1.1.0;
@@ -36,8 +36,8 @@ loop-item-preserved-in-Ok-read g c =
       so_far = inv.so_far ++ a ∷ [];
       walk = one_more_attribute _ _ _ a inv.so_far start inv.walk;
       header = c.set.ensures.header ∙ inv.header;
-      values = λ values. values_after family.read family.rows _ _ inv.so_far a _ is
-          c.set.ensures.values (inv.values values);
+      values = values_after family.read family.rows _ _ inv.so_far a _ is c.set.ensures.values
+          inv.values;
       first = inv.first ∙ first_unchanged (value_error family) inv.so_far a fine;
       code = inv.code;
       framing = inv.framing;
@@ -58,8 +58,7 @@ loop-item-preserved g c =
       so_far = inv.so_far ++ a ∷ [];
       walk = one_more_attribute _ _ _ a inv.so_far start inv.walk;
       header = inv.header;
-      values = λ values. values_unchanged family.read family.rows _ inv.so_far a e is
-          (inv.values values);
+      values = values_unchanged family.read family.rows _ inv.so_far a e is inv.values;
       first = c.add_value.ensures.first ∙ first_after (value_error family) inv.so_far a _ e
           inv.first error;
       code = c.add_value.ensures.code inv.code;
@@ -70,7 +69,7 @@ loop-item-preserved g c =
     }
 
 pub returns-in-Err : goal.returns-in-Err
-returns-in-Err g c = λ values.
+returns-in-Err g c =
     let family = g.T.ReplyDetails.family in
     let inv = c.loop-item.invariant in
     let e = c.in-Err.error in
@@ -84,7 +83,7 @@ returns-in-Err g c = λ values.
       },
       until_framing_error _ _ inv.so_far e stop.0 stop.1 inv.walk,
       refl,
-      (inv.header, inv.values values),
+      (inv.header, inv.values),
       (
         c.add.ensures.code inv.code ∙ ap optional_code first,
         c.add.ensures.others.0 ∙ c.from-errors.ensures ∙ c.number.ensures,
@@ -95,7 +94,7 @@ returns-in-Err g c = λ values.
     )
 
 pub returns : goal.returns
-returns g c = λ values.
+returns g c =
     let family = g.T.ReplyDetails.family in
     let inv = c.loop-item.invariant in
     let first = inv.first ∙ sym (or_none _) in (
@@ -106,7 +105,7 @@ returns g c = λ values.
       },
       all_attributes _ _ inv.so_far c.in-None.ensures.steps.0 inv.walk,
       refl,
-      (inv.header, inv.values values),
+      (inv.header, inv.values),
       (inv.code ∙ ap optional_code first, inv.framing, inv.kinds),
       first,
     )

@@ -1,4 +1,4 @@
-use Rattle.std.specs.Prelude.{◌≡◌, ◌<◌, ℕ, List, [], slice_index}
+use Rattle.std.specs.Prelude.{◌≡◌, ◌<◌, ℕ, List, slice_index}
 use Rattle.netlink_core.specs.Attribute.{Attribute}
 use Rattle.netlink_core.specs.Walk.{unread_bytes}
 use Rattle.sock_diag_replies.specs.UnixGetters.{first_content_of}
@@ -13,8 +13,7 @@ invariant-loop-item g l = record {
   so_far : List Attribute;
   walk : AttributesSoFar l.bytes (unread_bytes l.item-iterator) so_far;
   header : g.T.ReplyDetails.family.header l.details ≡ g.T.ReplyDetails.family.header l.fn.details;
-  values : HasValues g.T.ReplyDetails.family.read g.T.ReplyDetails.family.rows l.fn.details []
-      → HasValues g.T.ReplyDetails.family.read g.T.ReplyDetails.family.rows l.details so_far;
+  values : HasValues g.T.ReplyDetails.family.read g.T.ReplyDetails.family.rows l.details so_far;
   first : l.errors.first ≡ first_content_of (value_error g.T.ReplyDetails.family) so_far;
   code : l.errors.rejections.first ≡ optional_code l.errors.first;
   framing : l.errors.rejections.framing ≡ 0;

@@ -38,8 +38,8 @@ pub returns-else-set_valid_values : goal.returns-else-set_valid_values
 returns-else-set_valid_values g c = (
   λ ok.
       let head = c.in-Ok.ensures in
-      let parts = c.set_values.ensures c.clear_values.ensures.values in
-      let header = parts.2 ∙ c.clear_values.ensures.header ∙ c.set_valid_values.ensures.header in (
+      let parts = c.set_values.ensures in
+      let header = parts.2 ∙ c.set_valid_values.ensures.header in (
         (
           parts.0,
           are_parts g.T.ReplyDetails.family _ _ _ parts.0 head.header head.rest parts.1 header,
