@@ -61,6 +61,9 @@ CHANGES = [
     ("", r"let alloc = \* \w+ \. allocator \( \) ;", ""),
     (r"vec ! \[|format ! \(", "in alloc ;", ""),
     ("MadeWith", "< Global >", ""),
+    ("", r"(?:# \[ inline \( always \) \] )?fn made_with \( _alloc : Global \) -> Self",
+     "const MADE : Self ="),
+    (r"\) \}", "", r";(?= \})"),
     ("", "use std :: alloc :: Global ;", ""),
     ("std ::", "alloc :: Global ; use std ::", ""),
     ("std :: alloc ::", r"\{ AllocError , Global \}", "AllocError"),
@@ -298,6 +301,12 @@ def source_errors():
             yield f"{text!r} without its first token is {source.result()!r}"
     if eraser.Source("a\t\r\nb").texts != ["a", "b"]:
         yield "white space is a token"
+    try:
+        eraser.Source("a\n\nb(\nc\n").closing(2)
+        yield "a bracket that is not closed is closed"
+    except SyntaxError as error:
+        if str(error) != "line 3: the bracket is not closed":
+            yield f"a bracket of line 3 that is not closed: {error}"
 
 
 def accepted_forms():

@@ -21,7 +21,7 @@ use Data::{Heap, Inline};
 impl<T: MadeWith, const N: usize> SmallVec<T, N> {
     /// Returns an empty vector, without an allocation.
     pub fn new() -> Self {
-        SmallVec(Inline(core::array::from_fn(|_| T::made_with()), 0))
+        SmallVec(Inline([const { T::MADE }; N], 0))
     }
 
     /// Returns an empty vector with this capacity. Allocates only if it is above `N`.
@@ -41,7 +41,7 @@ impl<T: MadeWith, const N: usize> SmallVec<T, N> {
             Inline(slots, used) => {
                 let mut items = Vec::with_reserved(used.checked_add(count).ok_or(AllocError)?)?;
                 for slot in &mut slots[..*used] {
-                    items.push_reserved(replace(slot, T::made_with()));
+                    items.push_reserved(replace(slot, T::MADE));
                 }
                 self.0 = Heap(items);
                 Ok(())
@@ -54,7 +54,7 @@ impl<T: MadeWith, const N: usize> SmallVec<T, N> {
         match &mut self.0 {
             Heap(items) => items.clear(),
             Inline(slots, used) => {
-                slots[..*used].fill_with(T::made_with);
+                slots[..*used].fill_with(|| T::MADE);
                 *used = 0;
             }
         }
@@ -84,7 +84,7 @@ impl<T: MadeWith, const N: usize> SmallVec<T, N> {
             Heap(items) => items.pop(),
             Inline(slots, used) => {
                 *used = used.checked_sub(1)?;
-                Some(replace(&mut slots[*used], T::made_with()))
+                Some(replace(&mut slots[*used], T::MADE))
             }
         }
     }

@@ -28,7 +28,7 @@ pub mod convert {
 pub mod default {
     /// A type with a value for slots that are not used.
     pub trait MadeWith {
-        fn made_with() -> Self;
+        const MADE: Self;
     }
 }
 
