@@ -23,7 +23,7 @@ static inline int fail(const char *what) {
 
 /* Opens /dev/null in place of standard input and of standard error if they are closed: a socket or
  * a pipe would get their numbers, and the kernel would receive what is written there. Returns 0, or
- * -1 if standard output is closed. */
+ * -1 if standard output is closed or a call fails. */
 static inline int open_streams(void) {
     int stream;
     for (stream = STDIN_FILENO; stream <= STDERR_FILENO; stream++) {

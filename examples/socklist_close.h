@@ -86,8 +86,8 @@ static int store_target(void *context, const char *object) {
     return -1;
 }
 
-/* Asks on the terminal whether sockets shall be closed. Returns 1 if the answer begins with y, or
- * else 0. */
+/* Asks on the terminal whether sockets shall be closed. Returns 1 if the answer begins with y or
+ * Y, else 0. */
 static int is_wanted(size_t count) {
     FILE *terminal = fopen("/dev/tty", "r+e");
     int answer;

@@ -11,7 +11,7 @@
  * 4. Parse the payload of each message of type SOCK_DIAG_BY_FAMILY by the lenient call of its
  *    family, the first byte, such as sockdiag_inet_get_lenient_details.
  * A payload is the bytes of a message after its netlink header. dump.h of the examples does the
- * steps 1 to 3.
+ * steps 1 to 3, except that its caller writes the request.
  *
  * Each call returns 0 (SOCKDIAG_OK) if it has succeeded, or a positive code, which
  * sockdiag_error_text takes. Calls with _next_ in their names iterate: they return SOCKDIAG_ITEM,
@@ -474,7 +474,7 @@ enum sockdiag_tcp_value {
     SOCKDIAG_TCPI_OPT_USEC_TS = 64,   /* Timestamps of segments are in microseconds. Since Linux
                                          6.7. */
     SOCKDIAG_TCPI_OPT_TFO_CHILD = 128 /* The connection was opened by a received fast open
-                                         request. Since Linux 6.14. */
+                                         request. Since Linux 6.16. */
 };
 
 /* Flags of an MPTCP connection. */

@@ -112,7 +112,7 @@ def code_errors():
 
 
 def layout_errors():
-    """Returns the structs that have not the layout of version 1.0, as lines. A program that was
+    """Returns the fields and sizes that are not those of version 1.0, as lines. A program that was
     compiled with 1.0 reads and writes the fields where they were then, so they never move in 1.N,
     and passes the sizes that the header has in macros."""
     library, found = Library(), []

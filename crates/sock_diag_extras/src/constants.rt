@@ -294,7 +294,7 @@ pub const NLMSG_MIN_TYPE: u16 = 16;
 /// Timestamps of segments are in microseconds. Since Linux 6.7.
 pub const TCPI_OPT_USEC_TS: u8 = 64;
 
-/// The connection was opened by a received fast open request. Since Linux 6.14.
+/// The connection was opened by a received fast open request. Since Linux 6.16.
 pub const TCPI_OPT_TFO_CHILD: u8 = 128;
 
 /// A connection request was received. Replies have `TCP_SYN_RECV` for this state.
