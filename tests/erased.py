@@ -63,7 +63,7 @@ CHANGES = [
     ("MadeWith", "< Global >", ""),
     ("", r"(?:# \[ inline \( always \) \] )?fn made_with \( _alloc : Global \) -> Self",
      "const MADE : Self ="),
-    (r"\) \}", "", r";(?= \})"),
+    (r"-> Self \{ Nla :: Peer \( 0 \) \}|, send_queue : 0 , \} \) \}", "", r";(?= \})"),
     ("", "use std :: alloc :: Global ;", ""),
     ("std ::", "alloc :: Global ; use std ::", ""),
     ("std :: alloc ::", r"\{ AllocError , Global \}", "AllocError"),
