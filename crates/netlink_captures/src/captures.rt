@@ -393,7 +393,7 @@ pub(crate) fn read_bytes<R: Source>(
         ⊎ ((length part < count)
         × IsInputStop (stopped_input (R.left input.new) (R.failed input.new) part) e))) }
 {
-    bytes.clear();
+    // Only bytes past the former content are filled with zeros, and all are overwritten.
     bytes.resize(count, 0)?;
     fill(input, bytes.as_mut_slice())
 }

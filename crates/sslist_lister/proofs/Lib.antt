@@ -10,6 +10,7 @@ pub mod FactItems
 pub mod HeaderLines
 pub mod Rows
 pub mod CellWidths
+pub mod HexDigits
 pub mod RecordLists
 pub mod JsonNames
 pub mod Choosing

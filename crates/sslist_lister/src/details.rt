@@ -17,7 +17,7 @@ use crate::collected::{Attributes, Valid};
 use crate::command_line::{Detail, Options};
 use crate::facts::Status;
 use crate::kinds::reason_of;
-use crate::texts::cells::push_number;
+use crate::texts::cells::push_after;
 use crate::texts::parts::{push_pair, push_shown_cookie, push_shown_timer, separator};
 use netlink_core::{DecodeError, NlaBuffer};
 use sock_diag_extras::any::{AnyNla, RawTimer, Sockets};
@@ -174,10 +174,8 @@ fn push_invalid(
     ensures { OnOk result (text.new.items ≡ text.old.items
         ++ invalid_attribute_text (buffered_attribute nla.now) error.now) }
 {
-    text.extend_from_slice(b" unread:(")?;
-    push_number(text, nla.kind().into())?;
-    text.push(b',')?;
-    push_number(text, nla.value().len() as u64)?;
+    push_after(text, b" unread:(", nla.kind().into())?;
+    push_after(text, b",", nla.value().len() as u64)?;
     text.push(b',')?;
     text.extend_from_slice(reason_of(error).as_bytes())?;
     Ok(text.push(b')')?)

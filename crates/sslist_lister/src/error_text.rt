@@ -7,7 +7,7 @@ ghost use Rattle.sslist_lister.specs.Diagnostics.{record_text};
 ghost use Rattle.sslist_lister.specs.private.Sentence.{sentence_text, subject_text};
 
 use crate::list::Diagnostic;
-use crate::texts::cells::push_number;
+use crate::texts::cells::push_after;
 use netlink_core::{DecodeError, RecordName};
 use std::alloc::AllocError;
 
@@ -94,8 +94,7 @@ fn push_one(text: &mut Vec<u8>, before: &[u8], number: u64, after: &[u8]) -> Res
     ensures { OnOk result (text.new.items
         ≡ text.old.items ++ (before.now ++ (decimal number ++ after.now))) }
 {
-    text.extend_from_slice(before)?;
-    push_number(text, number)?;
+    push_after(text, before, number)?;
     text.extend_from_slice(after)
 }
 

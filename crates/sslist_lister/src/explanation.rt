@@ -15,7 +15,7 @@ ghost use Rattle.sslist_lister.specs.Messages.{message_parts};
 
 use crate::messages::Message;
 use crate::request_line::push_request_note;
-use crate::texts::cells::{push_escaped_byte, push_number};
+use crate::texts::cells::{push_after, push_escaped_byte};
 use crate::ulp_info::{find_number, find_value};
 use netlink_core::{NLMSG_DONE, NLMSG_ERROR, text_bytes};
 use sock_diag_extras::AckView;
@@ -158,7 +158,6 @@ fn push_offset(text: &mut Vec<u8>, offset: Option<u64>) -> Result<(), AllocError
     let Some(offset) = offset else {
         return Ok(());
     };
-    text.extend_from_slice(b" (offset ")?;
-    push_number(text, offset)?;
+    push_after(text, b" (offset ", offset)?;
     Ok(text.push(b')')?)
 }

@@ -27,7 +27,7 @@ use crate::number_names::{
     name_of_cipher, name_of_fanout_mode, name_of_mode, name_of_version, push_flag_letters,
 };
 use crate::records::{ShownRecord, push_records, write_records};
-use crate::texts::cells::{push_hex, push_number};
+use crate::texts::cells::{push_after, push_hex};
 use crate::texts::json_writing::{begin_member, write_flag, write_optional, write_text};
 use crate::texts::names::push_shown;
 use crate::texts::parts::push_directions;
@@ -541,14 +541,6 @@ fn push_named(
         }
         None => push_after(text, before, number),
     }
-}
-
-/// Appends the text `before`, and a number in decimal.
-fn push_after(text: &mut Vec<u8>, before: &[u8], number: u64) -> Result<(), AllocError>
-    ensures { OnOk result (text.new.items ≡ text.old.items ++ before.now ++ decimal number) }
-{
-    text.extend_from_slice(before)?;
-    push_number(text, number)
 }
 
 /// Appends each number in decimal: the first one after the text `before`, and each later one after

@@ -29,7 +29,6 @@ use json::Writer;
 use netlink_core::NlaBuffer;
 use sock_diag_extras::any::Sockets;
 use std::alloc::{AllocError, Global};
-use std::mem;
 
 /// The header of a reply, which can be written as JSON.
 pub(crate) trait JsonHeader {
@@ -43,8 +42,13 @@ pub(crate) trait JsonHeader {
             ++ members_tokens (json_members self.now)) };
 }
 
+/// Number of bytes that suffices for most lines.
+const MOST_LINES: usize = 2048;
+
 /// Appends the line of a socket with this header and these attributes, in the list of this number:
 /// a JSON object without spaces, and a line feed.
+// Inlined, its local variables would make the lines of the table slower.
+#[inline(never)]
 pub(crate) fn push_json<H: JsonHeader>(
     text: &mut Vec<u8>,
     list: u64,
@@ -60,10 +64,10 @@ pub(crate) fn push_json<H: JsonHeader>(
         OnOk result (tokens (json_text object) ≡ json_tokens object) }
 {
     let alloc = *text.allocator();
-    // The writer owns the text while it appends to it.
-    let mut writer = Writer::new(mem::replace(text, Vec::new(alloc)));
+    // A writer fills as much memory with zeros as its text has bytes, so it gets only this line.
+    let mut writer = Writer::new(Vec::with_capacity(alloc, MOST_LINES)?);
     write_object(alloc, &mut writer, list, header, found)?;
-    *text = writer.into_inner();
+    text.extend_from_slice(writer.into_inner().as_slice())?;
     Ok(text.push(b'\n')?)
 }
 

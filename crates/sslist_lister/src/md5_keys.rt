@@ -8,7 +8,7 @@ ghost use Rattle.sslist_lister.specs.Md5Keys.{key_byte, md5_key_members, md5_key
 ghost use Rattle.sslist_lister.specs.texts.JsonWriting.{KeepsPrefix, members_tokens};
 
 use crate::records::{ShownRecord, push_ip_or_star, write_ip};
-use crate::texts::cells::{push_digits, push_escaped_byte, push_number};
+use crate::texts::cells::{push_after, push_digits, push_escaped_byte};
 use crate::texts::json_writing::{write_numbers, write_text};
 use json::Writer;
 use sock_diag_extras::Md5Signature;
@@ -37,8 +37,7 @@ fn push_key(text: &mut Vec<u8>, key: &Md5Signature) -> Result<(), AllocError>
     ensures { OnOk result (text.new.items ≡ text.old.items ++ md5_key_text key.now) }
 {
     push_ip_or_star(text, key.ip())?;
-    text.push(b'/')?;
-    push_number(text, key.prefix_length.into())?;
+    push_after(text, b"/", key.prefix_length.into())?;
     text.push(b'=')?;
     push_key_bytes(text, key.used_key())
 }

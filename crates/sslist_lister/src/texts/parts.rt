@@ -7,7 +7,7 @@ ghost use Rattle.sslist_lister.specs.texts.Parts.{pair_detail, separator, timer_
 ghost use Rattle.sslist_lister.specs.texts.Parts.{timer_name, timer_text};
 
 use crate::command_line::{Detail, Options};
-use crate::texts::cells::{push_hex, push_number};
+use crate::texts::cells::{push_after, push_hex};
 use byteorder::{ByteOrder, LittleEndian};
 use sock_diag_extras::any::RawTimer;
 use std::alloc::AllocError;
@@ -60,10 +60,8 @@ fn push_timer(text: &mut Vec<u8>, timer: &RawTimer) -> Result<(), AllocError>
     }
     text.extend_from_slice(b" timer:(")?;
     text.extend_from_slice(name_of_timer(timer.kind))?;
-    text.push(b',')?;
-    push_number(text, timer.expires.into())?;
-    text.extend_from_slice(b"ms,")?;
-    push_number(text, timer.retransmits.into())?;
+    push_after(text, b",", timer.expires.into())?;
+    push_after(text, b"ms,", timer.retransmits.into())?;
     Ok(text.push(b')')?)
 }
 
@@ -132,10 +130,8 @@ pub(crate) fn push_pair(
 {
     text.push(b' ')?;
     text.extend_from_slice(name)?;
-    text.extend_from_slice(b":(")?;
-    push_number(text, first)?;
-    text.push(b',')?;
-    push_number(text, second)?;
+    push_after(text, b":(", first)?;
+    push_after(text, b",", second)?;
     Ok(text.push(b')')?)
 }
 
