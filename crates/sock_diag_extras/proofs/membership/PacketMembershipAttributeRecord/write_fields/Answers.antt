@@ -11,3 +11,9 @@ returns c =
     let address : c.copy_from_slice.new.self ≡ first_numbers 32 value.address =
     c.copy_from_slice.ensures.after ∙ sym (first_numbers_are_all 32 value.address long) in
     search rules
+
+pub write_u32_into-requires : goal.write_u32_into-requires
+write_u32_into-requires c = c.split_at_mut-words.ensures.front_len
+
+pub write_u16_into-requires : goal.write_u16_into-requires
+write_u16_into-requires c = c.split_at_mut-halves.ensures.front_len
