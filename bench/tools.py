@@ -144,12 +144,14 @@ def compare_ss():
     for capture, arguments in zip(recorded(), ("-xanem", "-tanioem")):
         count = len(replies(capture))
         given = {"LD_PRELOAD": replay, "REPLAY": str(capture)}
-        counts = (instructions([sslist], capture) / count,
-                  instructions([shutil.which("ss"), arguments], **given) / count)
-        times = cpu_time([sslist], capture), cpu_time(["ss", arguments], **given)
-        rows.append((f"{sockets(capture)}, `ss {arguments}`", f"{counts[0] / counts[1]:.2f}",
-                     *(f"{it:,.0f}" for it in counts),
-                     *(f"{time / count / 1000:.2f}" for time in times)))
+        other = instructions([shutil.which("ss"), arguments], **given), cpu_time(
+            ["ss", arguments], **given)
+        for form in (), ("--json",):
+            own = [it([sslist, *form], capture) for it in (instructions, cpu_time)]
+            name = " ".join((f"{sockets(capture)},", *(f"`{it}`," for it in form)))
+            rows.append((f"{name} `ss {arguments}`", f"{own[0] / other[0]:.2f}",
+                         *(f"{it / count:,.0f}" for it in (own[0], other[0])),
+                         *(f"{it / count / 1000:.2f}" for it in (own[1], other[1]))))
     print_table(rows, "cc --version", VALGRIND, "ss -V")
 
 
