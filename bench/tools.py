@@ -144,12 +144,10 @@ def compare_ss():
     for capture, arguments in zip(recorded(), ("-xanem", "-tanioem")):
         count = len(replies(capture))
         given = {"LD_PRELOAD": replay, "REPLAY": str(capture)}
-        other = instructions([shutil.which("ss"), arguments], **given), cpu_time(
-            ["ss", arguments], **given)
-        for form in (), ("--json",):
+        other = [it([shutil.which("ss"), arguments], **given) for it in (instructions, cpu_time)]
+        for form, name in ([], ""), (["--json"], "`--json`, "):
             own = [it([sslist, *form], capture) for it in (instructions, cpu_time)]
-            name = " ".join((f"{sockets(capture)},", *(f"`{it}`," for it in form)))
-            rows.append((f"{name} `ss {arguments}`", f"{own[0] / other[0]:.2f}",
+            rows.append((f"{sockets(capture)}, {name}`ss {arguments}`", f"{own[0] / other[0]:.2f}",
                          *(f"{it / count:,.0f}" for it in (own[0], other[0])),
                          *(f"{it / count / 1000:.2f}" for it in (own[1], other[1]))))
     print_table(rows, "cc --version", VALGRIND, "ss -V")
