@@ -1,6 +1,9 @@
 //! The value of `INET_DIAG_INFO`: the state of a TCP connection.
 
-ghost use Rattle.std.specs.Prelude.{◌≡◌, ⊤};
+ghost use Rattle.std.specs.Prelude.{◌≡◌, ◌++◌, ◌^◌, ⊤, length};
+ghost use Rattle.std.specs.List.{flat_map};
+ghost use Rattle.byteorder.specs.Endian.{little_bytes};
+ghost use Rattle.netlink_core.specs.Bytes.{AreAllBelow};
 ghost use Rattle.std.proofs.Common.{rules};
 ghost use Rattle.netlink_core.specs.Layout.{parse_record};
 ghost use Rattle.netlink_core.proofs.LayoutLaws.{record_laws};
@@ -269,27 +272,9 @@ impl Record for TcpInfo {
 
     #[tactic(auto, unfolding(crate::specs::TcpInfo::tcp_info))]
     fn write_fields(&self, buffer: &mut [u8]) {
-        let (u8s_at_0, rest) = buffer.split_at_mut(8);
-        let (u32s_at_8, rest) = rest.split_at_mut(36);
-        let (u32s_at_44, rest) = rest.split_at_mut(16);
-        let (u32s_at_60, rest) = rest.split_at_mut(32);
-        let (u32s_at_92, rest) = rest.split_at_mut(12);
-        let (u64s_at_104, rest) = rest.split_at_mut(32);
-        let (u32s_at_136, rest) = rest.split_at_mut(24);
-        let (u64s_at_160, rest) = rest.split_at_mut(32);
-        let (u32s_at_192, rest) = rest.split_at_mut(8);
-        let (u64s_at_200, u32s_at_216) = rest.split_at_mut(16);
-        write_bytes(&self.u8s_at_0(), u8s_at_0);
-        write_u32s(&self.u32s_at_8(), u32s_at_8);
-        write_u32s(&self.u32s_at_44(), u32s_at_44);
-        write_u32s(&self.u32s_at_60(), u32s_at_60);
-        write_u32s(&self.u32s_at_92(), u32s_at_92);
-        write_u64s(&self.u64s_at_104(), u64s_at_104);
-        write_u32s(&self.u32s_at_136(), u32s_at_136);
-        write_u64s(&self.u64s_at_160(), u64s_at_160);
-        write_u32s(&self.u32s_at_192(), u32s_at_192);
-        write_u64s(&self.u64s_at_200(), u64s_at_200);
-        write_u32s(&self.u32s_at_216(), u32s_at_216);
+        let (metrics, rates) = buffer.split_at_mut(104);
+        self.write_metrics(metrics);
+        self.write_rates(rates);
     }
 
     ghost laws = { record_laws tcp_info tcp_info_sound };
@@ -309,6 +294,62 @@ impl TcpInfo {
         ensures { result ≡ parse_record tcp_info tt payload.now }
     {
         read_record(payload, ())
+    }
+
+    // Writes the fields up to `total_retrans`, which end at offset 104.
+    #[inline(always)]
+    fn write_metrics(&self, buffer: &mut [u8])
+        requires { length buffer.old ≡ 104 }
+        ensures written { buffer.new ≡ u8s_at_0 self.now
+            ++ flat_map (little_bytes 4) (u32s_at_8 self.now)
+            ++ flat_map (little_bytes 4) (u32s_at_44 self.now)
+            ++ flat_map (little_bytes 4) (u32s_at_60 self.now)
+            ++ flat_map (little_bytes 4) (u32s_at_92 self.now) }
+        ensures in_range { AreAllBelow (2 ^ 8) (u8s_at_0 self.now)
+            × AreAllBelow (2 ^ 32) (u32s_at_8 self.now)
+            × AreAllBelow (2 ^ 32) (u32s_at_44 self.now)
+            × AreAllBelow (2 ^ 32) (u32s_at_60 self.now)
+            × AreAllBelow (2 ^ 32) (u32s_at_92 self.now) }
+    {
+        let (u8s_at_0, rest) = buffer.split_at_mut(8);
+        let (u32s_at_8, rest) = rest.split_at_mut(36);
+        let (u32s_at_44, rest) = rest.split_at_mut(16);
+        let (u32s_at_60, u32s_at_92) = rest.split_at_mut(32);
+        write_bytes(&self.u8s_at_0(), u8s_at_0);
+        write_u32s(&self.u32s_at_8(), u32s_at_8);
+        write_u32s(&self.u32s_at_44(), u32s_at_44);
+        write_u32s(&self.u32s_at_60(), u32s_at_60);
+        write_u32s(&self.u32s_at_92(), u32s_at_92);
+    }
+
+    // Writes the fields from `pacing_rate` on, at offset 104.
+    #[inline(always)]
+    fn write_rates(&self, buffer: &mut [u8])
+        requires { length buffer.old ≡ 128 }
+        ensures written { buffer.new ≡ flat_map (little_bytes 8) (u64s_at_104 self.now)
+            ++ flat_map (little_bytes 4) (u32s_at_136 self.now)
+            ++ flat_map (little_bytes 8) (u64s_at_160 self.now)
+            ++ flat_map (little_bytes 4) (u32s_at_192 self.now)
+            ++ flat_map (little_bytes 8) (u64s_at_200 self.now)
+            ++ flat_map (little_bytes 4) (u32s_at_216 self.now) }
+        ensures in_range { AreAllBelow (2 ^ 64) (u64s_at_104 self.now)
+            × AreAllBelow (2 ^ 32) (u32s_at_136 self.now)
+            × AreAllBelow (2 ^ 64) (u64s_at_160 self.now)
+            × AreAllBelow (2 ^ 32) (u32s_at_192 self.now)
+            × AreAllBelow (2 ^ 64) (u64s_at_200 self.now)
+            × AreAllBelow (2 ^ 32) (u32s_at_216 self.now) }
+    {
+        let (u64s_at_104, rest) = buffer.split_at_mut(32);
+        let (u32s_at_136, rest) = rest.split_at_mut(24);
+        let (u64s_at_160, rest) = rest.split_at_mut(32);
+        let (u32s_at_192, rest) = rest.split_at_mut(8);
+        let (u64s_at_200, u32s_at_216) = rest.split_at_mut(16);
+        write_u64s(&self.u64s_at_104(), u64s_at_104);
+        write_u32s(&self.u32s_at_136(), u32s_at_136);
+        write_u64s(&self.u64s_at_160(), u64s_at_160);
+        write_u32s(&self.u32s_at_192(), u32s_at_192);
+        write_u64s(&self.u64s_at_200(), u64s_at_200);
+        write_u32s(&self.u32s_at_216(), u32s_at_216);
     }
 
     // Returns the eight `u8` fields from offset 0 on.
