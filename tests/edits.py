@@ -16,6 +16,9 @@ has to reject one of the changed functions: a function that is not proved only b
 a function does not count. If an edit changes other text than functions, the functions of its module
 are checked. A line `# only:` in the edit names other functions or modules. The status is 0 if the
 prover rejects each edit. The edits of a crate in crates/*/must-fail are tried by `rt ci`.
+
+Edits of a crate that change only bodies, of different functions, are tried in one check: no proof
+depends on the body of another function. One that is not rejected there is tried again by itself.
 """
 
 import hashlib
@@ -28,6 +31,7 @@ import tempfile
 import threading
 import time
 from concurrent.futures import ThreadPoolExecutor
+from functools import cache
 from itertools import chain
 from pathlib import Path
 
@@ -36,6 +40,7 @@ from tidy import TOP, edited_files, text_files
 
 PARTS = ("src", "specs", "proofs")
 REJECTED = TOP / "out/edits-rejected"
+ONLY = "# only:"
 
 
 def words_of(type_, parameters):
@@ -69,7 +74,7 @@ def block_name(item):
     return words_of(type_, parameters) + words_of(trait, parameters)
 
 
-def functions_of(path, text):
+def functions_of(path, text, with_bodies=True):
     """Returns the text of each function of a file by the prover's name, such as
     `module::Type::function` or `module::TypeTrait::function`, and all other text by the name of the
     module."""
@@ -79,7 +84,8 @@ def functions_of(path, text):
         for it in item.members() if block else [item]:
             name = [module, block and block_name(item), it.name]
             name = "::".join(filter(None, name)) if it.kind == "fn" else module
-            parts[name] = parts.get(name, "") + it.text + "\n"
+            text = it.text if with_bodies or it.kind != "fn" else it.head
+            parts[name] = parts.get(name, "") + text + "\n"
             parts[module] = parts.get(module, "") + it.attributes
         if block:
             parts[module] = parts.get(module, "") + item.attributes + item.text[: item.start]
@@ -119,7 +125,7 @@ def what_is_checked(name, files):
     """Returns the changed files of an edit, the functions and modules that the prover checks, and
     why the edit cannot be tried, or ""."""
     changed, wrong = edited_files(crate_of(name), files[name], files)
-    only = re.findall(r"(?m)^# only: (.*)$", files[name])
+    only = re.findall(rf"(?m)^{ONLY} (.*)$", files[name])
     names = only[0].split() if only else changed_names(changed, files)
     if not wrong and (not names or "" in names):
         wrong = "changes the root of the crate: name a function in a line `# only:`"
@@ -131,6 +137,7 @@ def all_edits(files):
     return [name for name in files if re.match(r"tests/edits/\w+/[^/]+\.edit$", name)]
 
 
+@cache
 def libraries_below(crate):
     """Returns the libraries of this repository that a crate depends on."""
     run = subprocess.run([TOP / "tools/libraries", crate], stdout=subprocess.PIPE, text=True,
@@ -140,8 +147,8 @@ def libraries_below(crate):
 
 def sum_of(name, files):
     """Returns a sum of an edit and of the files that the prover reads for it."""
-    read = {f"crates/{crate}/{part}" for part in PARTS
-            for crate in [crate_of(name), *libraries_below(crate_of(name))]}
+    read = {f"crates/{crate}/{part}" for crate in [crate_of(name), *libraries_below(crate_of(name))]
+            for part in PARTS}
     read |= {name, "crates.txt", "LOGIC"}
     found = hashlib.sha256()
     for path in sorted(files):
@@ -150,9 +157,9 @@ def sum_of(name, files):
     return f"{name} {found.hexdigest()}"
 
 
-def was_rejected(edit):
-    """Returns whether an edit with this sum was rejected before."""
-    return REJECTED.exists() and edit in REJECTED.read_text("utf-8").splitlines()
+def rejected_before():
+    """Returns the sums of the edits that were rejected before."""
+    return REJECTED.read_text("utf-8").splitlines() if REJECTED.exists() else []
 
 
 def is_rejected(crate, names, output):
@@ -172,39 +179,65 @@ def check(crate, folder, names):
                           text=True, errors="replace")
 
 
-def try_edit(name, files, folder):
-    """Returns whether the prover rejects an edit in a copy of its crate, and prints what it said if
-    not. The copy is afterwards as it was before."""
-    crate = crate_of(name)
-    changed, names, wrong = what_is_checked(name, files)
-    if wrong:
-        print(f"{name}: {wrong}")
-        return False
-    edit = sum_of(name, files)
-    if was_rejected(edit):
-        print(f"{name}: was rejected before", flush=True)
-        return True
+def try_edits(names, files, folder):
+    """Returns those of these edits that the prover rejects in one check of a copy of their crate.
+    The copy is afterwards as it was before. If there is only one and it is not rejected, prints
+    what the prover said."""
+    crate, changed, checked = crate_of(names[0]), {}, {}
+    for name in names:
+        new, checked[name], wrong = what_is_checked(name, {**files, **changed})
+        if wrong:
+            print(f"{name}: {wrong}")
+            return []
+        changed.update(new)
     begin = time.monotonic()
     for path, text in changed.items():
         (folder / Path(path).relative_to(f"crates/{crate}")).write_text(text, "utf-8")
-    run = check(crate, folder, names)
+    run = check(crate, folder, chain.from_iterable(checked.values()))
     for path in changed:
         (folder / Path(path).relative_to(f"crates/{crate}")).write_text(files[path], "utf-8")
-    seconds = time.monotonic() - begin
-    if run.returncode == 1 and is_rejected(crate, names, run.stdout):
-        print(f"{name}: rejected, {seconds:.0f} seconds", flush=True)
-        REJECTED.parent.mkdir(exist_ok=True)
-        with REJECTED.open("a", encoding="utf-8") as rejected:
-            print(edit, file=rejected)
-        return True
-    said = re.sub(r"(?m)^(?:statements|logic) .*\n", "", run.stdout)[-2000:]
-    print(f"{name}: not rejected: {', '.join(names)}, status {run.returncode}:\n{said}", flush=True)
-    return False
+    print(f"{crate}: {len(names)} edits, {time.monotonic() - begin:.0f} seconds", flush=True)
+    rejected = [name for name in names
+                if run.returncode == 1 and is_rejected(crate, checked[name], run.stdout)]
+    REJECTED.parent.mkdir(exist_ok=True)
+    with REJECTED.open("a", encoding="utf-8") as found:
+        for name in rejected:
+            print(f"{name}: rejected", flush=True)
+            print(sum_of(name, files), file=found)
+    if not rejected and len(names) == 1:
+        said = re.sub(r"(?m)^(?:statements|logic) .*\n", "", run.stdout)[-2000:]
+        print(f"{names[0]}: not rejected: {', '.join(checked[names[0]])}, status "
+              f"{run.returncode}:\n{said}", flush=True)
+    return rejected
+
+
+def changes_only_bodies(changed, files):
+    """Returns whether files differ from those that they change only in bodies of functions."""
+    return all(path.endswith(".rt")
+               and functions_of(path, text, False) == functions_of(path, files[path], False)
+               for path, text in changed.items())
+
+
+def bodies_of_different_functions(names, files):
+    """Returns those of these edits that change only bodies, each of other functions."""
+    found, functions, current = [], set(), dict(files)
+    for name in names:
+        changed, checked, wrong = what_is_checked(name, current)
+        if (not wrong and ONLY not in files[name] and functions.isdisjoint(checked)
+                and changes_only_bodies(changed, current)):
+            found.append(name)
+            functions.update(checked)
+            current.update(changed)
+    return found
 
 
 def try_edits_of_crate(names, files):
     """Returns, for each of these edits of one crate, whether the prover rejects it."""
     crate = crate_of(names[0])
+    before = rejected_before()
+    rejected = [name for name in names if sum_of(name, files) in before]
+    for name in rejected:
+        print(f"{name}: was rejected before", flush=True)
     with tempfile.TemporaryDirectory() as copy:
         for part in PARTS:
             if (TOP / "crates" / crate / part).is_dir():
@@ -213,7 +246,14 @@ def try_edits_of_crate(names, files):
         proved = TOP / "crates" / crate / "out/incremental"
         if proved.is_dir():
             shutil.copytree(proved, Path(copy) / "proved")
-        return [try_edit(name, files, Path(copy)) for name in names]
+        left = [name for name in names if name not in rejected]
+        while len(together := bodies_of_different_functions(left, files)) > 1:
+            rejected += try_edits(together, files, Path(copy))
+            left = [name for name in left if name not in together]
+        for name in names:
+            if name not in rejected:
+                rejected += try_edits([name], files, Path(copy))
+    return [name in rejected for name in names]
 
 
 def are_rejected(groups, files):
@@ -286,7 +326,7 @@ def edits_of(words, edits):
         if not named:
             return None
         found += named
-    return found
+    return [*dict.fromkeys(found)]
 
 
 def main():

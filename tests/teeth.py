@@ -166,6 +166,13 @@ EDIT = (
     ("tests/edits/netlink_core/planted.edit", None,
      "file: src/error.rt\nold: fn planted() -> u8 {\nnew: fn planted() -> u16 {\n"),
 )
+# Two edits that are tried in one check, of functions that are added for them.
+EDITS = (
+    ("crates/netlink_core/src/error.rt", "",
+     "\nfn first() -> u8 {\n    101\n}\n\nfn second() -> u8 {\n    102\n}\n"),
+    ("tests/edits/netlink_core/first.edit", None, "file: src/error.rt\nold: 101\nnew: 201\n"),
+    ("tests/edits/netlink_core/second.edit", None, "file: src/error.rt\nold: 102\nnew: 202\n"),
+)
 C_API, ERASED = "tests/api/c_api.sh", "tests/api/erased.sh"
 MEMORY, SOCKDUMP = "tests/api/out_of_memory.sh", "tests/api/sockdump.py"
 SOCKLIST = "tests/api/socklist.py"
@@ -367,6 +374,11 @@ ROWS = [
           (*EDIT, ("tests/over_gate.sh", None, f"#!/bin/sh\necho '{said}'\nexit {status}\n")), "")
       for status, said in ((0, ""), (1, "error: planted"), (2, "fn netlink_core::error::planted: "
                            "not proved"), (1, "fn netlink_core::error::other: not proved"))),
+    Row("python3 tests/edits.py tests/edits/netlink_core/first.edit "
+        "tests/edits/netlink_core/second.edit",
+        ("netlink_core: 2 edits", "first.edit: rejected", "second.edit: not rejected"),
+        (*EDITS, ("tests/over_gate.sh", None,
+                  "#!/bin/sh\necho 'fn netlink_core::error::first: not proved'\nexit 1\n")), ""),
     Row("python3 tests/edits.py - </dev/null", ("not tried, since a library was not proved",),
         (("tests/over_gate.sh", None, "#!/bin/sh\nexit 1\n"),), ""),
     Row("python3 tests/programs.py $STAND_INS/program $STAND_INS/program",

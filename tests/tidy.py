@@ -221,7 +221,7 @@ def text_files():
     ).stdout.splitlines()
     suffixes = CODE | {".md", ".edit", ".rs", ".toml", ".in"}
     scripts = (".ci/", "debian/", "tools/", "examples/")
-    others = {"sockdiag", "sslist", "crates.txt"}
+    others = {"sockdiag", "sslist", "crates.txt", "LOGIC"}
     names = [
         name for name in sorted(listed)
         if Path(name).suffix in suffixes or name.startswith(scripts) or name in others
