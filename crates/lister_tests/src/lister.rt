@@ -1,6 +1,6 @@
-//! Tests of `sslist_lister`, `netlink_captures` and `program_streams`: texts of errors, writers
-//! that accept few bytes and whose flush fails. `tests/captures.py` compares what the program
-//! writes for captures.
+//! Tests of `sslist_lister`, `sslist_texts`, `netlink_captures` and `program_streams`: texts of
+//! errors, writers that accept few bytes and whose flush fails. `tests/captures.py` compares what
+//! the program writes for captures.
 
 use netlink_core::{DecodeError, RecordName};
 use sslist_lister::{

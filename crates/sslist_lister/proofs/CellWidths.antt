@@ -7,7 +7,7 @@ use Rattle.std.specs.Str.{is_utf8}
 use Rattle.std.proofs.Math.Seq.{drop-append_seam}
 use Rattle.std.proofs.lemmas.Str.{IsUtf8-from_is_utf8, is_utf8-from_IsUtf8}
 use Rattle.unicode_width.specs.Width.{str_width}
-use Rattle.sslist_lister.specs.texts.Widths.{cell_width, name_column, spaces_after}
+use Rattle.sslist_lister.specs.Widths.{cell_width, name_column, spaces_after}
 
 -- If `utf8` is set, valid UTF-8 has the width of its characters.
 pub utf8_has_width_of_characters : (utf8 : Bool) (cell : List ℕ) → utf8 ≡ true → IsUtf8 cell

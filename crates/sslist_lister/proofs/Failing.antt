@@ -13,14 +13,14 @@ use Rattle.netlink_captures.specs.Reader.{IsCaptureStartStop, IsCaptureStop, Rea
 use Rattle.netlink_captures.proofs.ReaderLemmas.{nothing_more, stopped_at_once, stop_implies}
 use Rattle.netlink_captures.specs.declared.captures.CaptureError.{CaptureError}
 use Rattle.netlink_captures.specs.declared.captures.CaptureError.TheVariants.{Read}
-use Rattle.sslist_lister.specs.declared.texts.list_error.ListError.{ListError}
-use Rattle.sslist_lister.specs.declared.texts.list_error.ListError.TheVariants.{Header, Packet}
-use Rattle.sslist_lister.specs.declared.texts.list_error.ListError.TheVariants.{Memory}
-use Rattle.sslist_lister.specs.declared.texts.list_error.ListError.TheVariants.{Write}
+use Rattle.sslist_texts.specs.declared.list_error.ListError.{ListError}
+use Rattle.sslist_texts.specs.declared.list_error.ListError.TheVariants.{Header, Packet}
+use Rattle.sslist_texts.specs.declared.list_error.ListError.TheVariants.{Memory}
+use Rattle.sslist_texts.specs.declared.list_error.ListError.TheVariants.{Write}
 use Rattle.program_streams.specs.declared.streams.ReadError.{ReadError}
 use Rattle.program_streams.specs.declared.streams.ReadError.TheVariants.{Other}
 use Rattle.program_streams.specs.declared.streams.WriteError.{WriteError}
-use Rattle.sslist_lister.specs.declared.command_line.options.Options.{Options}
+use Rattle.sslist_command_line.specs.declared.options.Options.{Options}
 use Rattle.sslist_lister.specs.Diagnostics.{DiagnosesPacket}
 use Rattle.sslist_lister.specs.Listing.{requests_after_packet}
 use Rattle.sslist_lister.specs.Requests.{PastRequests, no_requests}

@@ -12,7 +12,7 @@ use Rattle.sslist_lister.specs.JsonListing.{other_output}
 use Rattle.sslist_lister.specs.JsonOthers.{netlink_header_members, xdp_header_members}
 use Rattle.sslist_lister.specs.Listing.{after_header, header_lines}
 use Rattle.sslist_lister.specs.Others.{netlink_socket, xdp_socket}
-use Rattle.sslist_lister.specs.declared.command_line.options.Options.{Options}
+use Rattle.sslist_command_line.specs.declared.options.Options.{Options}
 
 -- A netlink socket is shown by its header and the attributes after it.
 pub netlink_lines : (o : Options) (list : ℕ) (requested : Option ℕ) (b bytes : List ℕ)

@@ -8,9 +8,9 @@ use Rattle.json.specs.Json as json
 use Rattle.json.proofs.Printed.Trees.{document-print}
 use Rattle.sock_diag_attributes.specs.declared.unix.name.SocketName.{SocketName}
 use Rattle.sock_diag_attributes.specs.declared.unix.name.SocketName.TheVariants.{Abstract, Pathname}
-use Rattle.sslist_lister.specs.texts.JsonData.{bytes_member, json_text}
+use Rattle.sslist_texts.specs.JsonData.{bytes_member, json_text}
 use Rattle.sslist_lister.specs.JsonNames.{name_members}
-use Rattle.sslist_lister.specs.texts.JsonData.{text_member}
+use Rattle.sslist_texts.specs.JsonData.{text_member}
 use Rattle.sslist_lister.specs.private.JsonNames.{HaveSameText, bytes_of_name}
 
 -- the object with one member, a string

@@ -4,9 +4,9 @@ use Rattle.std.proofs.Common.{inl, inr, refl, sym, ap, subst, ◌∙◌, arith, 
 use Rattle.std.proofs.Common.{length}
 use Rattle.std.specs.Prelude.{Some}
 use Rattle.std.proofs.lemmas.Bool.{and_parts, cases_Bool, cases_eq, eqb-true, lt-ltb, ne_eqb}
-use Rattle.sslist_lister.specs.texts.Escapes.{byte_digits, unescaped_bytes, shown_name}
-use Rattle.sslist_lister.proofs.ShownNames.{unescaped_shown_name, unescaped_byte_digits}
-use Rattle.sslist_lister.proofs.ShownNames.{unescaped_printable_byte}
+use Rattle.sslist_texts.specs.Escapes.{byte_digits, unescaped_bytes, shown_name}
+use Rattle.sslist_texts.proofs.ShownNames.{unescaped_shown_name, unescaped_byte_digits}
+use Rattle.sslist_texts.proofs.ShownNames.{unescaped_printable_byte}
 use Rattle.netlink_core.specs.Bytes.{IsBytes}
 use Rattle.sock_diag_attributes.specs.declared.unix.name.SocketName.TheVariants.{Abstract, Pathname}
 use Rattle.sslist_lister.specs.Table.{needs_escaped_first_byte, name_cell, name_of_cell}

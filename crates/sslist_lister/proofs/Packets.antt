@@ -5,7 +5,7 @@ use Rattle.std.proofs.lemmas.List.{append-nil}
 use Rattle.std.specs.Prelude.{◌↔◌, ◌&&◌, Bool, true, false, IsTrue, nat_le}
 use Rattle.netlink_captures.specs.Capture.{CapturedPacket}
 use Rattle.netlink_captures.specs.Cooked.{IsOfSockDiag}
-use Rattle.sslist_lister.specs.declared.command_line.options.Options.{Options}
+use Rattle.sslist_command_line.specs.declared.options.Options.{Options}
 use Rattle.sslist_lister.specs.Diagnostics.{DiagnosesContent, short_line_if_whole}
 use Rattle.sslist_lister.specs.Listing.{ListsPacket, ListsCapturedPacket}
 use Rattle.sslist_lister.specs.Requests.{PastRequests}

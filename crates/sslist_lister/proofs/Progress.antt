@@ -10,7 +10,7 @@ use Rattle.std.proofs.KnownBytes.{Appends-nil, Appends-trans, Consumes-nil, Cons
 use Rattle.std.proofs.lemmas.Grind.{flat_map-append}
 use Rattle.netlink_captures.specs.Capture.{CapturedPacket}
 use Rattle.netlink_captures.specs.Reader.{CaptureState, ReadsPacket}
-use Rattle.sslist_lister.specs.declared.command_line.options.Options.{Options}
+use Rattle.sslist_command_line.specs.declared.options.Options.{Options}
 use Rattle.sslist_lister.specs.Diagnostics.{AreDiagnosed, DiagnosesPacket}
 use Rattle.sslist_lister.specs.Listing.{ListsCapturedPacket, requests_after_packet}
 use Rattle.sslist_lister.specs.Run.{AreListed, ArePackets, ListedPacket}

@@ -8,8 +8,8 @@ use Rattle.std.specs.declared.net.ip_addr.IpAddr.{IpAddr}
 use Rattle.sock_diag_extras.specs.RecordTable.{RecordTable, parse_by_table}
 use Rattle.sslist_lister.specs.Facts.{separated_records}
 use Rattle.sslist_lister.specs.RecordFacts.{first_records, ip_member, records_in}
-use Rattle.sslist_lister.specs.texts.JsonData.{address_member}
-use Rattle.sslist_lister.specs.texts.JsonWriting.{members_tokens}
+use Rattle.sslist_texts.specs.JsonData.{address_member}
+use Rattle.sslist_texts.specs.JsonWriting.{members_tokens}
 
 -- The first record, and those after it.
 pub records_step : {A : Type 0} (layout : RecordTable A) (bytes : List ℕ)

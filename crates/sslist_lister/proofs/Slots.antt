@@ -21,12 +21,12 @@ use Rattle.sock_diag_extras.specs.declared.any.nla.AnyNla.{AnyNla}
 use Rattle.sock_diag_extras.specs.declared.any.nla.Sockets.{Sockets}
 use Rattle.sslist_lister.specs.JsonAttributes.{attributes_members, other_item, valid_members}
 use Rattle.sslist_lister.specs.JsonAttributes.{attribute_members, item_members}
-use Rattle.sslist_lister.proofs.Adding.{appended_texts_concatenate}
-use Rattle.sslist_lister.proofs.JsonWriting.{items_of_map, json_rules, tokens_of_each}
-use Rattle.sslist_lister.specs.texts.JsonData.{JsonMember, array_member, number_members}
-use Rattle.sslist_lister.specs.texts.JsonData.{text_member}
+use Rattle.sslist_texts.proofs.Adding.{appended_texts_concatenate}
+use Rattle.sslist_texts.proofs.JsonWriting.{items_of_map, json_rules, tokens_of_each}
+use Rattle.sslist_texts.specs.JsonData.{JsonMember, array_member, number_members}
+use Rattle.sslist_texts.specs.JsonData.{text_member}
 use Rattle.sslist_lister.specs.Details.{error_reason}
-use Rattle.sslist_lister.specs.texts.JsonWriting.{items_tokens, members_tokens}
+use Rattle.sslist_texts.specs.JsonWriting.{items_tokens, members_tokens}
 
 -- The elements that are each the first valid attribute are all of them.
 slots_are_first : (slots : List (Option (ℕ × AnyNla))) (f : ℕ → Option (ℕ × AnyValue))

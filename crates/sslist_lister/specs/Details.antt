@@ -3,12 +3,12 @@
 use Rattle.std.specs.Prelude.{ℕ, ◌==◌, ◌||◌, if◌then◌else◌, List, [], ◌∷◌, ◌++◌, codes, decimal}
 use Rattle.std.specs.Prelude.{Bool, true, false, length, flat_map, Result, Ok}
 use Rattle.std.specs.Prelude.{Err, None, Option, Some}
-use Rattle.sslist_lister.specs.texts.Parts.{cookie_if_shown, pair_detail, timer_if_shown}
-use Rattle.sslist_lister.specs.command_line.Options.{shows_detail}
-use Rattle.sslist_lister.specs.declared.command_line.options.Detail.{Detail}
-use Rattle.sslist_lister.specs.declared.command_line.options.Detail.TheVariants.{Extended, Memory}
-use Rattle.sslist_lister.specs.declared.command_line.options.Detail.TheVariants.{Connection}
-use Rattle.sslist_lister.specs.declared.command_line.options.Options.{Options}
+use Rattle.sslist_lister.specs.Parts.{cookie_if_shown, pair_detail, timer_if_shown}
+use Rattle.sslist_command_line.specs.Options.{shows_detail}
+use Rattle.sslist_command_line.specs.declared.options.Detail.{Detail}
+use Rattle.sslist_command_line.specs.declared.options.Detail.TheVariants.{Extended, Memory}
+use Rattle.sslist_command_line.specs.declared.options.Detail.TheVariants.{Connection}
+use Rattle.sslist_command_line.specs.declared.options.Options.{Options}
 use Rattle.netlink_core.specs.Attribute.{Attribute, attribute_kind}
 use Rattle.netlink_core.specs.declared.error.DecodeError.{DecodeError}
 use Rattle.netlink_core.specs.declared.error.DecodeError.TheVariants.{BufferTooSmall, WrongLength}

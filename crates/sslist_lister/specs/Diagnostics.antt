@@ -4,7 +4,7 @@ use Rattle.std.specs.Prelude.{◌≡◌, ℕ, ◌+◌, ◌==◌, if◌then◌els
 use Rattle.std.specs.Prelude.{bit_and, codes, decimal, drop, length, Option, None, Some}
 use Rattle.std.specs.Prelude.{◌||◌, Bool, MatchOption, false, nat_le, not, true}
 use Rattle.netlink_captures.specs.Capture.{CapturedPacket}
-use Rattle.sslist_lister.specs.texts.Reports.{truncation_line, short_line}
+use Rattle.sslist_texts.specs.Reports.{truncation_line, short_line}
 use Rattle.netlink_core.specs.Datagram.{SplitsIntoMessages}
 use Rattle.netlink_core.specs.declared.error.DecodeError.{DecodeError}
 use Rattle.netlink_core.specs.declared.message.TheConstants.{NLM_F_DUMP_INTR}

@@ -11,7 +11,7 @@ use Rattle.sock_diag_extras.specs.Acknowledgement.{acked_request_bytes, acked_re
 use Rattle.sock_diag_extras.specs.Acknowledgement.{error_attribute_bytes}
 use Rattle.sock_diag_extras.specs.declared.constants.TheConstants.{NLMSGERR_ATTR_MSG}
 use Rattle.sock_diag_extras.specs.declared.constants.TheConstants.{NLMSGERR_ATTR_OFFS}
-use Rattle.sslist_lister.specs.texts.Escapes.{escaped_byte}
+use Rattle.sslist_texts.specs.Escapes.{escaped_byte}
 use Rattle.sslist_lister.specs.Messages.{MessageParts, request_in}
 use Rattle.sslist_lister.specs.RequestLine.{request_note}
 use Rattle.sslist_lister.specs.UlpInfo.{nested_number, nested_value}

@@ -8,10 +8,10 @@ use Rattle.std.specs.Borrow.{Bor}
 use Rattle.std.specs.Fmt.{digits}
 use Rattle.std.specs.Option.{option_map_or}
 use Rattle.sock_diag_attributes.specs.declared.unix.name.SocketName.{SocketName}
-use Rattle.sslist_lister.specs.texts.Escapes.{shown_name}
-use Rattle.sslist_lister.specs.texts.JsonData.{JsonMember, flag_member, numbers_member}
-use Rattle.sslist_lister.specs.texts.JsonData.{object_member, optional_member, text_member}
-use Rattle.sslist_lister.specs.texts.Parts.{directions}
+use Rattle.sslist_texts.specs.Escapes.{shown_name}
+use Rattle.sslist_texts.specs.JsonData.{JsonMember, flag_member, numbers_member}
+use Rattle.sslist_texts.specs.JsonData.{object_member, optional_member, text_member}
+use Rattle.sslist_lister.specs.Parts.{directions}
 use Rattle.sslist_lister.specs.JsonNames.{name_members}
 use Rattle.sslist_lister.specs.NumberNames.{fanout_mode_name, flag_letters, tls_cipher_name}
 use Rattle.sslist_lister.specs.NumberNames.{tls_mode_name, tls_version_name}

@@ -4,7 +4,7 @@ use Rattle.std.specs.Prelude.{ℕ, List, [], ◌∷◌, ◌++◌, codes, decimal
 use Rattle.std.specs.Fmt.{digits}
 use Rattle.sock_diag_extras.specs.FilterInstruction.{filter_instruction}
 use Rattle.sock_diag_extras.specs.declared.filter_instruction.FilterInstruction.{FilterInstruction}
-use Rattle.sslist_lister.specs.texts.JsonData.{JsonMember, number_members}
+use Rattle.sslist_texts.specs.JsonData.{JsonMember, number_members}
 use Rattle.sslist_lister.specs.Facts.{Facts}
 use Rattle.sslist_lister.specs.RecordFacts.{records_facts, records_in}
 

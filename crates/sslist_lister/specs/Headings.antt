@@ -2,9 +2,9 @@
 use Rattle.std.specs.Prelude.{ℕ, ◌||◌, not, if◌then◌else◌, Bool, List, [], ◌∷◌, ◌++◌, codes}
 use Rattle.std.specs.Prelude.{Option, None, Some}
 use Rattle.netlink_captures.specs.declared.captures.PacketHeader.{PacketHeader}
-use Rattle.sslist_lister.specs.texts.Escapes.{shown_name}
-use Rattle.sslist_lister.specs.texts.Times.{time_text}
-use Rattle.sslist_lister.specs.declared.command_line.options.Options.{Options}
+use Rattle.sslist_texts.specs.Escapes.{shown_name}
+use Rattle.sslist_texts.specs.Times.{time_text}
+use Rattle.sslist_command_line.specs.declared.options.Options.{Options}
 
 -- `caption utf8 name`: a line with the name of a file, as names of sockets are shown, or nothing
 -- for None. `utf8`: the option `--utf8`.

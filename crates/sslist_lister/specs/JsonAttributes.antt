@@ -8,8 +8,8 @@ use Rattle.netlink_core.specs.Attribute.{Attribute, attribute_kind}
 use Rattle.netlink_core.specs.declared.error.DecodeError.{DecodeError}
 use Rattle.sslist_lister.specs.Collected.{Summary}
 use Rattle.sslist_lister.specs.Details.{error_reason}
-use Rattle.sslist_lister.specs.texts.JsonData.{JsonMember, array_member, number_members, object_of}
-use Rattle.sslist_lister.specs.texts.JsonData.{json_text, optional_member, text_member}
+use Rattle.sslist_texts.specs.JsonData.{JsonMember, array_member, number_members, object_of}
+use Rattle.sslist_texts.specs.JsonData.{json_text, optional_member, text_member}
 use Rattle.sslist_lister.specs.AttributeFacts.{any_facts}
 use Rattle.sock_diag_extras.specs.AnyNla.{AnyValue}
 use Rattle.sock_diag_extras.specs.declared.any.nla.Sockets.{Sockets}

@@ -3,10 +3,10 @@
 -- reply has in its attributes.
 use Rattle.std.specs.Prelude.{ℕ, if◌then◌else◌, List, []}
 use Rattle.sock_diag_records.specs.declared.unix.response.UnixResponseHeader.{UnixResponseHeader}
-use Rattle.sslist_lister.specs.texts.JsonData.{JsonMember}
+use Rattle.sslist_texts.specs.JsonData.{JsonMember}
 use Rattle.sslist_lister.specs.declared.line.InetSocket.{InetSocket}
-use Rattle.sslist_lister.specs.command_line.Options.{lists_family, lists_unix}
-use Rattle.sslist_lister.specs.declared.command_line.options.Options.{Options}
+use Rattle.sslist_command_line.specs.Options.{lists_family, lists_unix}
+use Rattle.sslist_command_line.specs.declared.options.Options.{Options}
 use Rattle.sslist_lister.specs.Collected.{Summary}
 use Rattle.sslist_lister.specs.JsonAttributes.{socket_json}
 use Rattle.sslist_lister.specs.JsonSockets.{inet_header_members, unix_header_members}

@@ -2,7 +2,7 @@
 use Rattle.std.specs.Prelude.{ℕ, List, codes}
 use Rattle.sock_diag_attributes.specs.declared.unix.name.SocketName.{SocketName}
 use Rattle.sock_diag_attributes.specs.declared.unix.name.SocketName.TheVariants.{Abstract, Pathname}
-use Rattle.sslist_lister.specs.texts.JsonData.{JsonMember, bytes_member}
+use Rattle.sslist_texts.specs.JsonData.{JsonMember, bytes_member}
 
 -- the members of the name of a UNIX socket: `path` or `abstract`, or with the suffix `_hex` if the
 -- bytes are not valid UTF-8

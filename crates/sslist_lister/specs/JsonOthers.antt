@@ -14,12 +14,12 @@ use Rattle.sock_diag_records.specs.declared.constants.TheConstants.{AF_NETLINK, 
 use Rattle.sock_diag_records.specs.declared.constants.TheConstants.{TCP_CLOSE}
 use Rattle.sock_diag_families.specs.declared.vsock.TheConstants.{AF_VSOCK}
 use Rattle.sock_diag_families.specs.declared.xdp.TheConstants.{AF_XDP}
-use Rattle.sslist_lister.specs.texts.Cells.{state_name}
-use Rattle.sslist_lister.specs.texts.JsonData.{JsonMember, hex_member, number_members}
-use Rattle.sslist_lister.specs.texts.JsonData.{text_member}
+use Rattle.sslist_texts.specs.Cells.{state_name}
+use Rattle.sslist_texts.specs.JsonData.{JsonMember, hex_member, number_members}
+use Rattle.sslist_texts.specs.JsonData.{text_member}
 use Rattle.sslist_lister.specs.Others.{other_kind}
-use Rattle.sslist_lister.specs.declared.command_line.options.Family.TheVariants.{Netlink, Packet}
-use Rattle.sslist_lister.specs.declared.command_line.options.Family.TheVariants.{Vsock, Xdp}
+use Rattle.sslist_command_line.specs.declared.options.Family.TheVariants.{Netlink, Packet}
+use Rattle.sslist_command_line.specs.declared.options.Family.TheVariants.{Vsock, Xdp}
 
 -- `other_header_members netid state rows cookie`: the members of a header: `netid`, and the name of
 -- the state as `state_name`, which are the columns Netid and State of the table; the fields in

@@ -6,9 +6,9 @@ use Rattle.sock_diag_records.specs.declared.inet.response.InetResponseHeader.{In
 use Rattle.sock_diag_records.specs.declared.unix.response.UnixResponseHeader.{UnixResponseHeader}
 use Rattle.sock_diag_records.specs.declared.constants.TheConstants.{AF_UNIX}
 use Rattle.sock_diag_extras.specs.declared.any.header.RawTimer.{RawTimer}
-use Rattle.sslist_lister.specs.texts.Cells.{state_name}
-use Rattle.sslist_lister.specs.texts.JsonData.{JsonMember, address_member, cookie_member}
-use Rattle.sslist_lister.specs.texts.JsonData.{number_members, text_member}
+use Rattle.sslist_texts.specs.Cells.{state_name}
+use Rattle.sslist_texts.specs.JsonData.{JsonMember, address_member, cookie_member}
+use Rattle.sslist_texts.specs.JsonData.{number_members, text_member}
 use Rattle.sslist_lister.specs.Sctp.{inet_state_name}
 use Rattle.sslist_lister.specs.Table.{inet_kind, unix_kind}
 use Rattle.sslist_lister.specs.declared.line.InetSocket.{InetSocket}

@@ -1,5 +1,5 @@
-pub mod command_line
-pub mod texts
+pub mod Parts
+pub mod Widths
 pub mod Messages
 pub mod Requests
 pub mod Lists

@@ -12,7 +12,7 @@ use Rattle.std.specs.Option.{option_map_or}
 use Rattle.netlink_captures.specs.Capture.{CapturedPacket}
 use Rattle.netlink_captures.specs.Cooked.{IsOfSockDiag}
 use Rattle.netlink_captures.specs.declared.captures.PacketHeader.{PacketHeader}
-use Rattle.sslist_lister.specs.declared.command_line.options.Options.{Options}
+use Rattle.sslist_command_line.specs.declared.options.Options.{Options}
 use Rattle.netlink_core.specs.Datagram.{SplitsIntoMessages}
 use Rattle.netlink_core.specs.declared.header.NetlinkHeader.{NetlinkHeader}
 use Rattle.netlink_core.specs.declared.error.DecodeError.{DecodeError}
@@ -46,7 +46,7 @@ use Rattle.sslist_lister.specs.JsonOthers.{netlink_header_members, packet_header
 use Rattle.sslist_lister.specs.JsonOthers.{vsock_header_members, xdp_header_members}
 use Rattle.sock_diag_records.specs.declared.constants.TheConstants.{IPPROTO_DCCP}
 use Rattle.sock_diag_records.specs.declared.inet.response.InetResponseHeader.{InetResponseHeader}
-use Rattle.sslist_lister.specs.declared.command_line.options.TheConstants.{IPPROTO_TCP}
+use Rattle.sslist_command_line.specs.declared.options.TheConstants.{IPPROTO_TCP}
 use Rattle.sslist_lister.specs.declared.list.Diagnostic.{Diagnostic}
 use Rattle.sslist_lister.specs.declared.list.Diagnostic.TheVariants.{Refused, Answered, Lost}
 use Rattle.sslist_lister.specs.declared.list.Diagnostic.TheVariants.{Invalid, NoEntry}

@@ -6,8 +6,8 @@ use Rattle.std.specs.Prelude.{flat_map}
 use Rattle.hex.specs.Hex.{encode_lower}
 use Rattle.sock_diag_extras.specs.Md5Signature.{md5_signature, peer_ip, used_key}
 use Rattle.sock_diag_extras.specs.declared.md5_signature.Md5Signature.{Md5Signature}
-use Rattle.sslist_lister.specs.texts.Escapes.{byte_digits, escaped_byte}
-use Rattle.sslist_lister.specs.texts.JsonData.{JsonMember, number_members, text_member}
+use Rattle.sslist_texts.specs.Escapes.{byte_digits, escaped_byte}
+use Rattle.sslist_texts.specs.JsonData.{JsonMember, number_members, text_member}
 use Rattle.sslist_lister.specs.Facts.{Facts}
 use Rattle.sslist_lister.specs.RecordFacts.{ip_member, ip_or_star, records_facts, records_in}
 

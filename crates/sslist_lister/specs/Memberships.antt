@@ -4,7 +4,7 @@ use Rattle.std.specs.Prelude.{ℕ, List, [], ◌∷◌, ◌++◌, codes}
 use Rattle.hex.specs.Hex.{encode_lower}
 use Rattle.sock_diag_extras.specs.PacketMembership.{packet_membership, used_address}
 use Rattle.sock_diag_extras.specs.declared.membership.PacketMembership.{PacketMembership}
-use Rattle.sslist_lister.specs.texts.JsonData.{JsonMember, number_members, text_member}
+use Rattle.sslist_texts.specs.JsonData.{JsonMember, number_members, text_member}
 use Rattle.sslist_lister.specs.Facts.{Facts}
 use Rattle.sslist_lister.specs.RecordFacts.{records_facts, records_in}
 

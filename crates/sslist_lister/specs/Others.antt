@@ -2,12 +2,13 @@
 use Rattle.std.specs.Prelude.{ℕ, ◌==◌, if◌then◌else◌, List, [], ◌∷◌, ◌++◌}
 use Rattle.std.specs.Prelude.{codes, Option, None, Some, option_and_then, option_map}
 use Rattle.byteorder.specs.Endian.{little_bytes}
-use Rattle.sslist_lister.specs.texts.Parts.{no_timer, details_after_separator}
-use Rattle.sslist_lister.specs.texts.Cells.{FirstColumns, number_or_star, state_name, table_line}
-use Rattle.sslist_lister.specs.declared.command_line.options.Family.{Family}
-use Rattle.sslist_lister.specs.declared.command_line.options.Family.TheVariants.{Netlink, Packet}
-use Rattle.sslist_lister.specs.declared.command_line.options.Family.TheVariants.{Vsock, Xdp}
-use Rattle.sslist_lister.specs.declared.command_line.options.Options.{Options}
+use Rattle.sslist_lister.specs.Parts.{no_timer, details_after_separator}
+use Rattle.sslist_texts.specs.Cells.{FirstColumns, number_or_star, state_name}
+use Rattle.sslist_lister.specs.Table.{table_line}
+use Rattle.sslist_command_line.specs.declared.options.Family.{Family}
+use Rattle.sslist_command_line.specs.declared.options.Family.TheVariants.{Netlink, Packet}
+use Rattle.sslist_command_line.specs.declared.options.Family.TheVariants.{Vsock, Xdp}
+use Rattle.sslist_command_line.specs.declared.options.Options.{Options}
 use Rattle.sock_diag_families.specs.declared.netlink.response.NetlinkResponseHeader.{
   NetlinkResponseHeader,
 }

@@ -4,7 +4,7 @@ use Rattle.std.specs.Prelude.{Option}
 use Rattle.std.specs.Option.{option_map_or}
 use Rattle.std.specs.Net.Text.{ip_text}
 use Rattle.std.specs.declared.net.ip_addr.IpAddr.{IpAddr}
-use Rattle.sslist_lister.specs.texts.JsonData.{JsonMember, address_member, array_member, object_of}
+use Rattle.sslist_texts.specs.JsonData.{JsonMember, address_member, array_member, object_of}
 use Rattle.sock_diag_extras.specs.RecordTable.{RecordTable, parse_by_table}
 use Rattle.sslist_lister.specs.Facts.{Facts, separated_records}
 

@@ -1,12 +1,12 @@
 -- Lines of requests.
 use Rattle.std.specs.Prelude.{ℕ, ◌==◌, ◌&&◌, not, if◌then◌else◌, Bool, true, false, List, [], ◌∷◌}
 use Rattle.std.specs.Prelude.{◌++◌, codes, Option, None, Some}
-use Rattle.sslist_lister.specs.texts.Times.{time_text}
-use Rattle.sslist_lister.specs.texts.Parts.{hex_detail}
+use Rattle.sslist_texts.specs.Times.{time_text}
+use Rattle.sslist_lister.specs.Parts.{hex_detail}
 use Rattle.netlink_captures.specs.declared.captures.PacketHeader.{PacketHeader}
-use Rattle.sslist_lister.specs.declared.command_line.options.Family.{Family}
-use Rattle.sslist_lister.specs.declared.command_line.options.Family.TheVariants as families
-use Rattle.sslist_lister.specs.declared.command_line.options.Options.{Options}
+use Rattle.sslist_command_line.specs.declared.options.Family.{Family}
+use Rattle.sslist_command_line.specs.declared.options.Family.TheVariants as families
+use Rattle.sslist_command_line.specs.declared.options.Options.{Options}
 use Rattle.sock_diag_records.specs.declared.constants.TheConstants.{SOCK_DESTROY}
 use Rattle.sslist_lister.specs.Messages.{MessageParts}
 use Rattle.sslist_lister.specs.Requests.{requested}

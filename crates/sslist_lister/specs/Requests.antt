@@ -16,9 +16,9 @@ use Rattle.sslist_lister.specs.Messages.{MessageParts}
 use Rattle.sock_diag_extras.specs.Pieces.{last_of_kind, pieces_in}
 use Rattle.sock_diag_families.specs.declared.vsock.TheConstants.{AF_VSOCK}
 use Rattle.sock_diag_families.specs.declared.xdp.TheConstants.{AF_XDP}
-use Rattle.sslist_lister.specs.declared.command_line.options.Family.{Family}
-use Rattle.sslist_lister.specs.declared.command_line.options.Family.TheVariants.{Netlink, Packet}
-use Rattle.sslist_lister.specs.declared.command_line.options.Family.TheVariants.{Vsock, Xdp}
+use Rattle.sslist_command_line.specs.declared.options.Family.{Family}
+use Rattle.sslist_command_line.specs.declared.options.Family.TheVariants.{Netlink, Packet}
+use Rattle.sslist_command_line.specs.declared.options.Family.TheVariants.{Vsock, Xdp}
 use Rattle.sslist_lister.specs.declared.requests.Query.{Query}
 use Rattle.sslist_lister.specs.declared.requests.Requested.{Requested}
 use Rattle.sslist_lister.specs.declared.requests.Requested.TheVariants as requests

@@ -1,22 +1,22 @@
 -- Listing of a whole capture.
 use Rattle.std.specs.Prelude.{◌≡◌, ◌↔◌, ℕ, ◌+◌, ◌-◌, ◌^◌, ◌⊎◌, List, [], ◌∷◌, ◌++◌, length}
-use Rattle.std.specs.Prelude.{flat_map, Bool, IsTrue, MatchResult, Option, Result, ⊤}
+use Rattle.std.specs.Prelude.{flat_map, Bool, Err, IsTrue, MatchResult, Ok, Option, Result, ⊤}
 use Rattle.std.specs.Io.KnownBytes.{Appends, Consumes, IsAtEnd, Keeps}
 use Rattle.std.specs.List.{AllByRecursion}
 use Rattle.program_streams.specs.declared.streams.ReadError.{ReadError}
 use Rattle.program_streams.specs.declared.streams.ReadError.TheVariants.{Other}
-use Rattle.sslist_lister.specs.declared.texts.list_error.ListError.{ListError}
-use Rattle.sslist_lister.specs.declared.texts.list_error.ListError.TheVariants.{Header, Packet}
-use Rattle.sslist_lister.specs.declared.texts.list_error.ListError.TheVariants.{Write}
-use Rattle.sslist_lister.specs.declared.texts.list_error.ListError.TheVariants.{Memory}
+use Rattle.sslist_texts.specs.declared.list_error.ListError.{ListError}
+use Rattle.sslist_texts.specs.declared.list_error.ListError.TheVariants.{Header, Packet}
+use Rattle.sslist_texts.specs.declared.list_error.ListError.TheVariants.{Write}
+use Rattle.sslist_texts.specs.declared.list_error.ListError.TheVariants.{Memory}
 use Rattle.netlink_captures.specs.Capture.{CapturedPacket, stopped_input}
 use Rattle.netlink_captures.specs.Reader.{CaptureState, IsCaptureEnd, IsCaptureStart}
 use Rattle.netlink_captures.specs.Reader.{IsCaptureStartStop, IsCaptureStop, ReadsPacket}
-use Rattle.sslist_lister.specs.declared.command_line.options.Options.{Options}
+use Rattle.sslist_command_line.specs.declared.options.Options.{Options}
 use Rattle.sslist_lister.specs.Diagnostics.{AreDiagnosed}
 use Rattle.sslist_lister.specs.Listing.{ListsCapturedPacket, requests_after_packet}
 use Rattle.sslist_lister.specs.Requests.{PastRequests, no_requests}
-use Rattle.sslist_lister.specs.texts.Reports.{closing_text}
+use Rattle.sslist_texts.specs.Reports.{closing_line}
 
 -- the lines of a packet, and whether it was listed completely
 pub record ListedPacket : Type 0 where
@@ -185,6 +185,12 @@ ListingEnds run outcome = MatchResult outcome
     run.heading run.front run.Reported)
     (Fails run.options run.left_before run.left_after run.held_before run.held_after
     run.heading run.front run.Reported run.ReadFailed)
+
+-- `closing_text front outcome`: the line that names the failure of a run; nothing if the run did
+-- not fail
+abbrev pub closing_text : List ℕ → Result Bool ListError → List ℕ
+closing_text front (Ok _) = []
+closing_text front (Err error) = closing_line front error
 
 -- `ListingEndsReported run outcome`: the run ended with this outcome, as in `ListingEnds`, and the
 -- line that names its failure, if it failed, was reported after the diagnostics

@@ -8,7 +8,7 @@ use Rattle.sock_diag_records.specs.declared.constants.TheConstants.{INET_DIAG_PE
 use Rattle.sock_diag_records.specs.declared.constants.TheConstants.{TCP_CLOSE, TCP_ESTABLISHED}
 use Rattle.sslist_lister.specs.Collected.{Summary, value_in}
 use Rattle.sslist_lister.specs.declared.sctp.TheConstants.{NO_TCP_STATE}
-use Rattle.sslist_lister.specs.texts.Cells.{state_name}
+use Rattle.sslist_texts.specs.Cells.{state_name}
 
 -- `is_association protocol s`: a reply with the attributes `s` is about an association. The kernel
 -- sends INET_DIAG_PEERS about each association, and about nothing else. `protocol` is the protocol

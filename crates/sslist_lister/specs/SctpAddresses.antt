@@ -4,7 +4,7 @@
 use Rattle.std.specs.Prelude.{ℕ, List, [], ◌∷◌, ◌++◌, codes}
 use Rattle.sock_diag_extras.specs.StoredAddress.{ip_of, stored_address}
 use Rattle.sock_diag_extras.specs.declared.stored_address.StoredAddress.{StoredAddress}
-use Rattle.sslist_lister.specs.texts.JsonData.{JsonMember, number_members}
+use Rattle.sslist_texts.specs.JsonData.{JsonMember, number_members}
 use Rattle.sslist_lister.specs.Facts.{Facts}
 use Rattle.sslist_lister.specs.RecordFacts.{ip_member, ip_or_star, records_facts, records_in}
 

@@ -10,8 +10,8 @@ use Rattle.sock_diag_filters.specs.SocketFacts.{facts_meet}
 use Rattle.sock_diag_filters.specs.declared.text.facts.SocketFacts.{SocketFacts}
 use Rattle.sslist_lister.specs.Collected.{Summary, value_in}
 use Rattle.sslist_lister.specs.Sctp.{inet_tcp_state}
-use Rattle.sslist_lister.specs.command_line.Options.{lists_protocol, lists_state, lists_version}
-use Rattle.sslist_lister.specs.declared.command_line.options.Options.{Options}
+use Rattle.sslist_command_line.specs.Options.{lists_protocol, lists_state, lists_version}
+use Rattle.sslist_command_line.specs.declared.options.Options.{Options}
 use Rattle.sslist_lister.specs.declared.line.InetSocket.{InetSocket}
 
 -- `socket_facts socket s`: what a filter compares of a socket. No reply says whether the kernel

@@ -3,14 +3,14 @@ use Rattle.std.specs.Prelude.{ℕ, ◌==◌, nat_lt, if◌then◌else◌, ◌&&�
 use Rattle.std.specs.Prelude.{length, codes, Option, None, Some, slice_index, option_map, drop}
 use Rattle.std.specs.Prelude.{◌||◌, false, option_and_then}
 use Rattle.std.specs.Option.{option_map_or}
-use Rattle.sslist_lister.specs.texts.Cells.{FirstColumns, endpoint, first_columns, number_or_star}
-use Rattle.sslist_lister.specs.texts.Cells.{state_name, table_line}
-use Rattle.sslist_lister.specs.texts.Widths.{name_column}
-use Rattle.sslist_lister.specs.texts.Parts.{no_timer, details_after_separator}
-use Rattle.sslist_lister.specs.texts.Escapes.{byte_digits, unescaped_bytes, shown_name}
-use Rattle.sslist_lister.specs.declared.command_line.options.Options.{Options}
-use Rattle.sslist_lister.specs.declared.command_line.options.TheConstants.{IPPROTO_MPTCP}
-use Rattle.sslist_lister.specs.declared.command_line.options.TheConstants.{IPPROTO_TCP, IPPROTO_UDP}
+use Rattle.sslist_texts.specs.Cells.{FirstColumns, column, endpoint, first_columns}
+use Rattle.sslist_texts.specs.Cells.{number_or_star, state_name}
+use Rattle.sslist_lister.specs.Widths.{name_column}
+use Rattle.sslist_lister.specs.Parts.{no_timer, details_after_separator}
+use Rattle.sslist_texts.specs.Escapes.{byte_digits, unescaped_bytes, shown_name}
+use Rattle.sslist_command_line.specs.declared.options.Options.{Options}
+use Rattle.sslist_command_line.specs.declared.options.TheConstants.{IPPROTO_MPTCP}
+use Rattle.sslist_command_line.specs.declared.options.TheConstants.{IPPROTO_TCP, IPPROTO_UDP}
 use Rattle.sock_diag_records.specs.declared.unix.response.UnixResponseHeader.{UnixResponseHeader}
 use Rattle.sock_diag_records.specs.declared.constants.TheConstants.{AF_INET6, IPPROTO_DCCP}
 use Rattle.sock_diag_records.specs.declared.constants.TheConstants.{INET_DIAG_SKV6ONLY}
@@ -24,7 +24,7 @@ use Rattle.sock_diag_attributes.specs.declared.unix.name.SocketName.TheVariants.
 use Rattle.sslist_lister.specs.Details.{details}
 use Rattle.sslist_lister.specs.Sctp.{inet_state_name}
 use Rattle.sslist_lister.specs.declared.line.InetSocket.{InetSocket}
-use Rattle.sslist_lister.specs.declared.line.TheConstants.{NO_INTERFACE}
+use Rattle.sslist_lister.specs.declared.line.TheConstants.{LOCAL_WIDTH, NO_INTERFACE}
 use Rattle.sock_diag_extras.specs.declared.any.nla.Sockets.{Sockets}
 use Rattle.sock_diag_extras.specs.declared.any.nla.Sockets.TheVariants.{Inet}
 use Rattle.sock_diag_extras.specs.declared.any.nla.InfoFormat.{InfoFormat}
@@ -143,6 +143,11 @@ says_v6_only other = false
 -- INET_DIAG_SKV6ONLY is not 0. False if it has none.
 abbrev pub is_v6_only : Summary → Bool
 is_v6_only s = option_map_or says_v6_only (value_in INET_DIAG_SKV6ONLY s) false
+
+-- `table_line cells local peer`: a line without its details: the first columns, then the local
+-- address, padded to a width, then the peer's, which is not padded
+abbrev pub table_line : FirstColumns → List ℕ → List ℕ → List ℕ
+table_line cells local peer = first_columns cells ++ column LOCAL_WIDTH local ++ peer
 
 -- `inet_columns socket s`: the columns of an IPv4 or IPv6 socket. The interface is shown after the
 -- local address only, so the endpoint of the peer has NO_INTERFACE.

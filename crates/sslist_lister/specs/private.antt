@@ -1,4 +1,3 @@
 -- Definitions that only the contracts of private functions need.
 pub mod Sentence
 pub mod JsonNames
-pub mod Report

@@ -4,7 +4,7 @@
 //! `nla`, and `collected found.now` is what the attributes in `found` say.
 
 ghost use Rattle.std.specs.Prelude.{◌≡◌, ◌++◌, Some, flat_map, OnOk};
-ghost use Rattle.sslist_lister.specs.texts.Parts.{separator, details_after_separator};
+ghost use Rattle.sslist_lister.specs.Parts.{separator, details_after_separator};
 ghost use Rattle.netlink_core.specs.Walk.{buffered_attribute};
 ghost use Rattle.sslist_lister.specs.Collected.{collected, other_model, slot_value};
 ghost use Rattle.sslist_lister.specs.Details.{detail_group, details, invalid_attribute_text};
@@ -14,11 +14,9 @@ ghost use Rattle.sslist_lister.specs.Details.{unknown_attribute_text, valid_deta
 
 use crate::attributes::{memory_kind, show_any};
 use crate::collected::{Attributes, Valid};
-use crate::command_line::{Detail, Options};
 use crate::facts::Status;
 use crate::kinds::reason_of;
-use crate::texts::cells::push_after;
-use crate::texts::parts::{push_pair, push_shown_cookie, push_shown_timer, separator};
+use crate::parts::{push_pair, push_shown_cookie, push_shown_timer, separator};
 use netlink_core::{DecodeError, NlaBuffer};
 use sock_diag_extras::any::{AnyNla, RawTimer, Sockets};
 use sock_diag_extras::constants::INET_DIAG_ULP_INFO;
@@ -26,6 +24,8 @@ use sock_diag_records::constants::{
     INET_DIAG_BBRINFO, INET_DIAG_CONG, INET_DIAG_DCTCPINFO, INET_DIAG_INFO, INET_DIAG_LOCALS,
     INET_DIAG_MD5SIG, INET_DIAG_MEMINFO, INET_DIAG_PEERS, INET_DIAG_VEGASINFO,
 };
+use sslist_command_line::{Detail, Options};
+use sslist_texts::cells::push_after;
 use std::alloc::AllocError;
 
 /// Appends the details of a socket with this timer, this cookie and the attributes `found`. They

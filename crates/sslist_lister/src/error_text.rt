@@ -7,8 +7,8 @@ ghost use Rattle.sslist_lister.specs.Diagnostics.{record_text};
 ghost use Rattle.sslist_lister.specs.private.Sentence.{sentence_text, subject_text};
 
 use crate::list::Diagnostic;
-use crate::texts::cells::push_after;
 use netlink_core::{DecodeError, RecordName};
+use sslist_texts::cells::push_after;
 use std::alloc::AllocError;
 
 /// A text with up to two numbers.
@@ -74,7 +74,7 @@ fn push_subject(text: &mut Vec<u8>, error: &DecodeError) -> Result<(), AllocErro
 }
 
 /// Appends a sentence: its texts, and its numbers in decimal.
-#[tactic(auto, using(crate::proofs::Adding::sentence_continues))]
+#[tactic(auto, using(sslist_texts::proofs::Adding::sentence_continues))]
 fn push_sentence(text: &mut Vec<u8>, sentence: Sentence) -> Result<(), AllocError>
     ensures { OnOk result (text.new.items ≡ text.old.items ++ sentence_text sentence) }
 {
@@ -89,7 +89,7 @@ fn push_sentence(text: &mut Vec<u8>, sentence: Sentence) -> Result<(), AllocErro
 }
 
 /// Appends a number between two texts.
-#[tactic(auto, using(crate::proofs::Adding::three_texts_concatenate))]
+#[tactic(auto, using(sslist_texts::proofs::Adding::three_texts_concatenate))]
 fn push_one(text: &mut Vec<u8>, before: &[u8], number: u64, after: &[u8]) -> Result<(), AllocError>
     ensures { OnOk result (text.new.items
         ≡ text.old.items ++ (before.now ++ (decimal number ++ after.now))) }

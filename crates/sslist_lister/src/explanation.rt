@@ -15,11 +15,11 @@ ghost use Rattle.sslist_lister.specs.Messages.{message_parts};
 
 use crate::messages::Message;
 use crate::request_line::push_request_note;
-use crate::texts::cells::{push_after, push_escaped_byte};
 use crate::ulp_info::{find_number, find_value};
 use netlink_core::{NLMSG_DONE, NLMSG_ERROR, text_bytes};
 use sock_diag_extras::AckView;
 use sock_diag_extras::constants::{NLMSGERR_ATTR_MSG, NLMSGERR_ATTR_OFFS};
+use sslist_texts::cells::{push_after, push_escaped_byte};
 use std::alloc::AllocError;
 
 /// Appends what a message explains: the request that it answers, the kernel's text, and the offset

@@ -19,21 +19,21 @@ ghost use Rattle.sslist_lister.specs.Facts.{text_facts};
 ghost use Rattle.sslist_lister.specs.declared.facts.Shown.TheVariants.{FanoutMode};
 ghost use Rattle.sslist_lister.specs.laws.FactTokens.{group_tokens, no_tokens};
 ghost use Rattle.sslist_lister.specs.RecordFacts.{records_facts, records_in};
-ghost use Rattle.sslist_lister.specs.laws.MemberTokens.{tokens_append};
-ghost use Rattle.sslist_lister.specs.texts.JsonWriting.{KeepsPrefix, members_tokens};
+ghost use Rattle.sslist_texts.specs.laws.MemberTokens.{tokens_append};
+ghost use Rattle.sslist_texts.specs.JsonWriting.{KeepsPrefix, members_tokens};
 
 use crate::json_names::{write_list, write_name};
 use crate::number_names::{
     name_of_cipher, name_of_fanout_mode, name_of_mode, name_of_version, push_flag_letters,
 };
+use crate::parts::push_directions;
 use crate::records::{ShownRecord, push_records, write_records};
-use crate::texts::cells::{push_after, push_hex};
-use crate::texts::json_writing::{begin_member, write_flag, write_optional, write_text};
-use crate::texts::names::push_shown;
-use crate::texts::parts::push_directions;
 use json::Writer;
 use netlink_core::DecodeError;
 use sock_diag_attributes::unix::nlas::NameView;
+use sslist_texts::cells::{push_after, push_hex};
+use sslist_texts::json_writing::{begin_member, write_flag, write_optional, write_text};
+use sslist_texts::names::push_shown;
 use std::alloc::{AllocError, Global};
 
 /// How the table shows a number.
@@ -564,7 +564,7 @@ fn push_separated(
 
 /// Writes a member whose value is a number. Writes nothing if it has no name (`None`).
 #[inline(always)]
-#[tactic(auto, unfolding(crate::specs::texts::JsonWriting::members_tokens))]
+#[tactic(auto, unfolding(sslist_texts::specs::JsonWriting::members_tokens))]
 fn write_named(writer: &mut Writer, member: Option<&str>, number: u64) -> Result<(), AllocError>
     ensures prefix { KeepsPrefix result writer.old writer.new }
     ensures members { OnOk result (writer.new.tokens ≡ writer.old.tokens

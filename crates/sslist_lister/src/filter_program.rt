@@ -4,13 +4,13 @@
 ghost use Rattle.std.proofs.Common.{rules};
 ghost use Rattle.std.specs.Prelude.{◌≡◌, ◌++◌, OnOk};
 ghost use Rattle.sslist_lister.specs.FilterProgram.{instruction_members, instruction_text};
-ghost use Rattle.sslist_lister.specs.texts.JsonWriting.{KeepsPrefix, members_tokens};
+ghost use Rattle.sslist_texts.specs.JsonWriting.{KeepsPrefix, members_tokens};
 
 use crate::records::ShownRecord;
-use crate::texts::cells::{push_hex, push_number};
-use crate::texts::json_writing::write_numbers;
 use json::Writer;
 use sock_diag_extras::FilterInstruction;
+use sslist_texts::cells::{push_hex, push_number};
+use sslist_texts::json_writing::write_numbers;
 use std::alloc::{AllocError, Global};
 
 impl ShownRecord for FilterInstruction {

@@ -5,11 +5,11 @@
 ghost use Rattle.std.specs.Prelude.{◌≡◌, ◌++◌, IfOk, OnOk, option_map};
 ghost use Rattle.sslist_lister.specs.Headings.{caption, list_heading, text_before_table};
 
-use crate::command_line::Options;
 use crate::line::HEADING;
-use crate::texts::names::push_shown;
-use crate::texts::times::push_time;
 use netlink_captures::PacketHeader;
+use sslist_command_line::Options;
+use sslist_texts::names::push_shown;
+use sslist_texts::times::push_time;
 use std::alloc::{AllocError, Global};
 
 /// Returns the text before a table: a caption with the name of its file if `name` is given, and

@@ -16,18 +16,18 @@ ghost use Rattle.sslist_lister.specs.JsonAttributes.{attribute_members, attribut
 ghost use Rattle.sslist_lister.specs.JsonAttributes.{item_members, later_list, other_item};
 ghost use Rattle.sslist_lister.specs.JsonAttributes.{socket_json, socket_members};
 ghost use Rattle.sslist_lister.specs.JsonAttributes.{valid_members};
-ghost use Rattle.sslist_lister.specs.texts.JsonData.{JsonMember, array_member, json_text};
-ghost use Rattle.sslist_lister.specs.texts.JsonData.{object_of, optional_member};
-ghost use Rattle.sslist_lister.specs.texts.JsonWriting.{KeepsPrefix, members_tokens};
+ghost use Rattle.sslist_texts.specs.JsonData.{JsonMember, array_member, json_text};
+ghost use Rattle.sslist_texts.specs.JsonData.{object_of, optional_member};
+ghost use Rattle.sslist_texts.specs.JsonWriting.{KeepsPrefix, members_tokens};
 
 use crate::attributes::show_any;
 use crate::collected::{Attributes, Valid};
 use crate::facts::Status;
 use crate::kinds::reason_of;
-use crate::texts::json_writing::{write_numbers, write_optional, write_text};
 use json::Writer;
 use netlink_core::NlaBuffer;
 use sock_diag_extras::any::Sockets;
+use sslist_texts::json_writing::{write_numbers, write_optional, write_text};
 use std::alloc::{AllocError, Global};
 
 /// The header of a reply, which can be written as JSON.
@@ -42,8 +42,8 @@ pub(crate) trait JsonHeader {
             ++ members_tokens (json_members self.now)) };
 }
 
-/// Number of bytes that suffices for most lines.
-const MOST_LINES: usize = 2048;
+/// Initial capacity of the buffer of a line in bytes.
+const LINE_CAPACITY: usize = 2048;
 
 /// Appends the line of a socket with this header and these attributes, in the list of this number:
 /// a JSON object without spaces, and a line feed.
@@ -65,14 +65,14 @@ pub(crate) fn push_json<H: JsonHeader>(
 {
     let alloc = *text.allocator();
     // A writer fills as much memory with zeros as its text has bytes, so it gets only this line.
-    let mut writer = Writer::new(Vec::with_capacity(alloc, MOST_LINES)?);
+    let mut writer = Writer::new(Vec::with_capacity(alloc, LINE_CAPACITY)?);
     write_object(alloc, &mut writer, list, header, found)?;
     text.extend_from_slice(writer.into_inner().as_slice())?;
     Ok(text.push(b'\n')?)
 }
 
 /// Writes the object of a socket with this header and these attributes, in the list of this number.
-#[tactic(auto, using(crate::proofs::JsonWriting::json_object_rules))]
+#[tactic(auto, using(sslist_texts::proofs::JsonWriting::json_object_rules))]
 fn write_object<H: JsonHeader>(
     alloc: Global,
     writer: &mut Writer,
@@ -132,7 +132,7 @@ fn write_members(
 }
 
 /// Writes the members of the valid attribute in each slot, if there is one.
-#[tactic(auto, unfolding(crate::specs::texts::JsonWriting::members_tokens))]
+#[tactic(auto, unfolding(sslist_texts::specs::JsonWriting::members_tokens))]
 fn write_valid(
     alloc: Global,
     writer: &mut Writer,

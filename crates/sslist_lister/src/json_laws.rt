@@ -3,7 +3,7 @@
 ghost use Rattle.std.specs.Prelude.{◌≡◌};
 ghost use Rattle.hex.specs.Hex.{IsBytes};
 ghost use Rattle.sock_diag_attributes.specs.NameModel.{name_view_model};
-ghost use Rattle.sslist_lister.specs.texts.JsonData.{json_text, object_of};
+ghost use Rattle.sslist_texts.specs.JsonData.{json_text, object_of};
 ghost use Rattle.sslist_lister.specs.JsonNames.{name_members};
 ghost use Rattle.sslist_lister.specs.private.JsonNames.{bytes_of_name};
 

@@ -6,12 +6,12 @@ ghost use Rattle.std.specs.Prelude.{◌≡◌, ◌++◌, ◌∷◌, [], OnOk, co
 ghost use Rattle.json.specs.Token.{number};
 ghost use Rattle.sock_diag_attributes.specs.NameModel.{name_view_model};
 ghost use Rattle.sslist_lister.specs.JsonNames.{name_members};
-ghost use Rattle.sslist_lister.specs.texts.JsonData.{numbers_member, object_member};
-ghost use Rattle.sslist_lister.specs.texts.JsonWriting.{KeepsPrefix, members_tokens};
+ghost use Rattle.sslist_texts.specs.JsonData.{numbers_member, object_member};
+ghost use Rattle.sslist_texts.specs.JsonWriting.{KeepsPrefix, members_tokens};
 
-use crate::texts::json_writing::{begin_member, write_bytes};
 use json::Writer;
 use sock_diag_attributes::unix::nlas::NameView;
+use sslist_texts::json_writing::{begin_member, write_bytes};
 use std::alloc::{AllocError, Global};
 
 /// Writes the name of a UNIX socket, as the member `name`.

@@ -6,19 +6,19 @@ ghost use Rattle.std.specs.Prelude.{◌≡◌, ◌++◌, OnOk, map};
 ghost use Rattle.sslist_lister.specs.JsonOthers.{netlink_header_members, other_header_members};
 ghost use Rattle.sslist_lister.specs.JsonOthers.{packet_header_members, vsock_header_members};
 ghost use Rattle.sslist_lister.specs.JsonOthers.{xdp_header_members};
-ghost use Rattle.sslist_lister.specs.texts.JsonWriting.{KeepsPrefix, members_tokens};
+ghost use Rattle.sslist_texts.specs.JsonWriting.{KeepsPrefix, members_tokens};
 
-use crate::command_line::Family;
 use crate::json_attributes::JsonHeader;
 use crate::kinds::name_of_other_kind;
-use crate::texts::cells::name_of_state;
-use crate::texts::json_writing::{write_hex, write_numbers, write_text};
 use json::Writer;
 use sock_diag_families::netlink::NetlinkResponseHeader;
 use sock_diag_families::packet::PacketResponseHeader;
 use sock_diag_families::vsock::{AF_VSOCK, VsockResponseHeader};
 use sock_diag_families::xdp::{AF_XDP, XdpResponseHeader};
 use sock_diag_records::constants::{AF_NETLINK, AF_PACKET, TCP_CLOSE};
+use sslist_command_line::Family;
+use sslist_texts::cells::name_of_state;
+use sslist_texts::json_writing::{write_hex, write_numbers, write_text};
 use std::alloc::{AllocError, Global};
 
 /// Writes the members of a header: the columns Netid and State of the table, where State is the

@@ -5,19 +5,19 @@
 ghost use Rattle.std.specs.Prelude.{◌≡◌, ◌++◌, OnOk};
 ghost use Rattle.sslist_lister.specs.JsonSockets.{inet_back_members, inet_front_members};
 ghost use Rattle.sslist_lister.specs.JsonSockets.{inet_header_members, unix_header_members};
-ghost use Rattle.sslist_lister.specs.texts.JsonWriting.{KeepsPrefix, members_tokens};
+ghost use Rattle.sslist_texts.specs.JsonWriting.{KeepsPrefix, members_tokens};
 
 use crate::json_attributes::JsonHeader;
 use crate::kinds::{name_of_inet_kind, name_of_unix_kind};
 use crate::line::InetSocket;
 use crate::sctp::name_of_inet_state;
-use crate::texts::cells::name_of_state;
-use crate::texts::json_writing::{write_address, write_cookie, write_numbers, write_text};
 use json::Writer;
 use sock_diag_extras::any::RawTimer;
 use sock_diag_records::constants::AF_UNIX;
 use sock_diag_records::inet::InetResponseHeader;
 use sock_diag_records::unix::UnixResponseHeader;
+use sslist_texts::cells::name_of_state;
+use sslist_texts::json_writing::{write_address, write_cookie, write_numbers, write_text};
 use std::alloc::{AllocError, Global};
 
 impl JsonHeader for UnixResponseHeader {

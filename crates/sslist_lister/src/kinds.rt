@@ -6,12 +6,12 @@ ghost use Rattle.sslist_lister.specs.Details.{error_reason};
 ghost use Rattle.sslist_lister.specs.Others.{other_kind, vsock_kind};
 ghost use Rattle.sslist_lister.specs.Table.{family_name, inet_kind, unix_kind};
 
-use crate::command_line::{Family, IPPROTO_MPTCP, IPPROTO_TCP, IPPROTO_UDP};
 use netlink_core::DecodeError;
 use sock_diag_records::constants::{
     AF_INET6, IPPROTO_DCCP, IPPROTO_RAW, IPPROTO_SCTP, IPPROTO_UDPLITE, SOCK_DGRAM, SOCK_RAW,
     SOCK_SEQPACKET, SOCK_STREAM,
 };
+use sslist_command_line::{Family, IPPROTO_MPTCP, IPPROTO_TCP, IPPROTO_UDP};
 
 /// Returns the column Netid of a UNIX socket, by its type `SOCK_..`, as ss(8) prints it.
 pub(crate) fn name_of_unix_kind(kind: u8) -> &'static str

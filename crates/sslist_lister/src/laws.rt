@@ -1,31 +1,10 @@
-//! Properties of types that have no `Exact`: `clone`. And which fields the rows of [`crate::tcp`]
-//! are about.
+//! Which fields the rows of [`crate::tcp`] are about.
 
-ghost use Rattle.std.specs.Prelude.{◌≡◌, [], ◌∷◌, ◌++◌, map, IsOk, IfOk};
+ghost use Rattle.std.specs.Prelude.{◌≡◌, [], ◌∷◌, ◌++◌, map};
 ghost use Rattle.sock_diag_extras.specs.MptcpFields.{mptcp_fields, mptcp_span_of};
 ghost use Rattle.sock_diag_extras.specs.TcpFields.{tcp_span_of};
 ghost use Rattle.sslist_lister.specs.TcpRows.{spans_of_rows, tcp_number_fields, tcp_rows};
 ghost use Rattle.sslist_lister.specs.declared.tcp.TheConstants.{MPTCP_ROWS};
-
-use crate::command_line::Choice;
-use crate::texts::cells::Cells;
-use std::alloc::AllocError;
-
-/// Copies a choice by `clone`, which never fails and returns an equal value.
-pub fn copied_choice<'a>(v: &Choice<'a>) -> Result<Choice<'a>, AllocError>
-    ensures ok { IsOk result }
-    ensures same { IfOk result (λ copy. copy ≡ v.now) }
-{
-    v.clone()
-}
-
-/// Copies cells by `clone`, which never fails and returns an equal value.
-pub fn copied_cells(v: &Cells) -> Result<Cells, AllocError>
-    ensures ok { IsOk result }
-    ensures same { IfOk result (λ copy. copy ≡ v.now) }
-{
-    v.clone()
-}
 
 /// States that the rows of each struct are about all of its fields, in order, at their offsets and
 /// with their widths.

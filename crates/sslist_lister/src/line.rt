@@ -24,23 +24,18 @@ ghost use Rattle.sslist_lister.specs.Table.{inet_columns, inet_first_columns, in
 ghost use Rattle.sslist_lister.specs.Table.{inet_sockets, is_v6_only};
 ghost use Rattle.sslist_lister.specs.Table.{unix_columns, unix_first_columns};
 ghost use Rattle.sslist_lister.specs.Table.{unix_lines};
-ghost use Rattle.sslist_lister.specs.texts.CellsModel.{cells_model};
+ghost use Rattle.sslist_texts.specs.CellsModel.{cells_model};
 
 use crate::collected::Attributes;
-use crate::command_line::{IPPROTO_MPTCP, IPPROTO_TCP, Options};
 use crate::details::push_details;
 use crate::json_attributes::push_json;
 use crate::kinds::{name_of_inet_kind, name_of_unix_kind};
 use crate::name_cells::push_name_column;
 use crate::others::push_other;
+use crate::parts::NO_TIMER;
 use crate::protocol::protocol_in;
 use crate::sctp::{is_association, name_of_inet_state};
 use crate::selection::lists_inet;
-use crate::texts::cells::{
-    Cells, name_of_state, push_endpoint, push_endpoint_column, push_first_columns,
-    push_number_or_star,
-};
-use crate::texts::parts::NO_TIMER;
 use netlink_core::DecodeError;
 use sock_diag_attributes::unix::nlas::NameView;
 use sock_diag_extras::any::{AnyHeader, AnyNla, InfoFormat, RawTimer, Sockets};
@@ -50,6 +45,11 @@ use sock_diag_records::constants::{
 };
 use sock_diag_records::inet::InetResponseHeader;
 use sock_diag_records::unix::UnixResponseHeader;
+use sslist_command_line::{IPPROTO_MPTCP, IPPROTO_TCP, Options};
+use sslist_texts::cells::{
+    Cells, name_of_state, push_endpoint, push_endpoint_column, push_first_columns,
+    push_number_or_star,
+};
 use std::alloc::AllocError;
 
 /// Heading of the table.

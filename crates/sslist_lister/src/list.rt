@@ -27,7 +27,6 @@ ghost use Rattle.sslist_lister.specs.Messages.{message_parts};
 ghost use Rattle.sslist_lister.specs.Requests.{past_requests};
 ghost use Rattle.sslist_lister.specs.declared.list.Diagnostic.TheVariants.{Refused};
 
-use crate::command_line::{IPPROTO_TCP, Options};
 use crate::error_text::push_reason;
 use crate::explanation::push_explanation;
 use crate::headings::push_list_heading;
@@ -35,8 +34,6 @@ use crate::line::push_reply;
 use crate::messages::Message;
 use crate::request_line::push_shown_request;
 use crate::requests::Requests;
-use crate::texts::PacketOutput;
-use crate::texts::output::{push_short, push_truncation};
 use netlink_captures::{Packet, PacketHeader};
 use netlink_core::{
     DecodeError, FramedMessages, NLM_F_DUMP_INTR, NLMSG_NOOP, NLMSG_OVERRUN, NetlinkHeader,
@@ -44,6 +41,8 @@ use netlink_core::{
 };
 use sock_diag_extras::constants::{DCCPDIAG_GETSOCK, TCPDIAG_GETSOCK};
 use sock_diag_records::constants::IPPROTO_DCCP;
+use sslist_command_line::{IPPROTO_TCP, Options};
+use sslist_texts::output::{PacketOutput, push_short, push_truncation};
 use std::alloc::AllocError;
 use std::io::Write;
 
@@ -99,10 +98,11 @@ struct Position {
 /// value of an attribute, and a reply about a socket of an unknown family, are not errors. Packets
 /// of other protocols and the content of requests are not checked.
 ///
-/// Stores in `requests` the first request, and each request for IPv4 or IPv6 sockets, so that the
-/// protocol of its replies is known. A request that repeats the first one begins another list of
-/// sockets: appends a line with its time and the heading, unless `-H` or `--json` is set. Appends a
-/// line for a request if `--requests` is set and `--json` is not.
+/// Of the requests with which a datagram begins, stores in `requests` the first one, and the newest
+/// 16 for IPv4 or IPv6 sockets, so that the protocol of their replies is known. A request that
+/// repeats the first one begins another list of sockets: appends an empty line, a line with its
+/// time, and the heading, unless `-H` or `--json` is set. Appends a line for a request if
+/// `--requests` is set and `--json` is not.
 pub fn list_packet(
     written: &mut PacketOutput<'_>,
     requests: &mut Requests,
@@ -471,7 +471,7 @@ fn push_explained_diagnostic(
 }
 
 /// Appends the line of a diagnostic, which ends with the explanation in the message `explained`.
-#[tactic(auto, using(crate::proofs::Adding::three_texts_concatenate))]
+#[tactic(auto, using(sslist_texts::proofs::Adding::three_texts_concatenate))]
 fn push_explained_line(
     written: &mut PacketOutput<'_>,
     position: Position,
@@ -503,7 +503,7 @@ fn push_explained_text(
 }
 
 /// Appends the line of a diagnostic.
-#[tactic(auto, using(crate::proofs::Adding::three_texts_concatenate))]
+#[tactic(auto, using(sslist_texts::proofs::Adding::three_texts_concatenate))]
 fn push_diagnostic(
     written: &mut PacketOutput<'_>,
     position: Position,

@@ -5,13 +5,13 @@
 ghost use Rattle.std.proofs.Common.{rules};
 ghost use Rattle.std.specs.Prelude.{◌≡◌, ◌++◌, OnOk, flat_map};
 ghost use Rattle.sslist_lister.specs.Md5Keys.{key_byte, md5_key_members, md5_key_text};
-ghost use Rattle.sslist_lister.specs.texts.JsonWriting.{KeepsPrefix, members_tokens};
+ghost use Rattle.sslist_texts.specs.JsonWriting.{KeepsPrefix, members_tokens};
 
 use crate::records::{ShownRecord, push_ip_or_star, write_ip};
-use crate::texts::cells::{push_after, push_digits, push_escaped_byte};
-use crate::texts::json_writing::{write_numbers, write_text};
 use json::Writer;
 use sock_diag_extras::Md5Signature;
+use sslist_texts::cells::{push_after, push_digits, push_escaped_byte};
+use sslist_texts::json_writing::{write_numbers, write_text};
 use std::alloc::{AllocError, Global};
 
 impl ShownRecord for Md5Signature {

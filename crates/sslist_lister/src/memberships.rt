@@ -4,12 +4,12 @@
 ghost use Rattle.std.proofs.Common.{rules};
 ghost use Rattle.std.specs.Prelude.{◌≡◌, ◌++◌, OnOk};
 ghost use Rattle.sslist_lister.specs.Memberships.{membership_members, membership_text};
-ghost use Rattle.sslist_lister.specs.texts.JsonWriting.{KeepsPrefix, members_tokens};
+ghost use Rattle.sslist_texts.specs.JsonWriting.{KeepsPrefix, members_tokens};
 
 use crate::records::ShownRecord;
-use crate::texts::json_writing::{write_numbers, write_text};
 use json::Writer;
 use sock_diag_extras::PacketMembership;
+use sslist_texts::json_writing::{write_numbers, write_text};
 use std::alloc::{AllocError, Global};
 
 impl ShownRecord for PacketMembership {

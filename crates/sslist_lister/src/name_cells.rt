@@ -7,16 +7,16 @@
 
 ghost use Rattle.std.specs.Prelude.{◌≡◌, ◌++◌, ◌≤◌, [], ℕ, List, OnOk, Some, drop};
 ghost use Rattle.std.specs.Prelude.{option_map, vec_len};
-ghost use Rattle.sslist_lister.specs.texts.Escapes.{unescaped_bytes};
+ghost use Rattle.sslist_texts.specs.Escapes.{unescaped_bytes};
 ghost use Rattle.sock_diag_attributes.specs.declared.unix.name.SocketName.TheVariants.{Abstract};
 ghost use Rattle.sock_diag_attributes.specs.declared.unix.name.SocketName.TheVariants.{Pathname};
 ghost use Rattle.sock_diag_attributes.specs.NameModel.{name_view_model};
-ghost use Rattle.sslist_lister.specs.texts.Widths.{cell_width, name_column, spaces_after};
+ghost use Rattle.sslist_lister.specs.Widths.{cell_width, name_column, spaces_after};
 ghost use Rattle.sslist_lister.specs.Table.{needs_escaped_first_byte, name_cell, name_of_cell};
 
-use crate::texts::cells::push_digits;
-use crate::texts::names::push_shown;
 use sock_diag_attributes::unix::nlas::NameView;
+use sslist_texts::cells::push_digits;
+use sslist_texts::names::push_shown;
 use std::alloc::AllocError;
 use unicode_width::UnicodeWidthStr;
 

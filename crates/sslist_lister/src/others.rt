@@ -7,8 +7,8 @@
 //! are the members of a header in JSON.
 
 ghost use Rattle.std.specs.Prelude.{◌≡◌, ◌++◌, IfOk, OnOk, option_map};
-ghost use Rattle.sslist_lister.specs.texts.CellsModel.{cells_model};
-ghost use Rattle.sslist_lister.specs.texts.Cells.{column};
+ghost use Rattle.sslist_texts.specs.CellsModel.{cells_model};
+ghost use Rattle.sslist_texts.specs.Cells.{column};
 ghost use Rattle.sslist_lister.specs.Collected.{Summary, collected, summary_of};
 ghost use Rattle.sslist_lister.specs.JsonListing.{other_output};
 ghost use Rattle.sslist_lister.specs.Others.{memory_in, optional_address_text, packet_interface};
@@ -24,15 +24,11 @@ ghost use Rattle.sslist_lister.specs.declared.others.OtherSocket.{OtherSocket as
 
 use crate::attributes::memory_kind;
 use crate::collected::Attributes;
-use crate::command_line::{Family, Options};
 use crate::details::push_details;
 use crate::json_attributes::{JsonHeader, push_json};
 use crate::kinds::name_of_other_kind;
 use crate::line::LOCAL_WIDTH;
-use crate::texts::cells::{
-    Cells, end_column, name_of_state, push_first_columns, push_number_or_star,
-};
-use crate::texts::parts::NO_TIMER;
+use crate::parts::NO_TIMER;
 use byteorder::{ByteOrder, LittleEndian};
 use netlink_core::DecodeError;
 use sock_diag_extras::any::{AnyNla, Sockets};
@@ -42,6 +38,10 @@ use sock_diag_families::vsock::VsockResponseHeader;
 use sock_diag_families::xdp::{XDP_DIAG_INFO, XDP_DIAG_UID, XdpResponseHeader};
 use sock_diag_records::constants::TCP_CLOSE;
 use sock_diag_values::inet::MemInfo;
+use sslist_command_line::{Family, Options};
+use sslist_texts::cells::{
+    Cells, end_column, name_of_state, push_first_columns, push_number_or_star,
+};
 use std::alloc::AllocError;
 
 /// `NETLINK_CONNECTED`, the state of a netlink socket that is connected to another one.
@@ -132,7 +132,7 @@ fn push_output<H: Listed>(
 }
 
 /// Appends the lines of the table for a socket with the attributes `found`.
-#[tactic(auto, using(crate::proofs::Adding::three_texts_concatenate))]
+#[tactic(auto, using(sslist_texts::proofs::Adding::three_texts_concatenate))]
 fn push_lines(
     text: &mut Vec<u8>,
     options: Options<'_>,

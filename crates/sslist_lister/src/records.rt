@@ -8,12 +8,12 @@ ghost use Rattle.std.specs.Prelude.{◌≡◌, ◌<◌, ◌++◌, ℕ, List, OnO
 ghost use Rattle.json.specs.Tree.{json_tokens};
 ghost use Rattle.sslist_lister.specs.RecordFacts.{ip_member, ip_or_star, records_in};
 ghost use Rattle.sslist_lister.specs.Facts.{separated_records};
-ghost use Rattle.sslist_lister.specs.texts.JsonData.{JsonMember, array_member, object_of};
-ghost use Rattle.sslist_lister.specs.texts.JsonWriting.{KeepsPrefix, members_tokens};
+ghost use Rattle.sslist_texts.specs.JsonData.{JsonMember, array_member, object_of};
+ghost use Rattle.sslist_texts.specs.JsonWriting.{KeepsPrefix, members_tokens};
 
-use crate::texts::json_writing::write_address;
 use json::Writer;
 use sock_diag_extras::{AttributeRecord, read_attribute_record};
+use sslist_texts::json_writing::write_address;
 use std::alloc::{AllocError, Global};
 use std::io::Write;
 use std::net::IpAddr;

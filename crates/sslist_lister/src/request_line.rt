@@ -12,14 +12,14 @@ ghost use Rattle.sslist_lister.specs.RequestLine.{requested_family_text, request
 ghost use Rattle.sslist_lister.specs.RequestLine.{request_verb};
 ghost use Rattle.sslist_lister.specs.Requests.{requested};
 
-use crate::command_line::{Family, Options};
 use crate::kinds::{name_of_inet_family, name_of_inet_kind};
 use crate::messages::Message;
+use crate::parts::push_hex_detail;
 use crate::requests::{Query, Requested, requested_by};
-use crate::texts::parts::push_hex_detail;
-use crate::texts::times::push_time;
 use netlink_captures::PacketHeader;
 use sock_diag_records::constants::SOCK_DESTROY;
+use sslist_command_line::{Family, Options};
+use sslist_texts::times::push_time;
 use std::alloc::AllocError;
 
 /// Appends the line of a request, if `--requests` is set and `--json` is not. `header` has the time

@@ -13,7 +13,6 @@ ghost use Rattle.sslist_lister.specs.Requests.{query_of};
 ghost use Rattle.sslist_lister.specs.Requests.{requested, with_query};
 ghost use Rattle.sslist_lister.specs.Requests.{with_request};
 
-use crate::command_line::Family;
 use crate::lists::FirstRequest;
 use crate::messages::Message;
 use crate::pieces::find_last_of_kind;
@@ -26,6 +25,7 @@ use sock_diag_records::constants::{
 };
 use sock_diag_records::inet::{INET_DIAG_REQ_PROTOCOL, INET_REQUEST_LEN};
 use sock_diag_records::unix::UNIX_REQUEST_LEN;
+use sslist_command_line::Family;
 use std::alloc::{AllocError, Global};
 
 /// Number of older requests that are kept when a new one is added: at most 16 are kept.

@@ -8,8 +8,8 @@ ghost use Rattle.sslist_lister.specs.Sctp.{association_state_name, association_t
 ghost use Rattle.sslist_lister.specs.Sctp.{inet_state_name, inet_tcp_state, is_association};
 
 use crate::collected::Attributes;
-use crate::texts::cells::name_of_state;
 use sock_diag_records::constants::{INET_DIAG_PEERS, IPPROTO_SCTP, TCP_CLOSE, TCP_ESTABLISHED};
+use sslist_texts::cells::name_of_state;
 
 /// The state by which the options select an association in a state that TCP does not have. It is no
 /// TCP state, so the groups of states that are all except some of these select it.

@@ -5,12 +5,12 @@
 ghost use Rattle.std.proofs.Common.{rules};
 ghost use Rattle.std.specs.Prelude.{◌≡◌, ◌++◌, OnOk};
 ghost use Rattle.sslist_lister.specs.SctpAddresses.{stored_address_members, stored_address_text};
-ghost use Rattle.sslist_lister.specs.texts.JsonWriting.{KeepsPrefix, members_tokens};
+ghost use Rattle.sslist_texts.specs.JsonWriting.{KeepsPrefix, members_tokens};
 
 use crate::records::{ShownRecord, push_ip_or_star, write_ip};
-use crate::texts::json_writing::write_numbers;
 use json::Writer;
 use sock_diag_extras::StoredAddress;
+use sslist_texts::json_writing::write_numbers;
 use std::alloc::{AllocError, Global};
 
 impl ShownRecord for StoredAddress {

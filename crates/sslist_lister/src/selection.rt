@@ -7,13 +7,13 @@ ghost use Rattle.sslist_lister.specs.Collected.{collected, value_in};
 ghost use Rattle.sslist_lister.specs.Selection.{lists_inet, meets_filter, socket_facts};
 
 use crate::collected::Attributes;
-use crate::command_line::Options;
 use crate::line::InetSocket;
 use crate::sctp::tcp_state_of;
 use sock_diag_extras::any::AnyNla;
 use sock_diag_extras::constants::INET_DIAG_CGROUP_ID;
 use sock_diag_filters::SocketFacts;
 use sock_diag_records::constants::{AF_INET6, INET_DIAG_MARK};
+use sslist_command_line::Options;
 
 /// Returns whether the options select an IPv4 or IPv6 socket with the attributes `found`: they list
 /// its protocol, its IP version and its state, and it meets the filter.

@@ -1,18 +1,26 @@
 //! The table of a capture. Each packet is listed before the next one is read.
+//!
+//! In the contracts of [`read_header`] and [`read_packet`], `bytes` are the bytes that were read.
+//! If such a function fails, `error` is the reason, and `part` are the bytes that were read until
+//! then: the reason is in these bytes, or the input ends after them, or a read failed.
 
-ghost use Rattle.std.specs.Prelude.{◌≡◌, OnOk, IfErr};
+ghost use Rattle.std.specs.Prelude.{◌≡◌, List, ℕ, OnOk, IfErr, IfOk, MatchOption};
+ghost use Rattle.std.specs.Io.KnownBytes.{Consumes, IsAtEnd};
+ghost use Rattle.netlink_captures.specs.Capture.{captured_packet, stopped_input};
+ghost use Rattle.netlink_captures.specs.Reader.{IsCaptureEnd, IsCaptureStart, IsCaptureStartStop};
+ghost use Rattle.netlink_captures.specs.Reader.{IsCaptureStop, ReadsPacket, state_of};
 ghost use Rattle.program_streams.specs.declared.streams.WriteError.{WriteError};
 ghost use Rattle.sslist_lister.specs.Run.{ListingEnds};
-ghost use Rattle.sslist_lister.specs.texts.Reports.{Reports, error_output};
+ghost use Rattle.sslist_texts.specs.Reports.{Reports, error_output};
 
-use crate::command_line::Options;
 use crate::list::list_packet;
 use crate::requests::Requests;
-use crate::texts::list_error::{read_header, read_packet};
-use crate::texts::reports::report;
-use crate::texts::{ListError, PacketOutput};
-use netlink_captures::CaptureError;
+use netlink_captures::{CaptureError, CaptureReader, PacketHeader};
 use program_streams::{ReadError, Sink, Source, send};
+use sslist_command_line::Options;
+use sslist_texts::ListError;
+use sslist_texts::output::PacketOutput;
+use sslist_texts::reports::report;
 use std::alloc::Global;
 
 /// Writes the table of the capture in `input` on `output`: `heading`, and the lines of each packet
@@ -85,4 +93,53 @@ pub fn run<R: Source, W: Sink, E: Sink>(
         packet: u64::MAX,
         error: CaptureError::Read(ReadError::Other),
     })
+}
+
+/// Opens a capture by `CaptureReader::open`. Fails with `Header`, which contains the error of that
+/// call.
+fn read_header<R: Source>(alloc: Global, input: &mut R) -> Result<CaptureReader, ListError>
+    // A capture starts with `bytes`, and the reader has the state after them.
+    ensures read { IfOk result (λ reader. (bytes : List ℕ) × IsCaptureStart bytes (state_of reader)
+        × Consumes (R.left input.old) (R.left input.new) bytes) }
+    ensures stopped { IfErr result (λ e. (error : CaptureError) × (e ≡ ListError.Header error)
+        × (part : List ℕ)
+        × Consumes (R.left input.old) (R.left input.new) part
+        × IsCaptureStartStop (stopped_input (R.left input.new) (R.failed input.new) part) error) }
+{
+    match CaptureReader::open(alloc, input) {
+        Ok(reader) => Ok(reader),
+        Err(error) => Err(ListError::Header(error)),
+    }
+}
+
+/// Reads the next packet into `packet`, whose former content is dropped. Returns the fields of the
+/// packet header. Returns `None` if no packet follows; then the input was read to its end. Fails
+/// with `Packet`, which contains `number` and the error of `CaptureReader::read_packet`.
+fn read_packet<R: Source>(
+    reader: &mut CaptureReader,
+    input: &mut R,
+    number: u64,
+    packet: &mut Vec<u8>,
+) -> Result<Option<PacketHeader>, ListError>
+    // If no packet was found, `bytes` are the last ones, and have no packet. Else they lead the
+    // reader to its new state over one packet, with the bytes in `packet` and this header.
+    ensures read { IfOk result (λ found. (bytes : List ℕ)
+        × Consumes (R.left input.old) (R.left input.new) bytes
+        × MatchOption found
+        (IsAtEnd (R.left input.new) × IsCaptureEnd (state_of reader.old) bytes)
+        (λ header. ReadsPacket (state_of reader.old) bytes
+        (captured_packet packet.new.items header) (state_of reader.new))) }
+    ensures stopped { IfErr result (λ e. (error : CaptureError)
+        × (e ≡ ListError.Packet number error) × (part : List ℕ)
+        × Consumes (R.left input.old) (R.left input.new) part
+        × IsCaptureStop (state_of reader.old)
+        (stopped_input (R.left input.new) (R.failed input.new) part) error) }
+{
+    match reader.read_packet(input, packet) {
+        Ok(found) => Ok(found),
+        Err(error) => Err(ListError::Packet {
+            packet: number,
+            error,
+        }),
+    }
 }

@@ -133,7 +133,11 @@ pub mod sockdiag_c;
 #[cfg(feature = "std")]
 mod sslist;
 #[cfg(feature = "std")]
+mod sslist_command_line;
+#[cfg(feature = "std")]
 mod sslist_lister;
+#[cfg(feature = "std")]
+mod sslist_texts;
 
 pub use kit::memory::{AllocError, AllocFailed};
 pub use kit::smallvec::SmallVec;

@@ -1,10 +1,10 @@
 use Rattle.std.proofs.Common.{true, ◌++◌}
-use Rattle.sslist_lister.proofs.Reporting.{reports_from_start, reports_then}
-use Rattle.sslist_lister.specs.texts.Reports.{ReportsText}
-use Rattle.sslist_lister.proofs.Reporting.{ReportsMore}
+use Rattle.sslist_texts.proofs.Reporting.{reports_from_start, reports_then}
+use Rattle.sslist_texts.specs.Reports.{ReportsText}
+use Rattle.sslist_texts.proofs.Reporting.{ReportsMore}
 use Rattle.program_streams.specs.declared.streams.WriteError.{WriteError}
 use Rattle.sslist_lister.proofs.Failing.{run_outcome}
-use Rattle.sslist_lister.specs.texts.Reports.{closing_text}
+use Rattle.sslist_lister.specs.Run.{closing_text}
 use Rattle.sslist_lister.proofs.run_to_status.Goals as goal
 
 pub returns : goal.returns

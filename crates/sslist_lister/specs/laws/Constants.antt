@@ -2,26 +2,22 @@
 use Rattle.std.proofs.Common.{◌≡◌, ◌+◌, ◌^◌, [], ◌∷◌, refl}
 use Rattle.sock_diag_extras.specs.declared.constants.TheConstants.{INET_DIAG_SOCKOPT}
 use Rattle.sslist_lister.specs.declared.collected.TheConstants.{KINDS}
-use Rattle.sslist_lister.specs.declared.command_line.options.TheConstants as options
 use Rattle.sslist_lister.specs.declared.family_facts.TheConstants.{GROUP_BITS, MAX_MASK_LENGTH}
 use Rattle.sslist_lister.specs.declared.line.TheConstants.{LOCAL_WIDTH, NO_INTERFACE}
 use Rattle.sslist_lister.specs.declared.list.TheConstants.{EINVAL, ENOENT}
 use Rattle.sslist_lister.specs.declared.others.TheConstants.{ANY, NETLINK_CONNECTED}
 use Rattle.sslist_lister.specs.declared.sctp.TheConstants.{NO_TCP_STATE}
-use Rattle.sslist_lister.specs.declared.texts.cells.TheConstants as cells
-use Rattle.sslist_lister.specs.declared.texts.names.TheConstants as names
-use Rattle.sslist_lister.specs.declared.texts.parts.TheConstants as parts
+use Rattle.sslist_lister.specs.declared.parts.TheConstants as parts
 
 -- numbers of errno(3)
 pub error_numbers : (ENOENT ≡ 2) × (EINVAL ≡ 22)
 error_numbers = (refl, refl)
 
--- numbers of the kernel: protocols, the state of a connected netlink socket, VMADDR_CID_ANY and
+-- numbers of the kernel: the state of a connected netlink socket, VMADDR_CID_ANY and
 -- VMADDR_PORT_ANY, and the bits of `sk_shutdown`
-pub kernel_numbers : (options.IPPROTO_TCP ≡ 6) × (options.IPPROTO_UDP ≡ 17)
-    × (options.IPPROTO_MPTCP ≡ 262) × (NETLINK_CONNECTED ≡ 1) × (ANY ≡ 0xffffffff)
-    × (NO_INTERFACE ≡ 0) × (parts.RCV_SHUTDOWN ≡ 1) × (parts.SEND_SHUTDOWN ≡ 2)
-kernel_numbers = (refl, refl, refl, refl, refl, refl, refl, refl)
+pub kernel_numbers : (NETLINK_CONNECTED ≡ 1) × (ANY ≡ 0xffffffff) × (NO_INTERFACE ≡ 0)
+    × (parts.RCV_SHUTDOWN ≡ 1) × (parts.SEND_SHUTDOWN ≡ 2)
+kernel_numbers = (refl, refl, refl, refl, refl)
 
 -- the bits of a byte, each with its index
 pub group_bits : GROUP_BITS ≡ (1, 0) ∷ (2, 1) ∷ (4, 2) ∷ (8, 3) ∷ (16, 4) ∷ (32, 5) ∷ (64, 6)
@@ -40,12 +36,6 @@ no_tcp_state = refl
 pub number_of_kinds : KINDS ≡ INET_DIAG_SOCKOPT + 1
 number_of_kinds = refl
 
--- the widths of the columns, by the heading of the table
-pub widths : (cells.NETID_WIDTH ≡ 5) × (cells.STATE_WIDTH ≡ 10) × (cells.QUEUE_WIDTH ≡ 6)
-    × (cells.INODE_WIDTH ≡ 10) × (cells.UID_WIDTH ≡ 5) × (LOCAL_WIDTH ≡ 30)
-widths = (refl, refl, refl, refl, refl, refl)
-
--- blank characters of Unicode
-pub blank_characters : (names.BRAILLE_BLANK ≡ 0x2800) × (names.NULL_NOTEHEAD ≡ 0x1d159)
-    × (names.HIEROGLYPH_FULL_BLANK ≡ 0x13441) × (names.HIEROGLYPH_HALF_BLANK ≡ 0x13442)
-blank_characters = (refl, refl, refl, refl)
+-- the width of the column of the local address, by the heading of the table
+pub local_width : LOCAL_WIDTH ≡ 30
+local_width = refl

@@ -1,9 +1,9 @@
 -- The tokens of facts in JSON.
 use Rattle.std.specs.Prelude.{◌≡◌, ℕ, List, [], ◌∷◌, ◌++◌, refl}
 use Rattle.json.specs.Token.{begin_object, end_object, key}
-use Rattle.sslist_lister.specs.laws.MemberTokens.{object_member_tokens}
-use Rattle.sslist_lister.specs.texts.JsonData.{JsonMember, object_member}
-use Rattle.sslist_lister.specs.texts.JsonWriting.{members_tokens}
+use Rattle.sslist_texts.specs.laws.MemberTokens.{object_member_tokens}
+use Rattle.sslist_texts.specs.JsonData.{JsonMember, object_member}
+use Rattle.sslist_texts.specs.JsonWriting.{members_tokens}
 
 -- No members have no tokens.
 pub no_tokens : members_tokens [] ≡ []

@@ -2,7 +2,7 @@
 use Rattle.std.specs.Prelude.{◌≡◌, ℕ, List}
 use Rattle.sock_diag_attributes.specs.declared.unix.name.SocketName.{SocketName}
 use Rattle.sock_diag_attributes.specs.declared.unix.name.SocketName.TheVariants.{Abstract, Pathname}
-use Rattle.sslist_lister.specs.texts.JsonData.{JsonMember, json_text, object_of}
+use Rattle.sslist_texts.specs.JsonData.{JsonMember, json_text, object_of}
 
 -- `HaveSameText members others`: the JSON objects with these members have the same text
 abbrev pub HaveSameText : List JsonMember → List JsonMember → Type 0

@@ -2,9 +2,9 @@ use Rattle.std.proofs.Common.{◌≡◌, ◌++◌, ◌∙◌, ap, sym}
 use Rattle.netlink_core.specs.Attribute.{attribute_kind}
 use Rattle.sslist_lister.specs.Collected.{other_model}
 use Rattle.sslist_lister.specs.Details.{detail_group, other_detail, status_text}
-use Rattle.sslist_lister.specs.command_line.Options.{shows_detail}
-use Rattle.sslist_lister.proofs.Adding.{one_more_element_appended, selected_part_appended}
-use Rattle.sslist_lister.proofs.Adding.{all_parts_appended, unselected_part_absent}
+use Rattle.sslist_command_line.specs.Options.{shows_detail}
+use Rattle.sslist_texts.proofs.Adding.{one_more_element_appended, selected_part_appended}
+use Rattle.sslist_texts.proofs.Adding.{all_parts_appended, unselected_part_absent}
 use Rattle.sslist_lister.proofs.details.push_others.Goals as goal
 use Rattle.sslist_lister.proofs.details.push_others.Goals.{else-shows}
 use Rattle.sslist_lister.proofs.details.push_others.Goals.{then-shows+in_ok-push_status}

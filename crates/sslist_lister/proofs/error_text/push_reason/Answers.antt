@@ -2,7 +2,7 @@ use Rattle.std.proofs.Common.{append-nil}
 use Rattle.sslist_lister.specs.Diagnostics.{diagnostic_text}
 use Rattle.sslist_lister.specs.declared.list.Diagnostic.TheVariants.{Interrupted, Invalid, Lost}
 use Rattle.sslist_lister.specs.declared.list.Diagnostic.TheVariants.{NoEntry, NoNumber}
-use Rattle.sslist_lister.proofs.Adding.{appended_on_success}
+use Rattle.sslist_texts.proofs.Adding.{appended_on_success}
 use Rattle.sslist_lister.proofs.error_text.push_reason.Goals as goal
 
 pub returns-in-Refused : goal.returns-in-Refused

@@ -3,7 +3,7 @@ use Rattle.std.proofs.lemmas.Result.{on_ok_weaker}
 use Rattle.sslist_lister.specs.Explanation.{text_and_offset_in}
 use Rattle.sslist_lister.specs.Messages.{request_in}
 use Rattle.sslist_lister.specs.RequestLine.{request_note}
-use Rattle.sslist_lister.proofs.Adding.{appended_texts_concatenate}
+use Rattle.sslist_texts.proofs.Adding.{appended_texts_concatenate}
 use Rattle.sslist_lister.proofs.explanation.push_explanation.Goals as goal
 
 pub returns : goal.returns

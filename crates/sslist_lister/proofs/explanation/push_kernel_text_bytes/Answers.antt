@@ -1,5 +1,5 @@
 use Rattle.sslist_lister.specs.Explanation.{kernel_text_byte}
-use Rattle.sslist_lister.proofs.Adding.{all_parts_appended, one_more_part_appended}
+use Rattle.sslist_texts.proofs.Adding.{all_parts_appended, one_more_part_appended}
 use Rattle.sslist_lister.proofs.explanation.push_kernel_text_bytes.Goals as goal
 
 pub loop-byte-preserved : goal.loop-byte-preserved

@@ -1,7 +1,7 @@
 use Rattle.std.proofs.Common.{◌≡◌, ◌≢◌, ◌+◌, ◌++◌, ◌∷◌, [], ℕ, List, append-nil, arith}
 use Rattle.std.proofs.Common.{bit_and, get_or}
 use Rattle.sslist_lister.specs.FamilyFacts.{group_of_bit}
-use Rattle.sslist_lister.proofs.Adding.{all_parts_appended, one_more_part_appended}
+use Rattle.sslist_texts.proofs.Adding.{all_parts_appended, one_more_part_appended}
 use Rattle.sslist_lister.proofs.family_facts.push_set_bits.Goals as goal
 use Rattle.sslist_lister.proofs.family_facts.push_set_bits.Goals.{else-byte-bit-ne0}
 use Rattle.sslist_lister.proofs.family_facts.push_set_bits.Goals.{then-byte-bit-ne0+in_ok-push}

@@ -1,5 +1,5 @@
 use Rattle.std.proofs.lemmas.Result.{on_ok_weaker}
-use Rattle.sslist_lister.proofs.JsonWriting.{joined_value}
+use Rattle.sslist_texts.proofs.JsonWriting.{joined_value}
 use Rattle.sslist_lister.proofs.json_attributes.write_item.Goals as goal
 
 pub returns-clause-tokens : goal.returns-clause-tokens

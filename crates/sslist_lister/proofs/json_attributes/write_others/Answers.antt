@@ -4,7 +4,7 @@ use Rattle.json.specs.Token.{Token}
 use Rattle.sslist_lister.proofs.Slots.{tokens_of_others}
 use Rattle.sslist_lister.specs.Collected.{other_model}
 use Rattle.sslist_lister.specs.JsonAttributes.{other_item}
-use Rattle.sslist_lister.proofs.JsonWriting.{joined_array}
+use Rattle.sslist_texts.proofs.JsonWriting.{joined_array}
 use Rattle.sslist_lister.proofs.json_attributes.write_others.Goals as goal
 
 pub returns-clause-members : goal.returns-clause-members

@@ -1,7 +1,7 @@
 use Rattle.std.proofs.Common.{◌≡◌, ◌++◌, drop, flat_map}
 use Rattle.sslist_lister.specs.Collected.{slot_value}
 use Rattle.sslist_lister.specs.JsonAttributes.{valid_members}
-use Rattle.sslist_lister.specs.texts.JsonWriting.{members_tokens}
+use Rattle.sslist_texts.specs.JsonWriting.{members_tokens}
 use Rattle.sslist_lister.proofs.json_attributes.write_valid.Given as goal
 
 -- the text before the writer's is unchanged, and the tokens so far, followed by those of the

@@ -1,5 +1,5 @@
 use Rattle.std.proofs.lemmas.Result.{on_ok_weaker}
-use Rattle.sslist_lister.proofs.JsonWriting.{joined_object}
+use Rattle.sslist_texts.proofs.JsonWriting.{joined_object}
 use Rattle.sslist_lister.proofs.json_names.write_name.Goals as goal
 
 pub returns-clause-members : goal.returns-clause-members

@@ -1,6 +1,6 @@
 use Rattle.std.proofs.lemmas.Result.{on_ok_weaker}
 use Rattle.sslist_lister.specs.JsonSockets.{unix_header_members}
-use Rattle.sslist_lister.proofs.JsonWriting.{joined_members}
+use Rattle.sslist_texts.proofs.JsonWriting.{joined_members}
 use Rattle.sslist_lister.proofs.json_sockets.write_unix_header.Goals as goal
 
 pub returns-clause-members : goal.returns-clause-members

@@ -1,7 +1,7 @@
 use Rattle.std.proofs.Common.{◌++◌, ap, ◌∙◌}
 use Rattle.std.proofs.lemmas.Result.{on_ok_weaker}
-use Rattle.sslist_lister.specs.texts.Cells.{first_columns}
-use Rattle.sslist_lister.proofs.Adding.{appended_texts_concatenate}
+use Rattle.sslist_texts.specs.Cells.{first_columns}
+use Rattle.sslist_texts.proofs.Adding.{appended_texts_concatenate}
 use Rattle.sslist_lister.proofs.line.push_inet_columns.Goals as goal
 
 pub returns : goal.returns

@@ -1,4 +1,4 @@
-use Rattle.sslist_lister.proofs.Adding.{appended_texts_concatenate}
+use Rattle.sslist_texts.proofs.Adding.{appended_texts_concatenate}
 use Rattle.sslist_lister.proofs.list.list_message.Goals as goal
 
 pub returns-clause-diagnosed : goal.returns-clause-diagnosed

@@ -1,5 +1,5 @@
 use Rattle.sslist_lister.specs.Md5Keys.{key_byte}
-use Rattle.sslist_lister.proofs.Adding.{all_parts_appended, one_more_part_appended}
+use Rattle.sslist_texts.proofs.Adding.{all_parts_appended, one_more_part_appended}
 use Rattle.sslist_lister.proofs.md5_keys.push_key_bytes.Goals as goal
 
 pub loop-byte-preserved : goal.loop-byte-preserved

@@ -1,5 +1,5 @@
 use Rattle.std.proofs.Common.{arith}
-use Rattle.sslist_lister.proofs.JsonWriting.{json_rules}
+use Rattle.sslist_texts.proofs.JsonWriting.{json_rules}
 use Rattle.sslist_lister.specs.Memberships.{membership_members}
 use Rattle.sslist_lister.proofs.memberships.write_membership.Goals as goal
 

@@ -1,7 +1,7 @@
 use Rattle.std.proofs.Common.{◌≡◌, ◌≤◌, ◌<◌, ◌++◌, ◌∙◌, append-nil, ap, flat_map, length, rules}
 use Rattle.std.proofs.Common.{sym}
 use Rattle.json.specs.Tree.{json_tokens}
-use Rattle.sslist_lister.specs.texts.JsonData.{object_of}
+use Rattle.sslist_texts.specs.JsonData.{object_of}
 use Rattle.sock_diag_extras.specs.RecordTable.{parse_by_table}
 use Rattle.sslist_lister.proofs.RecordLists.{record_mapped, records_end}
 use Rattle.sslist_lister.proofs.records.write_items.Goals as goal

@@ -1,7 +1,7 @@
 use Rattle.std.proofs.Common.{◌≡◌, ◌++◌, flat_map, length}
 use Rattle.json.specs.Tree.{json_tokens}
 use Rattle.sslist_lister.specs.RecordFacts.{records_in}
-use Rattle.sslist_lister.specs.texts.JsonData.{object_of}
+use Rattle.sslist_texts.specs.JsonData.{object_of}
 use Rattle.sslist_lister.proofs.records.write_items.Given as goal
 
 -- the text before the writer's is unchanged, and the tokens so far, followed by those of the

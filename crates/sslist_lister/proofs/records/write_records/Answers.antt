@@ -2,8 +2,8 @@ use Rattle.std.proofs.Common.{◌∙◌, ◌++◌, ap, sym, List}
 use Rattle.std.proofs.lemmas.Result.{on_ok_weaker}
 use Rattle.json.specs.Token.{Token}
 use Rattle.sslist_lister.specs.RecordFacts.{records_in}
-use Rattle.sslist_lister.specs.texts.JsonData.{object_of}
-use Rattle.sslist_lister.proofs.JsonWriting.{items_of_map, joined_array}
+use Rattle.sslist_texts.specs.JsonData.{object_of}
+use Rattle.sslist_texts.proofs.JsonWriting.{items_of_map, joined_array}
 use Rattle.sslist_lister.proofs.records.write_records.Goals as goal
 
 pub returns-clause-members : goal.returns-clause-members

@@ -1,5 +1,5 @@
 use Rattle.std.proofs.Common.{arith}
-use Rattle.sslist_lister.proofs.JsonWriting.{json_rules}
+use Rattle.sslist_texts.proofs.JsonWriting.{json_rules}
 use Rattle.sslist_lister.specs.SctpAddresses.{stored_address_members}
 use Rattle.sslist_lister.proofs.sctp_addresses.write_address_members.Goals as goal
 

@@ -5,12 +5,12 @@ use Rattle.std.specs.Prelude.{flat_map, MatchOption, Option, None, Some}
 use Rattle.std.proofs.KnownBytes.{Appends-kept, Appends-trans}
 use Rattle.std.proofs.KnownBytes.{Consumes-trans}
 use Rattle.std.proofs.lemmas.Result.{err_from_is_err_and}
-use Rattle.sslist_lister.proofs.Reporting.{reports_nothing, reports_then}
+use Rattle.sslist_texts.proofs.Reporting.{reports_nothing, reports_then}
 use Rattle.netlink_captures.specs.Capture.{CapturedPacket, captured_packet}
 use Rattle.netlink_captures.specs.Reader.{CaptureState, ReadsPacket, state_of}
 use Rattle.netlink_captures.specs.declared.captures.PacketHeader.{PacketHeader}
-use Rattle.sslist_lister.specs.declared.command_line.options.Options.{Options}
-use Rattle.sslist_lister.proofs.Reporting.{ReportsMore}
+use Rattle.sslist_command_line.specs.declared.options.Options.{Options}
+use Rattle.sslist_texts.proofs.Reporting.{ReportsMore}
 use Rattle.sslist_lister.specs.Diagnostics.{DiagnosesPacket}
 use Rattle.sslist_lister.specs.Listing.{ListsCapturedPacket, requests_after_packet}
 use Rattle.sslist_lister.proofs.Progress.{IsListed, lines_of_packet}

@@ -1,6 +1,6 @@
 use Rattle.std.proofs.Common.{◌≡◌}
 use Rattle.netlink_captures.specs.Reader.{state_of}
-use Rattle.sslist_lister.proofs.Reporting.{ReportsMore}
+use Rattle.sslist_texts.proofs.Reporting.{ReportsMore}
 use Rattle.program_streams.specs.declared.streams.WriteError.{WriteError}
 use Rattle.sslist_lister.specs.Requests.{past_requests}
 use Rattle.sslist_lister.proofs.Progress.{Progress}

@@ -1,0 +1,5 @@
+pub mod Choice
+pub mod Files
+pub mod Options
+pub mod Text
+pub mod laws

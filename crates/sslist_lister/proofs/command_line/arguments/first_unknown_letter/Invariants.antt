@@ -1,8 +1,0 @@
-use Rattle.std.proofs.Common.{◌≡◌, drop}
-use Rattle.sslist_lister.specs.command_line.Choice.{first_unknown_letter}
-use Rattle.sslist_lister.proofs.command_line.arguments.first_unknown_letter.Given as goal
-
--- the first unknown letter among the remaining ones is the first among all
-abbrev pub invariant-loop-letter : goal.invariant-loop-letter
-invariant-loop-letter l = first_unknown_letter (drop l.letter-index l.letters)
-    ≡ first_unknown_letter l.letters

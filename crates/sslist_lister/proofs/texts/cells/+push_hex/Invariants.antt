@@ -1,4 +1,0 @@
-use Rattle.sslist_lister.proofs.texts.cells.+push_hex.Given as goal
-
-abbrev pub decreases-push_hex : goal.decreases-push_hex
-decreases-push_hex l = l.number

@@ -1,8 +1,0 @@
-use Rattle.sslist_lister.specs.texts.Escapes.{escaped_byte}
-use Rattle.sslist_lister.proofs.Adding.{one_more_part_appended}
-use Rattle.sslist_lister.proofs.texts.names.escaped.Goals as goal
-
-pub loop-byte-preserved : goal.loop-byte-preserved
-loop-byte-preserved c =
-    one_more_part_appended escaped_byte _ _ 0 _ _ _ c.loop-byte-test.true
-    c.in_ok-push_byte_to_string.ensures c.loop-byte.invariant

@@ -1,4 +1,0 @@
-use Rattle.sslist_lister.proofs.texts.reports.report_hex.Goals as goal
-
-pub returns : goal.returns
-returns g c = rw c.hex_digits.ensures at c.report.ensures

@@ -1,4 +1,0 @@
-use Rattle.sslist_lister.proofs.texts.reports.report_number.Goals as goal
-
-pub returns : goal.returns
-returns g c = rw (c.as_bytes.ensures.value, c.format.ensures.text) at c.report.ensures

@@ -1,0 +1,4 @@
+use Rattle.sslist_texts.proofs.cells.+push_hex.Given as goal
+
+abbrev pub decreases-push_hex : goal.decreases-push_hex
+decreases-push_hex l = l.number

@@ -1,0 +1,9 @@
+pub mod Escapes
+pub mod Cells
+pub mod CellsModel
+pub mod Times
+pub mod Reports
+pub mod JsonData
+pub mod JsonWriting
+pub mod laws
+pub mod private

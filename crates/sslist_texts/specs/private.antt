@@ -1,0 +1,2 @@
+-- Definitions that only the contracts of private functions need.
+pub mod Report
