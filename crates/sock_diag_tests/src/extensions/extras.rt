@@ -90,15 +90,25 @@ fn missing<'a>(
 fn upper_protocol(rt: &impl Abort, alloc: Global, value: &[u8]) -> Result<String, DecodeError> {
     let info = UlpInfo::parse(value)?;
     let name = info.name()?;
-    let tls = match info.tls()? {
-        Some(tls) => tls_text(rt, alloc, &tls)?,
-        None => String::new(alloc),
-    };
-    let subflow = match info.mptcp()? {
-        Some(subflow) => subflow_text(rt, alloc, &subflow)?,
-        None => String::new(alloc),
-    };
+    let tls = tls_part(rt, alloc, &info)?;
+    let subflow = subflow_part(rt, alloc, &info)?;
     Ok(format!(in alloc; "{name:?}{tls}{subflow}").expect(rt, "memory"))
+}
+
+/// Returns the text of the fields of TLS that the value has, or nothing if it has none.
+fn tls_part(rt: &impl Abort, alloc: Global, info: &UlpInfo<'_>) -> Result<String, DecodeError> {
+    match info.tls()? {
+        Some(tls) => tls_text(rt, alloc, &tls),
+        None => Ok(String::new(alloc)),
+    }
+}
+
+/// Returns the text of the fields of MPTCP that the value has, or nothing if it has none.
+fn subflow_part(rt: &impl Abort, alloc: Global, info: &UlpInfo<'_>) -> Result<String, DecodeError> {
+    match info.mptcp()? {
+        Some(subflow) => subflow_text(rt, alloc, &subflow),
+        None => Ok(String::new(alloc)),
+    }
 }
 
 /// Returns fields of TLS as text: `tls_numbers`, and whether it sends without copying, and expects
@@ -483,9 +493,8 @@ fn in_parentheses(rt: &impl Abort, alloc: Global, name: &str, text: &str) -> Str
     format!(in alloc; "{name}({text})").expect(rt, "memory")
 }
 
-/// Asserts that `Debug` prints the bytes of each type that borrows an attribute with this value, or
-/// the value itself.
-fn assert_debug_of_views(rt: &impl Abort, alloc: Global, value: &[u8]) {
+/// Asserts that `Debug` prints the bytes of each type that borrows an attribute with this value.
+fn assert_debug_of_nested(rt: &impl Abort, alloc: Global, value: &[u8]) {
     let bytes = attribute(rt, alloc, value);
     let nested = NestedNlas::parse(&bytes).expect(rt, "refused");
     let text = fields_text(rt, alloc, "NestedNlas", &bytes);
@@ -507,6 +516,10 @@ fn assert_debug_of_views(rt: &impl Abort, alloc: Global, value: &[u8]) {
         "AckAttributes",
         text.as_str(),
     );
+}
+
+/// Asserts that `Debug` prints the bytes of each type that borrows this value.
+fn assert_debug_of_values(rt: &impl Abort, alloc: Global, value: &[u8]) {
     let text = fields_text(rt, alloc, "TcpInfoBytes", value);
     assert_debug(rt, alloc, &TcpInfoBytes::new(value), text.as_str());
     let text = fields_text(rt, alloc, "MptcpInfoBytes", value);
@@ -525,17 +538,23 @@ const VALUE_SIZES: [usize; 7] = [0, 1, 2, 232, 280, 300, 65_531];
 fn values_have_texts(rt: HostRuntime) {
     for &size in &VALUE_SIZES {
         let value = vec![in rt.alloc(); 7; size].expect(&rt, "memory");
-        assert_debug_of_views(&rt, rt.alloc(), &value);
+        assert_debug_of_nested(&rt, rt.alloc(), &value);
+        assert_debug_of_values(&rt, rt.alloc(), &value);
     }
 }
 
 #[test]
-fn acknowledgements_and_items_have_texts(rt: HostRuntime) {
+fn an_acknowledgement_has_a_text(rt: HostRuntime) {
     let alloc = rt.alloc();
     let text = "AckView { number: 1, request: [], attributes: [9] }";
     // The flag is `NLM_F_ACK_TLVS`, so what follows the error number is attributes.
     let ack = AckView::of_done(512, &[1, 0, 0, 0, 9]).expect(&rt, "too short");
     assert_debug(&rt, alloc, &ack, text);
+}
+
+#[test]
+fn items_have_texts(rt: HostRuntime) {
+    let alloc = rt.alloc();
     // A peer of 1 byte instead of 4, with a flag bit in its type field, and two bytes more.
     let bytes = reply(&rt, alloc, 1, 16, &[5, 0, 2, 128, 7, 0, 0, 0, 0, 0]);
     let reply = AnyReply::parse(&bytes, 20).expect(&rt, "refused");

@@ -1,8 +1,9 @@
 //! The tests of the extensions: replies of any family, newer attributes and filters.
 
 use crate::port::{assert_debug, assert_text};
-use sock_diag_extras::any::AnyNlas;
-use std::alloc::Global;
+use netlink_core::NlaBuffer;
+use sock_diag_extras::any::{AnyNla, AnyNlas, Rejected};
+use std::alloc::{AllocError, Global};
 use std::process::Abort;
 
 mod any;
@@ -14,15 +15,22 @@ mod filters;
 fn items(rt: &impl Abort, alloc: Global, nlas: AnyNlas<'_>) -> String {
     let mut text = String::new(alloc);
     for item in nlas {
-        let line = match item {
-            Ok((_, read)) => format!(in alloc; "{read:?};"),
-            Err(rejected) => {
-                let kind = rejected.attribute().map(|nla| nla.kind());
-                format!(in alloc; "{kind:?} {};", rejected.error())
-            }
-        };
-        text.push_str(line.expect(rt, "memory").as_str())
-            .expect(rt, "memory");
+        let line = item_text(alloc, &item).expect(rt, "memory");
+        text.push_str(line.as_str()).expect(rt, "memory");
     }
     text
+}
+
+/// Returns the text of one attribute.
+fn item_text(
+    alloc: Global,
+    item: &Result<(NlaBuffer<'_>, AnyNla<'_>), Rejected<'_>>,
+) -> Result<String, AllocError> {
+    match item {
+        Ok((_, read)) => format!(in alloc; "{read:?};"),
+        Err(rejected) => {
+            let kind = rejected.attribute().map(|nla| nla.kind());
+            format!(in alloc; "{kind:?} {};", rejected.error())
+        }
+    }
 }

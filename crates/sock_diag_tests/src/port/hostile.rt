@@ -38,9 +38,27 @@ pub(super) fn changed(
     bytes
 }
 
+/// Calls all parsers and serializers with the bytes `whole`, each time with the byte at `offset`
+/// changed to another value, and adds these 255 inputs to the tally.
+fn add_changes(
+    rt: &impl Abort,
+    alloc: Global,
+    subject: Subject,
+    whole: &[u8],
+    offset: usize,
+    original: &Report,
+    tally: &mut [u32; 11],
+) {
+    for change in 1..=u8::MAX {
+        let changed = changed(rt, alloc, whole, offset, change);
+        let report = parse_all_and_compare(rt, alloc, subject, &changed, whole);
+        add_to_tally(rt, tally, original, &report);
+    }
+}
+
 /// Calls all parsers and serializers with the bytes in `parts`, each time with one byte changed to
-/// another value, for all such changes: 255 for each byte. Asserts that the tally (`add_to_tally`)
-/// starts with `counts`.
+/// another value, for all such changes. Asserts that the tally (`add_to_tally`) starts with
+/// `counts`.
 fn assert_changes(
     rt: &impl Abort,
     alloc: Global,
@@ -53,11 +71,7 @@ fn assert_changes(
     assert!(rt; original.form.is_ok(), "refused");
     let mut tally = [0; 11];
     for offset in 0..whole.len() {
-        for change in 1..=u8::MAX {
-            let changed = changed(rt, alloc, &whole, offset, change);
-            let report = parse_all_and_compare(rt, alloc, subject, &changed, &whole);
-            add_to_tally(rt, &mut tally, &original, &report);
-        }
+        add_changes(rt, alloc, subject, &whole, offset, &original, &mut tally);
     }
     assert!(rt; tally.starts_with(counts), "{tally:?}");
 }

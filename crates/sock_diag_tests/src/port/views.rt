@@ -29,33 +29,48 @@ fn assert_message_emits(rt: &impl Abort, alloc: Global, reply: &[u8], part: &str
     assert_emits(rt, alloc, &message, parts);
 }
 
+/// `UNIX_DIAG_ICONS` (3) with the inodes 5 and 6 of two pending connections.
+const PENDING: &str = "0c0003000500000006000000";
+
 #[test]
-fn a_borrowed_unix_reply(rt: HostRuntime) {
+fn attributes_of_a_borrowed_unix_reply(rt: HostRuntime) {
     let alloc = rt.alloc();
-    // With the inodes 5 and 6 of two pending connections.
-    let parts = [PATH, "0c0003000500000006000000"];
-    let reply = bytes(&rt, alloc, &parts);
+    let reply = bytes(&rt, alloc, &[PATH, PENDING]);
     let view = UnixResponseView::parse(&reply).expect(&rt, "refused");
     let answers = "[Name(Pathname([47, 116, 109, 112, 47, 46, 73, 67, 69, 45, 117, 110, 105, \
         120, 47, 49, 49, 53, 49])), ReceiveQueueLength(0, 128), Shutdown(0), \
         PendingConnections(NumbersView { bytes: [5, 0, 0, 0, 6, 0, 0, 0] })]";
     let attributes = view.attributes().clone().expect(&rt, "memory");
     assert_items(&rt, alloc, attributes, answers);
+}
+
+#[test]
+fn a_borrowed_unix_reply_is_serialized(rt: HostRuntime) {
+    let alloc = rt.alloc();
+    let parts = [PATH, PENDING];
+    let reply = bytes(&rt, alloc, &parts);
+    let view = UnixResponseView::parse(&reply).expect(&rt, "refused");
     assert_emits(&rt, alloc, &view, &parts);
     let text = "UnixResponse(UnixResponseView { bytes: [1, 1, 10, 0, ";
     assert_message_emits(&rt, alloc, &reply, text, &parts);
 }
 
-// The name and the numbers are bytes of the reply.
+// The name is bytes of the reply.
 #[test]
-fn a_name_and_numbers_of_a_borrowed_reply(rt: HostRuntime) {
-    let alloc = rt.alloc();
-    // `UNIX_DIAG_ICONS` (3) with the inodes 5 and 6 of two pending connections.
-    let reply = bytes(&rt, alloc, &[ABSTRACT, "0c0003000500000006000000"]);
+fn a_name_of_a_borrowed_reply(rt: HostRuntime) {
+    let reply = bytes(&rt, rt.alloc(), &[ABSTRACT]);
     let view = UnixResponseView::parse(&reply).expect(&rt, "refused");
     // The name follows the header of the reply, that of the attribute, and a NUL.
     let name = reply.get(21..64).expect(&rt, "short");
     assert!(rt; view.name() == Some(NameView::Abstract(name)));
+}
+
+// The numbers are bytes of the reply.
+#[test]
+fn numbers_of_a_borrowed_reply(rt: HostRuntime) {
+    let alloc = rt.alloc();
+    let reply = bytes(&rt, alloc, &[ABSTRACT, PENDING]);
+    let view = UnixResponseView::parse(&reply).expect(&rt, "refused");
     let numbers = view.pending_connections().expect(&rt, "no numbers");
     let text = "NumbersIterator { remaining: NumbersView { bytes: [5, 0, 0, 0, 6, 0, 0, 0] } }";
     assert_debug(&rt, alloc, &numbers.iter(), text);
@@ -70,15 +85,24 @@ fn a_name_and_numbers_of_a_borrowed_reply(rt: HostRuntime) {
     assert_debug(&rt, alloc, &owned, "[5, 6]");
 }
 
+/// The parts of an IPv4 reply. The text `cubic` has no NUL, which the serializer appends.
+const INET_PARTS: [&str; 3] = [INET, "090004006375626963000000", SHUTDOWN];
+
 #[test]
-fn a_borrowed_inet_reply(rt: HostRuntime) {
+fn attributes_of_a_borrowed_inet_reply(rt: HostRuntime) {
     let alloc = rt.alloc();
-    // The text `cubic` without its NUL, which the serializer appends.
-    let reply = bytes(&rt, alloc, &[INET, "090004006375626963000000", SHUTDOWN]);
+    let reply = bytes(&rt, alloc, &INET_PARTS);
     let view = InetResponseView::parse(&reply).expect(&rt, "refused");
     let answers = "[Congestion(\"cubic\"), Shutdown(0)]";
     let attributes = view.attributes().clone().expect(&rt, "memory");
     assert_items(&rt, alloc, attributes, answers);
+}
+
+#[test]
+fn a_borrowed_inet_reply_is_serialized(rt: HostRuntime) {
+    let alloc = rt.alloc();
+    let reply = bytes(&rt, alloc, &INET_PARTS);
+    let view = InetResponseView::parse(&reply).expect(&rt, "refused");
     let parts = [INET, "0a0004006375626963000000", SHUTDOWN];
     assert_emits(&rt, alloc, &view, &parts);
     let text = "InetResponse(InetResponseView { bytes: [2, 1, 2, 0, 235, 20, 1, 187, 192, ";
