@@ -77,15 +77,15 @@ def block_name(item):
 def functions_of(path, text, with_bodies=True):
     """Returns the text of each function of a file by the prover's name, such as
     `module::Type::function` or `module::TypeTrait::function`, and all other text by the name of the
-    module."""
+    module. Without bodies, the text of a function ends before its body."""
     module, parts = module_of(path), {}
     for item in items(text):
         block = item.kind in ("impl", "trait")
         for it in item.members() if block else [item]:
             name = [module, block and block_name(item), it.name]
             name = "::".join(filter(None, name)) if it.kind == "fn" else module
-            text = it.text if with_bodies or it.kind != "fn" else it.head
-            parts[name] = parts.get(name, "") + text + "\n"
+            own = it.text if with_bodies or it.kind != "fn" else it.head
+            parts[name] = parts.get(name, "") + own + "\n"
             parts[module] = parts.get(module, "") + it.attributes
         if block:
             parts[module] = parts.get(module, "") + item.attributes + item.text[: item.start]
