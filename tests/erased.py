@@ -136,7 +136,7 @@ REFUSED = [
     "fn f() { g().unwrap! {} }",
     "#[must_use]\nfn f() {}",
     "#[cfg(feature = \"a\")]\nfn f() {}",
-    "#![no_std]",
+    "#![no_std]\nfn f() {}",
     "#[derive(Hash)]\nstruct A;",
     "fn f() { let x = «data»; }",
     "fn f(x: &A) -> Result<A, E> { x.clone() }",
@@ -163,6 +163,10 @@ REFUSED = [
     "fn f(rt: HostRuntime) { print!(rt; \"\") }",
     "fn f(i: I) -> Result<Vec<u8>, E> { i.collect(alloc) }",
     "fn f(alloc: Global) { let a = alloc; }",
+    "fn f() { g(1 }",
+    "use a::b",
+    "fn f()\n    requires { a }",
+    "fn f() { } requires a; {}",
 ]
 
 

@@ -55,6 +55,8 @@ class Source:
 
     def closing(self, index):
         """Returns the index of the bracket that closes the one at the index."""
+        if not any(self.at(index, it) for it in OPEN):
+            raise SyntaxError(f"line {self.line(min(index, len(self.tokens) - 1))}: no bracket")
         expected = []
         for at in range(index, len(self.tokens)):
             text = self.tokens[at].text
@@ -76,10 +78,12 @@ class Source:
     def end_of_item(self, index, ends):
         """Returns the index of the first of these tokens outside brackets, or that of the last token
         before a bracket that closes what contains the item."""
-        while self.tokens[index].text not in ends:
-            if self.tokens[index].text in OPEN:
+        while self.texts[index] not in ends:
+            if self.texts[index] in OPEN:
                 index = self.closing(index)
-            elif self.tokens[index + 1].text in CLOSE:
+            if index + 1 == len(self.texts):
+                raise SyntaxError(f"line {self.line(index)}: an item has no end")
+            if self.texts[index + 1] in CLOSE:
                 return index
             index += 1
         return index
