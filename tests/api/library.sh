@@ -33,7 +33,4 @@ if [ "${1-}" != --of-gate ] || ! are_of_gate; then
     exit
 fi
 
-JOBS=$(nproc)
-if [ "$JOBS" -gt 4 ]; then JOBS=4; fi
-export JOBS
 tools/build library
