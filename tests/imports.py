@@ -1,5 +1,5 @@
 #!/usr/bin/env python3
-"""Refuses three changes that no proof and no list of public items shows:
+"""Refuses three changes that no proof and no list of public items shows, and what nothing uses:
 
 - an import that gives an item the name of another one. `use a::{X as Y, Y as X}` exchanges two
   constants in a body and in its clauses at once, so it is proved;
@@ -8,7 +8,9 @@
   once, so it is proved. It is allowed if `specs/laws/Constants.antt` of its crate states its
   number;
 - in crates.txt a dependency that is neither a crate above it nor in the lines `# kit:` there. No
-  clause excludes a side effect, such as a call of `libc::write`.
+  clause excludes a side effect, such as a call of `libc::write`;
+- a name in a `ghost use` that its file does not use, and a dependency in crates.txt that its crate
+  does not name.
 """
 
 import re
@@ -26,6 +28,8 @@ IMPORTS = {
 # In the laws about constants: the name of a module of constants, and a constant with its number.
 CONSTANTS = re.compile(r"^use Rattle\.([\w.]+)\.TheConstants as (\w+)", re.M)
 NUMBER = re.compile(r"\b(\w+)\.(\w+) ≡ \d")
+# The names that an import of specifications takes from one module.
+GHOST_USE = re.compile(r"ghost use [^;{]*\{([^}]*)\};")
 # The name of an item or a definition, and the name of a variant, which is indented.
 DECLARED = re.compile(
     r"^(?:(?:pub(?:\(.*?\))?|abbrev|record|data|unsafe|extern \"C\"|const|static|fn|struct|enum"
@@ -101,6 +105,28 @@ def shadowing(crates):
             yield f"{module}: {name} is the name of a public item, and no law states its number"
 
 
+def is_in(name, code):
+    """Returns whether the name is in the code. In an operator, `◌` stands for each operand."""
+    words = [re.escape(word) for word in name.split("◌") if word]
+    return all(re.search(rf"(?<!\w){it}(?!\w)" if it[0].isalpha() else it, code) for it in words)
+
+
+def unused(crates):
+    """Yields the names in a `ghost use` that their file does not use, and the dependencies that no
+    file of their crate names."""
+    for crate, used in crates.items():
+        for path, text in source_files(crate):
+            code = IMPORTS[".rt"].sub("", text)
+            for names in GHOST_USE.findall(text) if path.suffix == ".rt" else ():
+                # A name, or what it is called here, precedes a comma or the brace.
+                for name in re.findall(r"(\S+?)\s*(?:,|$)", names):
+                    if not is_in(name, code):
+                        yield f"{path.relative_to(TOP)}: nothing uses {name}"
+        files = [it for it in (TOP / "crates" / crate).glob("*/**/*") if it.suffix in IMPORTS]
+        text = "\n".join(it.read_text(encoding="utf-8") for it in files)
+        yield from (f"crates.txt: {crate} does not name {it}" for it in used if not is_in(it, text))
+
+
 def unlisted(crates, kit):
     """Yields the dependencies that are neither crates in lines above nor listed."""
     above = set(kit)
@@ -114,7 +140,7 @@ def main():
     found = re.findall(r"^(\w+)[\w ]*:(.*)$", text, re.M)
     crates = {name: used.split() for name, used in found}
     kit = [name for line in re.findall(r"^# kit:(.*)$", text, re.M) for name in line.split()]
-    wrong = [*renamed(crates), *shadowing(crates), *unlisted(crates, kit)]
+    wrong = [*renamed(crates), *shadowing(crates), *unused(crates), *unlisted(crates, kit)]
     print(*wrong, f"tests/imports.py: {len(wrong)} errors", sep="\n")
     return 1 if wrong else 0
 

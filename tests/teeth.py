@@ -310,12 +310,14 @@ ROWS = [
         "crates.txt: netlink_core uses planted",
         "gives PLANTED of netlink_core the name of another item, EXCHANGED",
         "sock_diag_extras.any.nla: XDP_DIAG_RX_RING is the name of a public item, and no law states "
-        "its number",
+        "its number", "crates.txt: sock_diag_extras does not name planted",
+        "crates/netlink_core/src/lib.rt: nothing uses IsPlanted",
     ), (
-        ("crates.txt", None,
-         "netlink_core: planted\nsock_diag_families:\nsock_diag_extras: sock_diag_families\n"),
+        ("crates.txt", None, "netlink_core: planted\nsock_diag_families:\n"
+         "sock_diag_extras: sock_diag_families planted\n"),
         ("crates/netlink_core/src/lib.rt", "",
-         "use crate::planted::{PLANTED as EXCHANGED};\nconst EXCHANGED: u8 = 1;\n"),
+         "use crate::planted::{PLANTED as EXCHANGED};\nconst EXCHANGED: u8 = 1;\n"
+         "ghost use Rattle.netlink_core.specs.Bytes.{IsBytes as IsPlanted};\n"),
         ("crates/sock_diag_extras/src/any/nla.rt", " XDP_DIAG_RX_RING,", ""),
         ("crates/sock_diag_extras/src/any/nla.rt", "", "const XDP_DIAG_RX_RING: u16 = 4;\n"),
     )),

@@ -34,7 +34,6 @@ ghost use Rattle.netlink_core.specs.declared.attribute.NlasIterator.{NlasIterato
 ghost use Rattle.netlink_core.specs.declared.datagram.FramedMessages.{FramedMessages};
 ghost use Rattle.netlink_core.specs.declared.datagram.MessageStrings.{MessageStrings};
 ghost use Rattle.netlink_core.specs.declared.error.DecodeError.{DecodeError};
-ghost use Rattle.netlink_core.specs.declared.error.DecodeError.TheVariants.{Memory};
 ghost use Rattle.netlink_core.specs.Canonical.{HasCanonicalForm};
 ghost use Rattle.netlink_core.specs.Codec.{HasOneResult};
 ghost use Rattle.netlink_core.specs.NetlinkMessage.{NetlinkMessageModel, finalized_header};

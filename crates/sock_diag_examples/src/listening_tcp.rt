@@ -4,7 +4,7 @@ ghost use Rattle.std.proofs.Common.{rules};
 ghost use Rattle.std.specs.Prelude.{◌≡◌, [], ◌∷◌, ◌++◌, replicate};
 ghost use Rattle.byteorder.specs.Endian.{little_bytes};
 ghost use Rattle.netlink_core.specs.NetlinkMessageModel.{netlink_message_model};
-ghost use Rattle.netlink_packet_sock_diag.specs.Message.{message_codec, netlink_message_codec};
+ghost use Rattle.netlink_packet_sock_diag.specs.Message.{netlink_message_codec};
 ghost use Rattle.netlink_packet_sock_diag.specs.MessageModel.{message_model};
 ghost use Rattle.sock_diag_examples.specs.ListeningTcp.{family_number, listening_request};
 

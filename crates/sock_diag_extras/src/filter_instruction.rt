@@ -1,6 +1,6 @@
 //! The instructions of the filter of a packet socket: PACKET_DIAG_FILTER.
 
-ghost use Rattle.std.specs.Prelude.{◌≡◌, refl};
+ghost use Rattle.std.specs.Prelude.{refl};
 ghost use Rattle.netlink_core.proofs.LayoutLaws.{plain_sound, record_laws};
 ghost use Rattle.sock_diag_extras.specs.FilterInstruction.{filter_instruction};
 ghost use Rattle.sock_diag_extras.specs.RecordTable.{layout_with_name};

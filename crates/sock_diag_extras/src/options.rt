@@ -1,6 +1,6 @@
 //! The options of an IPv4 or IPv6 socket in INET_DIAG_SOCKOPT.
 
-ghost use Rattle.std.specs.Prelude.{◌≡◌, ◌↔◌, IsBitSet, IsTrue, refl};
+ghost use Rattle.std.specs.Prelude.{◌↔◌, IsBitSet, IsTrue, refl};
 ghost use Rattle.netlink_core.proofs.LayoutLaws.{plain_sound, record_laws};
 ghost use Rattle.sock_diag_extras.specs.RecordTable.{layout_with_name};
 ghost use Rattle.sock_diag_extras.specs.SocketOptions.{socket_options};

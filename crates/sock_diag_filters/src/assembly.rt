@@ -2,7 +2,7 @@
 //! state that each number of a condition fits its Rust type. This is so for all Rust values; they
 //! are stated since `laws::programs_select_by_filter` assumes it.
 
-ghost use Rattle.std.specs.Prelude.{◌≡◌, ◌+◌, ◌++◌, ◌<◌, ◌≤◌, ℕ, List, Bool, length, IfOk, IfErr};
+ghost use Rattle.std.specs.Prelude.{◌≡◌, ◌+◌, ◌<◌, ◌≤◌, ℕ, List, Bool, length, IfOk, IfErr};
 ghost use Rattle.std.specs.Prelude.{OnOk};
 ghost use Rattle.sock_diag_filters.specs.Audit.{IsAudited};
 ghost use Rattle.sock_diag_filters.specs.private.Assembly.{EndsWith, operation_header_bytes};

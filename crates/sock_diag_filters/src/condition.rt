@@ -1,7 +1,7 @@
 //! Conditions of a filter on a socket. Clauses `in_range` state that each number fits its Rust
 //! type. This is so for all Rust values; they are stated since `assemble` promises it.
 
-ghost use Rattle.std.specs.Prelude.{◌≡◌, ◌*◌, ◌+◌, ◌≤◌, length, unwrap_or};
+ghost use Rattle.std.specs.Prelude.{◌≡◌, ◌*◌, ◌≤◌, length, unwrap_or};
 ghost use Rattle.std.specs.declared.net.ip_addr.IpAddr.TheVariants.{V6};
 ghost use Rattle.sock_diag_filters.specs.Prefixes.{bits_of, family_of, octets_of, port_bytes};
 

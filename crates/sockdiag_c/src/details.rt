@@ -15,7 +15,7 @@ ghost use Rattle.sockdiag_c.specs.Details.{optional_number, text_parts};
 ghost use Rattle.sockdiag_c.specs.Family.{AreDetailsOf, HasHeaderAndValuesOf, SplitsWithError};
 ghost use Rattle.sockdiag_c.specs.Family.{Family};
 ghost use Rattle.sockdiag_c.specs.Family.{HasRejections, HasValues, IsFirstError, StoresDetails};
-ghost use Rattle.sockdiag_c.specs.Family.{IsHeaderError, LenientDetailsAre, ReplyParts};
+ghost use Rattle.sockdiag_c.specs.Family.{ReplyParts};
 ghost use Rattle.sockdiag_c.specs.Family.{StoresLenientDetails};
 ghost use Rattle.sockdiag_c.specs.Family.{first_error, value_error};
 ghost use Rattle.sockdiag_c.specs.private.Rows.{AddsParts};

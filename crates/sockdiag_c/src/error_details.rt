@@ -7,8 +7,6 @@ ghost use Rattle.netlink_core.specs.Response.{response_codec};
 ghost use Rattle.netlink_packet_sock_diag.specs.Message.{message_codec};
 ghost use Rattle.sock_diag_replies.specs.InetResponseSpec.{inet_response_spec};
 ghost use Rattle.sock_diag_replies.specs.UnixResponseSpec.{unix_response_spec};
-ghost use Rattle.sock_diag_attributes.specs.InetAttributes.{inet_attribute_set};
-ghost use Rattle.sock_diag_attributes.specs.UnixAttributes.{unix_attribute_set};
 ghost use Rattle.sockdiag_c.specs.Answers.{padded_or_truncated};
 ghost use Rattle.sockdiag_c.specs.ErrorDetails.{IsExplained, IsItemExplained, error_details_of};
 ghost use Rattle.sockdiag_c.specs.ErrorOffsets.{HasOffset};

@@ -1,7 +1,7 @@
 //! Requests for netlink, packet, XDP and vsock sockets, serialized as whole netlink messages.
 
 ghost use Rattle.std.specs.Prelude.{◌≡◌, ◌≢◌, ◌⊎◌};
-ghost use Rattle.sockdiag_c.specs.FamilyRequests.{show_message, show_request_from_c, vsock_message};
+ghost use Rattle.sockdiag_c.specs.FamilyRequests.{show_message, vsock_message};
 ghost use Rattle.netlink_core.specs.Errors.{error_code};
 ghost use Rattle.sockdiag_c.specs.Requests.{WritesMessage};
 ghost use Rattle.sockdiag_c.specs.Rewriting.{WritesNothing};

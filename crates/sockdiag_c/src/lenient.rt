@@ -1,7 +1,7 @@
 //! The contents of a reply of which attributes may be rejected: the first valid attribute and the
 //! first error of each kind.
 
-ghost use Rattle.std.specs.Prelude.{◌≡◌, ◌≢◌, ◌<◌, ◌==◌, if◌then◌else◌, ℕ, None, Option, Some};
+ghost use Rattle.std.specs.Prelude.{◌≡◌, ◌<◌, ◌==◌, if◌then◌else◌, ℕ, None, Option, Some};
 ghost use Rattle.std.specs.Prelude.{slice_index};
 ghost use Rattle.std.specs.Option.{option_or};
 ghost use Rattle.netlink_core.specs.declared.error.DecodeError.{DecodeError};

@@ -1,6 +1,5 @@
 //! The contents of a reply about a netlink socket, as a C struct.
 
-ghost use Rattle.std.specs.Prelude.{◌≡◌, ◌≢◌};
 ghost use Rattle.sock_diag_extras.specs.AnyNla.{any_model};
 ghost use Rattle.sockdiag_c.specs.Family.{StoresDetails};
 ghost use Rattle.sockdiag_c.specs.NetlinkDetails.{netlink_family};

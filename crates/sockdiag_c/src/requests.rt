@@ -1,14 +1,10 @@
 //! Requests, serialized as whole netlink messages.
 
 ghost use Rattle.std.specs.Prelude.{◌≡◌, ◌+◌, ◌≤◌, ◌++◌, length};
-ghost use Rattle.netlink_core.specs.Attribute.{attribute_bytes};
-ghost use Rattle.netlink_core.specs.Layout.{record_bytes};
 ghost use Rattle.netlink_core.specs.Header.{header_bytes};
-ghost use Rattle.sock_diag_records.specs.InetRequest.{inet_request};
-ghost use Rattle.sock_diag_records.specs.UnixRequest.{unix_request};
 ghost use Rattle.sockdiag_c.specs.Requests.{WritesInetMessage, WritesMessage, address_of_family};
 ghost use Rattle.sockdiag_c.specs.Requests.{inet_request_from_c, protocol_byte, request_header_of};
-ghost use Rattle.sockdiag_c.specs.Requests.{unix_message, unix_request_from_c};
+ghost use Rattle.sockdiag_c.specs.Requests.{unix_message};
 
 use crate::results::{NO_SPACE, OK};
 use crate::rewriting::reject;

@@ -1,6 +1,6 @@
 //! The contents of a reply about a vsock socket: its header.
 
-ghost use Rattle.std.specs.Prelude.{◌≡◌, ◌≢◌, []};
+ghost use Rattle.std.specs.Prelude.{◌≡◌, []};
 ghost use Rattle.sock_diag_extras.specs.AnyNla.{any_model};
 ghost use Rattle.sockdiag_c.specs.Family.{HasValues, StoresDetails};
 ghost use Rattle.sockdiag_c.specs.VsockDetails.{vsock_family};

@@ -1,6 +1,6 @@
 //! The contents of a reply about an XDP socket, as a C struct.
 
-ghost use Rattle.std.specs.Prelude.{◌≡◌, ◌≢◌, []};
+ghost use Rattle.std.specs.Prelude.{◌≡◌, []};
 ghost use Rattle.sock_diag_extras.specs.AnyNla.{any_model};
 ghost use Rattle.sockdiag_c.specs.Family.{HasValues, StoresDetails};
 ghost use Rattle.sockdiag_c.specs.XdpDetails.{xdp_family};

@@ -17,7 +17,7 @@ ghost use Rattle.sslist_lister.specs.JsonAttributes.{item_members, later_list, o
 ghost use Rattle.sslist_lister.specs.JsonAttributes.{socket_json, socket_members};
 ghost use Rattle.sslist_lister.specs.JsonAttributes.{valid_members};
 ghost use Rattle.sslist_texts.specs.JsonData.{JsonMember, array_member, json_text};
-ghost use Rattle.sslist_texts.specs.JsonData.{object_of, optional_member};
+ghost use Rattle.sslist_texts.specs.JsonData.{object_of};
 ghost use Rattle.sslist_texts.specs.JsonWriting.{KeepsPrefix, members_tokens};
 
 use crate::attributes::show_any;

@@ -3,14 +3,12 @@
 //! before the first token of the writer are unchanged (`KeepsPrefix`), and tokens were appended,
 //! such as those of members (`members_tokens`).
 
-ghost use Rattle.std.specs.Prelude.{◌≡◌, ◌∷◌, [], ◌++◌, OnOk, map, false, codes, decimal, flat_map};
+ghost use Rattle.std.specs.Prelude.{◌≡◌, ◌∷◌, [], ◌++◌, OnOk, map, decimal, flat_map};
 ghost use Rattle.std.specs.Fmt.{digits};
-ghost use Rattle.std.specs.Net.Text.{ip_text};
-ghost use Rattle.json.specs.Token.{begin_array, begin_object, end_array, end_object, key, number};
+ghost use Rattle.json.specs.Token.{begin_object, key, number};
 ghost use Rattle.sslist_texts.specs.JsonData.{address_member, bytes_member, cookie_member};
 ghost use Rattle.sslist_texts.specs.JsonData.{flag_member, hex_member};
 ghost use Rattle.sslist_texts.specs.JsonData.{number_members};
-ghost use Rattle.sslist_texts.specs.JsonData.{numbers_member, object_member};
 ghost use Rattle.sslist_texts.specs.JsonData.{optional_member, text_member};
 ghost use Rattle.sslist_texts.specs.JsonWriting.{KeepsPrefix, members_tokens};
 

@@ -4,7 +4,7 @@
 //! is_open`: `E.held sink` are the bytes written on a sink, if known, and `E.failed sink error`
 //! states that a write on it failed with this error.
 
-ghost use Rattle.std.specs.Prelude.{◌≡◌, ◌++◌, ◌∷◌, [], codes, decimal};
+ghost use Rattle.std.specs.Prelude.{◌++◌, ◌∷◌, [], codes, decimal};
 ghost use Rattle.byteorder.specs.Endian.{big_bytes};
 ghost use Rattle.hex.specs.Hex.{encode_lower};
 ghost use Rattle.sslist_texts.specs.Reports.{Reports, closing_line, error_output};

@@ -6,13 +6,11 @@ ghost use Rattle.netlink_core.specs.Attribute.{attribute_kind};
 ghost use Rattle.netlink_core.specs.Errors.{map_ok};
 ghost use Rattle.netlink_core.specs.Parse.{number_of_width};
 ghost use Rattle.netlink_core.specs.Walk.{buffered_attribute};
-ghost use Rattle.sock_diag_attributes.specs.InetModel.{inet_nla_view_model, inet_variant};
-ghost use Rattle.sock_diag_attributes.specs.UnixModel.{unix_nla_view_model, unix_variant};
 ghost use Rattle.sock_diag_extras.specs.AnyNla.{any_model, framed, info_rows, inet_list_rows};
-ghost use Rattle.sock_diag_extras.specs.AnyNla.{inet_record_rows, inet_value};
+ghost use Rattle.sock_diag_extras.specs.AnyNla.{inet_record_rows};
 ghost use Rattle.sock_diag_extras.specs.AnyNla.{netlink_rows, packet_rows, parse_sized};
 ghost use Rattle.sock_diag_extras.specs.AnyNla.{read_any, read_by, read_port_inet, read_port_unix};
-ghost use Rattle.sock_diag_extras.specs.AnyNla.{read_unknown, unix_rows, unix_value};
+ghost use Rattle.sock_diag_extras.specs.AnyNla.{read_unknown, unix_rows};
 ghost use Rattle.sock_diag_extras.specs.AnyNla.{whole_records, xdp_rows};
 ghost use Rattle.sock_diag_extras.specs.Models.{nested_bytes};
 

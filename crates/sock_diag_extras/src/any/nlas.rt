@@ -3,7 +3,6 @@
 ghost use Rattle.std.specs.Prelude.{◌≡◌, IfSome, length, option_map};
 ghost use Rattle.std.specs.Iterator.{UpTo, at_most};
 ghost use Rattle.std.specs.Iterator.SizeHint.{IsWithinCount};
-ghost use Rattle.netlink_core.specs.Attribute.{attribute_kind};
 ghost use Rattle.netlink_core.specs.Walk.{buffered_attribute};
 ghost use Rattle.sock_diag_extras.specs.AnyItems.{items_in, items_left, rejection};
 ghost use Rattle.sock_diag_extras.specs.Pieces.{YieldsFirstPiece};

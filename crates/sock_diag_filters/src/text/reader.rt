@@ -1,7 +1,6 @@
 //! The state of parsing a filter's text, word by word.
 
 ghost use Rattle.std.specs.Prelude.{◌≡◌, ◌+◌, ◌≤◌, Some, length};
-ghost use Rattle.arrayvec.specs.ArrayVec.{array_vec_len};
 ghost use Rattle.sock_diag_filters.specs.Reading.{after_field, after_operand, after_operator};
 ghost use Rattle.sock_diag_filters.specs.Reading.{after_start, after_value, begun, closed};
 ghost use Rattle.sock_diag_filters.specs.Reading.{completed, initial, next, with_condition};

@@ -2,7 +2,6 @@
 
 mod equality;
 mod flags;
-pub mod nlas;
 mod request;
 mod response;
 mod socket_id;

@@ -1,7 +1,6 @@
 //! Records for UNIX sockets.
 
 mod flags;
-pub mod nlas;
 mod request;
 mod response;
 
