@@ -15,12 +15,31 @@ quiet() {
     "$@" >"$work/log" 2>&1 || { cat "$work/log" >&2; exit 1; }
 }
 
+# Tests the C library, and compares it with the proved one. Cargo adds objects of Rust's own
+# library, of which the one of the library needs nothing.
+test_c_library() {
+    mkdir "$work/object" "$work/library"
+    (cd "$work/object" && ar x "$built/libsockdiag_c.a" &&
+        ar rcs "$work/library/libsockdiag_c.a" sockdiag_c*.o)
+    SSLIST_PROGRAM=$built/sslist SOCKDIAG_LIBRARY=$work/library/libsockdiag_c.a \
+        "$top/tests/api/c_api.sh"
+    proved=$top/crates/sockdiag_c/out/libsockdiag_c.a
+    if [ -f "$proved" ]; then
+        ${CC:-cc} -shared -o "$work/proved.so" -Wl,--whole-archive "$proved" -Wl,--no-whole-archive
+        "$top/tests/api/compare_libraries.py" "$work/proved.so" "$built/libsockdiag_c.so"
+    else
+        echo "erased: skipped: comparison with the proved library: no $proved"
+    fi
+}
+
 "$top/tools/erase" "$work/erased"
 cd "$work/erased"
 unset CARGO_TARGET_DIR
 quiet cargo build --release --offline
 quiet cargo build --release --offline --package sockdiag_c
 built=$work/erased/target/release
+(test_c_library) >"$work/c_library" 2>&1 &
+c_library=$!
 quiet env BUILT="$built" "$top/tools/install" "$work/prefix"
 quiet cargo test --offline --no-default-features
 quiet cargo test --offline --features c
@@ -88,17 +107,5 @@ echo "erased: the C library calls a function that panics at $panics places"
 case $(rustc --version) in 'rustc 1.95.'*) [ "$panics" -le 107 ] || exit 1 ;; esac
 grep -q 'call.*overflow' "$work/code" || { echo "erased: overflow is not checked" >&2; exit 1; }
 
-# Cargo adds objects of Rust's own library, of which the one of the library needs nothing.
-mkdir "$work/object" "$work/library"
-(cd "$work/object" && ar x "$built/libsockdiag_c.a" &&
-    ar rcs "$work/library/libsockdiag_c.a" sockdiag_c*.o)
-SSLIST_PROGRAM=$built/sslist SOCKDIAG_LIBRARY=$work/library/libsockdiag_c.a \
-    "$top/tests/api/c_api.sh"
-
-proved=$top/crates/sockdiag_c/out/libsockdiag_c.a
-if [ -f "$proved" ]; then
-    ${CC:-cc} -shared -o "$work/proved.so" -Wl,--whole-archive "$proved" -Wl,--no-whole-archive
-    "$top/tests/api/compare_libraries.py" "$work/proved.so" "$built/libsockdiag_c.so"
-else
-    echo "erased: skipped: comparison with the proved library: no $proved"
-fi
+wait "$c_library" || { cat "$work/c_library" >&2; exit 1; }
+cat "$work/c_library"
