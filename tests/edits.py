@@ -17,8 +17,9 @@ a function does not count. If an edit changes other text than functions, the fun
 are checked. A line `# only:` in the edit names other functions or modules. The status is 0 if the
 prover rejects each edit. The edits of a crate in crates/*/must-fail are tried by `rt ci`.
 
-Edits of a crate that change only bodies, of different functions, are tried in one check: no proof
-depends on the body of another function. One that is not rejected there is tried again by itself.
+Edits of a crate that change only bodies, of different functions, are tried in one check, unless
+they have a line `# only: ..`: no proof depends on the body of another function. One that is not
+rejected there is tried again by itself.
 """
 
 import hashlib

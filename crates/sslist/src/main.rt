@@ -173,7 +173,7 @@ fn list_file(rt: &HostRuntime, options: Options<'_>, name: &str, heading: &[u8])
 }
 
 /// Returns whether a name that is no file may be a part of a filter of ss(8): it contains `=`, or
-/// its first word is the name of a condition.
+/// begins with the word of a state, a port or an address.
 fn may_be_filter(name: &str) -> bool {
     let first_word = match name.split_once(' ') {
         Some((first_word, _)) => first_word,

@@ -5,6 +5,7 @@ use Rattle.std.specs.Prelude.{fold, is_some, length, nat_eq, nat_lt, option_map,
 use Rattle.std.specs.Prelude.{unwrap_or}
 use Rattle.std.specs.List.{ends_with, list_any, starts_with}
 use Rattle.std.specs.Option.{option_map_or}
+use Rattle.sock_diag_filters.specs.Numbers.{index_of}
 use Rattle.sock_diag_filters.specs.Rows.{value_of}
 use Rattle.sslist_command_line.specs.declared.arguments.Argument.{Argument}
 use Rattle.sslist_command_line.specs.declared.arguments.Argument.TheVariants as parsed_as
@@ -22,7 +23,6 @@ use Rattle.sslist_command_line.specs.declared.options.AnyFamily.TheVariants.{Net
 use Rattle.sslist_command_line.specs.declared.options.AnyFamily.TheVariants.{Unix, Vsock}
 use Rattle.sslist_command_line.specs.declared.options.AnyFamily.TheVariants.{Xdp}
 use Rattle.sslist_command_line.specs.declared.options.Options.{Options}
-use Rattle.sslist_command_line.specs.Text.{index_of}
 
 -- ---- letters
 

@@ -55,7 +55,7 @@ const FLAGS: [(&str, Argument); 25] = [
 /// The option with a value, the name of a family.
 const FAMILY: &[u8] = b"--family";
 
-/// The families by their names, as the option `-f` of ss(8) has them.
+/// The families by their names, as the option `-f` of ss(8) has them, and `packet` for `link`.
 const FAMILIES: [(&str, AnyFamily); 8] = [
     ("inet", AnyFamily::Inet),
     ("inet6", AnyFamily::Inet6),

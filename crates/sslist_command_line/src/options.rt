@@ -35,8 +35,9 @@ pub struct Options<'a> {
     pub extended: bool,
     /// `-m`: show the memory.
     pub memory: bool,
-    /// `-i`: show the information about the TCP connection (`INET_DIAG_INFO`), and the name and
-    /// measurements of its congestion control.
+    /// `-i`: show the information about the TCP connection (`INET_DIAG_INFO`), the name and
+    /// measurements of its congestion control, its MD5 keys and its upper layer protocol, and the
+    /// addresses of an SCTP association.
     pub connection: bool,
     /// `-O`: write the details on the same line as the columns.
     pub one_line: bool,
@@ -83,8 +84,9 @@ pub enum Detail {
     Extended,
     /// Memory (`-m`).
     Memory,
-    /// Information about the TCP connection (`INET_DIAG_INFO`), and the name and measurements of
-    /// its congestion control (`-i`).
+    /// Information about the TCP connection (`INET_DIAG_INFO`), the name and measurements of its
+    /// congestion control, its MD5 keys and its upper layer protocol, and the addresses of an SCTP
+    /// association (`-i`).
     Connection,
 }
 

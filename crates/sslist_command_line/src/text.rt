@@ -1,7 +1,7 @@
 //! Parts of an argument: what precedes and follows a byte.
 
 ghost use Rattle.std.specs.Prelude.{◌≡◌, ◌<◌, IfSome, length};
-ghost use Rattle.sslist_command_line.specs.Text.{index_of};
+ghost use Rattle.sock_diag_filters.specs.Numbers.{index_of};
 
 /// Returns the index of the first byte that is equal to `byte`, or `None` if there is none.
 pub(crate) fn index_of(byte: u8, text: &[u8]) -> Option<usize>

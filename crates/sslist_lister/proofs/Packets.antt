@@ -9,9 +9,7 @@ use Rattle.sslist_command_line.specs.declared.options.Options.{Options}
 use Rattle.sslist_lister.specs.Diagnostics.{DiagnosesContent, short_line_if_whole}
 use Rattle.sslist_lister.specs.Listing.{ListsPacket, ListsCapturedPacket}
 use Rattle.sslist_lister.specs.Requests.{PastRequests}
-
-not_both : (b : Bool) → b ≡ false → b ≡ true → ⊥
-not_both b is_false is_true = cc
+use Rattle.sslist_lister.proofs.Progress.{not_both}
 
 -- A packet was listed completely if its bytes were, and it was not truncated.
 pub listed_without_errors : (o : Options) (past : PastRequests) (packet : CapturedPacket)

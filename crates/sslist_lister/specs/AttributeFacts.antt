@@ -166,9 +166,9 @@ bbr_facts v =
 -- ---- attributes of all kinds
 
 -- `any_facts utf8 sockets value`: the facts of an attribute of a reply about these sockets, which
--- says `value`; no facts if its kind is unknown. Only JSON has the name of a UNIX socket, its peer
--- and its queues here (Never), since the table has columns for them. `icons` are the inodes of
--- connections that wait to be accepted.
+-- says `value`; no facts if its kind is unknown. Only JSON has the name of a UNIX socket, its peer,
+-- its owner and its queues here (Never), since the table has columns for them. `icons` are the
+-- inodes of connections that wait to be accepted.
 abbrev pub any_facts : Bool → Sockets → AnyValue → Facts
 any_facts utf8 sockets (any.name n) = name_facts n
 any_facts utf8 sockets (any.vfs file) = vfs_facts file.inode file.device

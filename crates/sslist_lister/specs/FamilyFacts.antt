@@ -1,6 +1,7 @@
 -- Facts of the attributes of netlink, packet and XDP sockets. Names in JSON are the kernel's names
 -- in lowercase, without the prefix that all names of a struct or an enum have. The table has the
--- texts of ss(8), except for the groups and the flags of a netlink socket.
+-- texts of ss(8), except for the groups and the flags of a netlink socket, and the flags of a
+-- packet socket.
 use Rattle.std.specs.Prelude.{ℕ, ◌+◌, ◌/◌, ◌%◌, ◌==◌, if◌then◌else◌, List, [], ◌∷◌, ◌++◌, codes}
 use Rattle.std.specs.Prelude.{None, Some, bit_and, flat_map, take}
 use Rattle.sock_diag_families.specs.declared.packet.attributes.PacketInfo.{PacketInfo}

@@ -1,5 +1,6 @@
--- The filter of a packet socket, PACKET_DIAG_FILTER. Each instruction has the text of ss(8). Names
--- in JSON are those of `struct sock_filter`. Texts are lists of ASCII codes: 32 is a space.
+-- The filter of a packet socket, PACKET_DIAG_FILTER. Each instruction has the text of ss(8), but
+-- its code has no leading zeros. Names in JSON are those of `struct sock_filter`. Texts are lists
+-- of ASCII codes: 32 is a space.
 use Rattle.std.specs.Prelude.{ℕ, List, [], ◌∷◌, ◌++◌, codes, decimal, false}
 use Rattle.std.specs.Fmt.{digits}
 use Rattle.sock_diag_extras.specs.FilterInstruction.{filter_instruction}

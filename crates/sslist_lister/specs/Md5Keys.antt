@@ -1,6 +1,7 @@
 -- The MD5 keys of a TCP socket, INET_DIAG_MD5SIG: an array of records of 100 bytes. The texts are
--- those of ss(8), and names in JSON are the kernel's names without the prefix `tcpm_`. Texts are
--- lists of ASCII codes: 44 is a comma, 47 a slash, 61 an equals sign.
+-- those of ss(8), but for the bytes of a key that are escaped. Names in JSON are the kernel's names
+-- without the prefix `tcpm_`. Texts are lists of ASCII codes: 44 is a comma, 47 a slash, 61 an
+-- equals sign.
 use Rattle.std.specs.Prelude.{ℕ, ◌==◌, if◌then◌else◌, List, [], ◌∷◌, ◌++◌, codes, decimal}
 use Rattle.std.specs.Prelude.{flat_map}
 use Rattle.hex.specs.Hex.{encode_lower}

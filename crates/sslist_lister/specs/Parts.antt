@@ -1,5 +1,5 @@
--- Details of a line. Texts are lists of ASCII codes: 32 is a space, 58 a colon, 44 a comma, 41 a
--- closing parenthesis.
+-- Details of a line. Texts are lists of ASCII codes: 32 is a space, 44 a comma, 41 a closing
+-- parenthesis.
 use Rattle.std.specs.Prelude.{ℕ, ◌==◌, if◌then◌else◌, List, [], ◌∷◌, ◌++◌, false, codes, decimal}
 use Rattle.std.specs.Prelude.{bit_and}
 use Rattle.std.specs.Fmt.{digits}

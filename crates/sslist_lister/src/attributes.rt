@@ -1,5 +1,5 @@
-//! The facts of the attributes of a reply, except for the connection of a TCP socket, its MD5 keys
-//! and its upper layer protocol. A function of this module that appends to a sink may fail: then an
+//! The facts of the attributes of a reply. Those of larger values are in modules of their own, such
+//! as `tcp` and `family_facts`. A function of this module that appends to a sink may fail: then an
 //! allocation failed, and the content of the sink is not specified.
 //!
 //! In the contracts, `AddsFacts old new facts` states that the sink shows these facts after what it

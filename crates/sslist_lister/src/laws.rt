@@ -6,8 +6,8 @@ ghost use Rattle.sock_diag_extras.specs.TcpFields.{tcp_span_of};
 ghost use Rattle.sslist_lister.specs.TcpRows.{spans_of_rows, tcp_number_fields, tcp_rows};
 ghost use Rattle.sslist_lister.specs.declared.tcp.TheConstants.{MPTCP_ROWS};
 
-/// States that the rows of each struct are about all of its fields, in order, at their offsets and
-/// with their widths.
+/// States that the rows of each struct are about all of its fields, except `tcpi_options2`, in
+/// order, at their offsets and with their widths.
 pub fn rows_are_fields()
     // The last rows of `struct tcp_info` are about the byte at 276, which has its first bit fields.
     ensures tcp { spans_of_rows tcp_rows ≡ map tcp_span_of tcp_number_fields ++ (276, 1) ∷ [] }

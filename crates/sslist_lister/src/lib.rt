@@ -51,9 +51,7 @@ pub use error_text::push_decode_error;
 pub use headings::heading;
 pub use line::HEADING;
 pub use list::list_packet;
-pub use netlink_captures::{
-    ByteOrder, CaptureError, Compression, FileHeader, Packet, PacketHeader, TimeUnit,
-};
+pub use netlink_captures::{CaptureError, Compression, Packet, PacketHeader, TimeUnit};
 pub use program_streams::{ReadError, Sink, Source, WriteError, send};
 pub use requests::{Query, Requests};
 pub use sslist_command_line::{

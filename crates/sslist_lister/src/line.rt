@@ -56,7 +56,8 @@ use std::alloc::AllocError;
 pub const HEADING: &[u8] =
     b"Netid State      Recv-Q Send-Q Inode      Uid   Local                          Peer\n";
 
-/// Width of the column of the local address, in bytes.
+/// Width of the column of the local address, in bytes; of a name with `--utf8`, in columns of a
+/// terminal.
 pub(crate) const LOCAL_WIDTH: usize = 30;
 
 /// No interface, for the peer: the interface is shown after the local address only.

@@ -118,7 +118,7 @@ pub(crate) fn push_directions(text: &mut Vec<u8>, state: u64) -> Result<(), Allo
 }
 
 /// Appends a space, a name, a colon and two numbers in decimal, in parentheses and separated by a
-/// comma: ` wscale:(7,9)`.
+/// comma: ` unknown:(42,8)`.
 pub(crate) fn push_pair(
     text: &mut Vec<u8>,
     name: &[u8],

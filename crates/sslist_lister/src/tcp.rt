@@ -300,7 +300,8 @@ fn show_rows<S: FactSink>(sink: &mut S, bytes: &[u8], rows: &[FieldRow]) -> Resu
 }
 
 /// Returns the number of the row with this offset and this part. Returns `None` if the value ends
-/// before the end of the field, or if the number does not apply to the connection (`Negotiated`).
+/// before the end of the field, or if the number does not apply to the connection (`Negotiated`,
+/// `Measured`).
 #[inline(always)]
 fn number_in(value: &[u8], offset: usize, part: FieldPart) -> Option<u64>
     ensures { result ≡ number_in part offset value.now }

@@ -67,8 +67,8 @@ is_blank character =
     || character == HIEROGLYPH_HALF_BLANK
 
 -- A character that `--utf8` shows: it is not ASCII, its general category is visible, it is written
--- from left to right, and it is not blank. So none is a control, separator, format or combining
--- character, unassigned, or written from right to left.
+-- from left to right or takes the direction of its neighbors, and it is not blank. So none is a
+-- control, separator, format or combining character, unassigned, or written from right to left.
 unfoldable pub is_shown_character : ℕ → Bool
 is_shown_character character =
     nat_le 0x80 character && (is_visible_category (general_category character)

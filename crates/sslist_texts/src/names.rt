@@ -1,5 +1,4 @@
-//! Names and other texts that the owner of a socket or the user of the program chose. A function of
-//! this module allocates only to grow the output.
+//! Names and other texts that the owner of a socket or the user of the program chose.
 
 ghost use Rattle.std.specs.Prelude.{◌≡◌, ◌++◌, ℕ, List, IfOk, OnOk, chars, flat_map, string_bytes};
 ghost use Rattle.sslist_texts.specs.Escapes.{unescaped_bytes, shown_character, escaped_byte};

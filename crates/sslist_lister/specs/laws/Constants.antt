@@ -14,7 +14,7 @@ pub error_numbers : (ENOENT ≡ 2) × (EINVAL ≡ 22)
 error_numbers = (refl, refl)
 
 -- numbers of the kernel: the state of a connected netlink socket, VMADDR_CID_ANY and
--- VMADDR_PORT_ANY, and the bits of `sk_shutdown`
+-- VMADDR_PORT_ANY, the index that is no interface, and the bits of `sk_shutdown`
 pub kernel_numbers : (NETLINK_CONNECTED ≡ 1) × (ANY ≡ 0xffffffff) × (NO_INTERFACE ≡ 0)
     × (parts.RCV_SHUTDOWN ≡ 1) × (parts.SEND_SHUTDOWN ≡ 2)
 kernel_numbers = (refl, refl, refl, refl, refl)

@@ -1,6 +1,6 @@
 use Rattle.std.proofs.Common.{◌≡◌, ◌==◌, drop}
 use Rattle.std.specs.List.{position_from}
-use Rattle.sslist_command_line.specs.Text.{index_of}
+use Rattle.sock_diag_filters.specs.Numbers.{index_of}
 use Rattle.sslist_command_line.proofs.text.index_of.Given as goal
 
 -- the first such byte among the remaining ones is the first among all
