@@ -56,7 +56,8 @@ class Source:
     def closing(self, index):
         """Returns the index of the bracket that closes the one at the index."""
         if not any(self.at(index, it) for it in OPEN):
-            raise SyntaxError(f"line {self.line(min(index, len(self.tokens) - 1))}: no bracket")
+            line = self.line(min(index, len(self.tokens) - 1))
+            raise SyntaxError(f"line {line}: a bracket is missing")
         expected = []
         for at in range(index, len(self.tokens)):
             text = self.tokens[at].text

@@ -2,6 +2,7 @@
 
 mod equality;
 mod flags;
+pub mod nlas;
 mod request;
 mod response;
 mod socket_id;

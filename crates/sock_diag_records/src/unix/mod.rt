@@ -1,6 +1,7 @@
 //! Records for UNIX sockets.
 
 mod flags;
+pub mod nlas;
 mod request;
 mod response;
 
