@@ -123,7 +123,7 @@ def unused(crates):
                     if not is_in(name, code):
                         yield f"{path.relative_to(TOP)}: nothing uses {name}"
         files = [it for it in (TOP / "crates" / crate).glob("*/**/*") if it.suffix in IMPORTS]
-        text = "\n".join(it.read_text(encoding="utf-8") for it in files)
+        text = COMMENT.sub("", "\n".join(it.read_text(encoding="utf-8") for it in files))
         yield from (f"crates.txt: {crate} does not name {it}" for it in used if not is_in(it, text))
 
 

@@ -1,4 +1,4 @@
-//! Tests of the records of `sock_diag_values` and `sock_diag_records`.
+//! Tests of the records of `sock_diag_records`, with those that it re-exports.
 
 use super::{assert_bytes, assert_debug, assert_debug_lines, assert_emits};
 use bitflags::Flags;
@@ -6,10 +6,10 @@ use netlink_core::{
     Fills, Parseable, ParseableParametrized, Record, RecordBuffer, Wire, canonical,
 };
 use sock_diag_attributes::unix::nlas::{NameView, Nla, NlaView};
+use sock_diag_records::inet::nlas::{LegacyMemInfo, MemInfo, MemInfoBuffer, TCP_INFO_LEN, TcpInfo};
 use sock_diag_records::inet::{InetRequest, InetResponseHeader, SocketId, Timer};
+use sock_diag_records::unix::nlas::{self as unix_nlas, Vfs};
 use sock_diag_records::unix::{StateFlags, UnixRequest, UnixRequestBuffer, UnixResponseHeader};
-use sock_diag_values::inet::{LegacyMemInfo, MemInfo, MemInfoBuffer, TCP_INFO_LEN, TcpInfo};
-use sock_diag_values::unix::{self as unix_nlas, Vfs};
 use std::alloc::Global;
 use std::fmt::Debug;
 use std::net::{IpAddr, Ipv6Addr};
