@@ -94,11 +94,12 @@ impl<'a> NlaBuffer<'a> {
         requires at_most { little_number 2 bytes.now ≤ length bytes.now }
         ensures { HasAttributePrefix bytes.entry.now (buffered_attribute result) }
     {
-        let length = LittleEndian::read_u16(bytes);
-        let end = length as usize;
+        // Without proofs this order needs one test for the header, and one for both bounds.
+        let after = &bytes[NLA_HEADER_SIZE..];
+        let length = LittleEndian::read_u16(bytes) as usize;
         NlaBuffer {
             type_word: LittleEndian::read_u16(&bytes[2..]),
-            value: &bytes[NLA_HEADER_SIZE..end],
+            value: &after[..length.wrapping_sub(NLA_HEADER_SIZE)],
         }
     }
 
@@ -178,10 +179,10 @@ impl<'a> NlasIterator<'a> {
     }
 
     /// Returns the attribute at the start of the bytes that are left, and continues after its
-    /// padding. Returns `None` if and only if no bytes were left. Requires that
-    /// [`NlaBuffer::new_checked`] accepts these bytes, whose length field is not tested again.
+    /// padding. Returns `None` if and only if no bytes were left. If bytes are left,
+    /// [`NlaBuffer::new_checked`] must accept them: their length field is not tested again.
     #[inline(always)]
-    #[tactic(auto, using(crate::proofs::Walking::accepted_step_rules))]
+    #[tactic(auto, using(crate::proofs::Walking::length_field_at))]
     pub fn next_accepted(&mut self) -> Option<NlaBuffer<'a>>
         requires at_least { 0 < length (unread_bytes self.old)
             → 4 ≤ little_number 2 (unread_bytes self.old) }
@@ -196,7 +197,8 @@ impl<'a> NlasIterator<'a> {
         }
         let nla = NlaBuffer::new(&self.bytes[self.at..]);
         let length = nla.length() as usize;
-        self.at += padded(length);
+        // The sum does not wrap: the offset is at most `isize::MAX`, as that of each slice.
+        self.at = self.at.wrapping_add(padded(length));
         Some(nla)
     }
 }
