@@ -10,12 +10,7 @@ pub(crate) fn index_of(byte: u8, text: &[u8]) -> Option<usize>
     // So the text can be split before and after this byte.
     ensures bound { IfSome result (λ index. index < length text.now) }
 {
-    for (index, &other) in text.iter().enumerate() {
-        if other == byte {
-            return Some(index);
-        }
-    }
-    None
+    text.iter().position(|&other| other == byte)
 }
 
 /// Parses a number that is at most `most`: in decimal without a zero before other digits, or in
