@@ -174,6 +174,7 @@ EDITS = (
     ("tests/edits/netlink_core/second.edit", None, "file: src/error.rt\nold: 102\nnew: 202\n"),
 )
 C_API, ERASED = "tests/api/c_api.sh", "tests/api/erased.sh"
+COMPARISON = "tests/api/compare_erased.sh"
 MEMORY, SOCKDUMP = "tests/api/out_of_memory.sh", "tests/api/sockdump.py"
 SOCKLIST = "tests/api/socklist.py"
 TARGETS, BUILDS = "tests/api/erased_targets.sh", "tests/api/builds.sh"
@@ -200,9 +201,7 @@ done
 ar rcs libsockdiag_c.a sockdiag_c.o
 case $FAILS in other) echo $$ >libsockdiag_c.so ;; *) : >libsockdiag_c.so ;; esac
 """), *((it, None, PROGRAM) for it in (
-    "tests/api/c_api.sh", "tests/api/compare_libraries.py", "tests/api/kernels.py",
-    "tests/api/compare_listers.py", "tests/captures.py", "tests/programs.py")),
-    ("crates/sslist/out/sslist", None, PROGRAM))
+    "tests/api/c_api.sh", "tests/api/kernels.py", "tests/captures.py", "tests/programs.py")))
 # Makes two libraries whose functions return 0, except the version of the second one.
 LIBRARIES = ("libraries.sh", None, """set -eu
 sed -n 's/^[a-z0-9_]* \\(sockdiag_[a-z0-9_]*\\)(.*/long \\1(void) { return 0; }/p' \\
@@ -222,8 +221,17 @@ CALLS = ("python3 tests/pages.py out/static/sockdiag", "python3 tests/tables.py 
          "build sockdiag sslist",
          "bindings --check", "usage --check",
          *(f"python3 {it}" if it.endswith(".py") else Path(it).name
-           for it in SCRIPTS if it not in {ERASED, *CALLED, *OF_C_API}))
+           for it in SCRIPTS if it not in {COMPARISON, *CALLED, *OF_C_API}))
 COMPARED = ("tests/api/reply_reader.py", None, READER)
+# What compare_erased.sh compares.
+BUILT = (
+    LIBRARY, ("crates/sockdiag/out/sockdiag", None, "#!/bin/sh\n"),
+    ("out/erased/target/release/sockdiag", None,
+     '#!/bin/sh\n[ "$FAILS" != sockdiag ] || echo planted\n'),
+    *((it, None, PROGRAM) for it in (
+        "tests/api/reply_reader.py", "tests/api/compare_listers.py",
+        "tests/api/compare_libraries.py")),
+)
 # Changes of the sources of the C library that a header cannot have, and what is reported: a file in
 # `crates`, the old and the new text.
 NO_HEADER = (
@@ -241,7 +249,9 @@ NO_HEADER = (
      "probes of TcpInfo is not probes of TcpField"),
 )
 ROWS = [
-    Row(GATE, (f"ci: failed: {ERASED}", *(f"passed: {it}" for it in CALLS)), STUBS, "erased.sh"),
+    Row(GATE, (f"ci: failed: {COMPARISON}", *(f"passed: {it}" for it in CALLS)), STUBS,
+        "compare_erased.sh"),
+    Row(GATE, (f"ci: failed: {ERASED}",), STUBS, "erased.sh"),
     Row(GATE, ("ci: failed: rt ci",), STUBS, "rt ci"),
     Row(GATE, ("ci: failed: python3 tests/tidy.py",), STUBS, "python3 tests/tidy.py"),
     Row(GATE, ("ci: failed: tests/edits.py",), STUBS, "python3 tests/edits.py -"),
@@ -420,8 +430,11 @@ ROWS = [
     *(Row(ERASED, (f"planted: {it.split(' *')[0]}",), (LIBRARY, *ERASER), it, "ar")
       for it in ("cargo build *", "cargo test --offline --no-default-features",
                  "cargo test --offline --features c", "cargo doc *", "cargo clippy --offline *",
-                 "captures.py *", "programs.py *", "compare_listers.py *", "kernels.py *",
-                 "c_api.sh", "compare_libraries.py *")),
+                 "captures.py *", "programs.py *", "kernels.py *", "c_api.sh")),
+    *(Row(COMPARISON, (reported,), BUILT, fails) for reported, fails in (
+        ("the answers to many lines differ", "sockdiag"),
+        ("planted: compare_listers.py", "compare_listers.py *"),
+        ("planted: compare_libraries.py", "compare_libraries.py *"))),
     *(Row(ERASED, (reported,), ERASER, fails, "ar")
       for reported, fails in (("sockdiag/stdin differ", "sockdiag"), ("libsockdiag_c.so", "other"),
                               ("panics at 1000 places", "panics"),
