@@ -1,7 +1,7 @@
 #!/bin/sh
 # Times this port and the Rust crate netlink-packet-sock-diag 0.5.0 on the same replies, and prints
-# the time of the port divided by the time of the crate, for each reply and the means, which
-# docs/SPEED.md has.
+# the time of the port divided by the time of the crate, for some of the replies and the means of
+# all, which docs/SPEED.md has.
 #
 #     bench/compare.sh
 #     BENCH_ORIGINAL=FOLDER bench/compare.sh     without crates.io: FOLDER/sockdiag is the crate,

@@ -3,8 +3,8 @@
  * answers as a capture to standard output, for sslist: see sockdump(1).
  *
  * Each kind is requested from NETLINK_SOCK_DIAG by a dump request, as sock_diag(7) shows, in all
- * states and with the attributes that sslist decodes. The capture is in pcap format with link type
- * 253 (LINKTYPE_NETLINK).
+ * states unless FILTER names some, and with the attributes that sslist decodes. The capture is in
+ * pcap format with link type 253 (LINKTYPE_NETLINK).
  *
  * Only a FILTER needs the C library: compile with -DWITH_FILTERS, and link with -lsockdiag. The
  * program is valid C99 and C++.

@@ -205,7 +205,7 @@ static inline const char *sockdiag_error_text(uint32_t error)
     case SOCKDIAG_FILTER_INCOMPLETE:
         return "the filter is not complete";
     case SOCKDIAG_FILTER_TOO_LONG:
-        return "more than 256 conditions and operators";
+        return "more than 256 conditions, operators and groups";
     default:
         return "unknown error code";
     }
@@ -263,10 +263,10 @@ enum sockdiag_message_flag {
     SOCKDIAG_NLM_F_ROOT = 0x100,         /* In a request: requests the complete table. */
     SOCKDIAG_NLM_F_MATCH = 0x200,        /* In a request: requests all entries that match. */
     SOCKDIAG_NLM_F_ATOMIC = 0x400,       /* In a request: requests an atomic snapshot. */
-    SOCKDIAG_NLM_F_CAPPED = 0x100,       /* In an acknowledgement: it contains only the header of
-                                            the request. */
-    SOCKDIAG_NLM_F_ACK_TLVS = 0x200      /* In an acknowledgement: attributes NLMSGERR_ATTR_..
-                                            follow. */
+    SOCKDIAG_NLM_F_CAPPED = 0x100,       /* In an NLMSG_ERROR: it contains only the header of the
+                                            request. */
+    SOCKDIAG_NLM_F_ACK_TLVS = 0x200      /* In an NLMSG_ERROR or NLMSG_DONE: attributes
+                                            NLMSGERR_ATTR_.. follow. */
 };
 
 /*
@@ -315,14 +315,15 @@ enum sockdiag_unix_attribute {
     SOCKDIAG_UNIX_DIAG_NAME = 0,     /* Name that the socket is bound to. */
     SOCKDIAG_UNIX_DIAG_VFS = 1,      /* File that the socket is bound to: struct unix_diag_vfs. */
     SOCKDIAG_UNIX_DIAG_PEER = 2,     /* Inode number of the peer. */
-    SOCKDIAG_UNIX_DIAG_ICONS = 3,    /* Inode numbers of pending connections. */
+    SOCKDIAG_UNIX_DIAG_ICONS = 3,    /* Inode numbers of sockets that connected and were not
+                                        accepted yet. */
     SOCKDIAG_UNIX_DIAG_RQLEN = 4,    /* Lengths of the queues. */
     SOCKDIAG_UNIX_DIAG_MEMINFO = 5,  /* Memory of the socket: an array of u32, indexed by
                                         SK_MEMINFO_*. */
     SOCKDIAG_UNIX_DIAG_SHUTDOWN = 6, /* Directions that are shut down, a u8: bit 0 for receiving,
                                         bit 1 for sending. See shutdown(2). */
-    SOCKDIAG_UNIX_DIAG_UID = 7       /* Kind of the attribute with the id of the user who created
-                                        the UNIX socket. */
+    SOCKDIAG_UNIX_DIAG_UID = 7       /* Kind of the attribute with the user id of the UNIX
+                                        socket's owner. */
 };
 
 /*
@@ -352,7 +353,8 @@ enum sockdiag_inet_attribute {
     SOCKDIAG_INET_DIAG_MARK = 15,            /* Mark of the socket, SO_MARK of socket(7). */
     SOCKDIAG_INET_DIAG_BBRINFO = 16,         /* Measurements of BBR: struct tcp_bbr_info. */
     SOCKDIAG_INET_DIAG_CLASS_ID = 17,        /* Traffic class id (net_cls) of the socket's
-                                                control group. */
+                                                control group, or if it is 0, the priority of the
+                                                socket (SO_PRIORITY). */
     SOCKDIAG_INET_DIAG_MD5SIG = 18,          /* Keys of TCP MD5 signatures. */
     SOCKDIAG_INET_DIAG_ULP_INFO = 19,        /* Kind of the attribute of the upper layer protocol
                                                 on TCP (ULP), such as TLS or MPTCP: nested
@@ -403,7 +405,8 @@ enum sockdiag_subflow_attribute {
                                                      the mapped data starts. */
     SOCKDIAG_MPTCP_SUBFLOW_ATTR_MAP_SFSEQ = 5,    /* Sequence number in the subflow at which the
                                                      mapped data starts. */
-    SOCKDIAG_MPTCP_SUBFLOW_ATTR_SSN_OFFSET = 6,   /* First sequence number of the subflow. */
+    SOCKDIAG_MPTCP_SUBFLOW_ATTR_SSN_OFFSET = 6,   /* First sequence number of the peer in the
+                                                     subflow. */
     SOCKDIAG_MPTCP_SUBFLOW_ATTR_MAP_DATALEN = 7,  /* Length of the mapped data, in bytes. */
     SOCKDIAG_MPTCP_SUBFLOW_ATTR_FLAGS = 8,        /* Flags of the subflow: bits
                                                      MPTCP_SUBFLOW_FLAG_... */
@@ -461,7 +464,7 @@ enum sockdiag_tcp_value {
     SOCKDIAG_TCP_CA_OPEN = 0,         /* The normal state: no sign of loss or congestion. */
     SOCKDIAG_TCP_CA_DISORDER = 1,     /* Duplicate or selective acknowledgements were received. */
     SOCKDIAG_TCP_CA_CWR = 2,          /* The congestion window is being reduced, after a
-                                         congestion notification. */
+                                         congestion notification or local congestion. */
     SOCKDIAG_TCP_CA_RECOVERY = 3,     /* Lost segments are retransmitted, by fast retransmit. */
     SOCKDIAG_TCP_CA_LOSS = 4,         /* Lost segments are retransmitted, after the
                                          retransmission timeout. */
@@ -567,7 +570,8 @@ enum sockdiag_xdp_attribute {
  * - An attribute without a field is not an error: sockdiag_next_attribute returns it.
  * - Bytes after the last field of a record are ignored, since newer kernels send more. A shorter
  *   record is SOCKDIAG_BUFFER_TOO_SMALL, and a number of another length SOCKDIAG_WRONG_LENGTH,
- *   unless the comment of its field says that it is not set then.
+ *   unless the comment of its field says that it is not set then. The two queue lengths of a UNIX
+ *   socket are like a number of 8 bytes, and an array has whole records.
  * - Texts point into the payload, and are valid as long as it is.
  * - The family is not checked, except that it is AF_INET or AF_INET6.
  */
@@ -635,8 +639,9 @@ struct sockdiag_unix_header {
     uint8_t kind;      /* Type of the socket, one of SOCK_.. (udiag_type, at 1). */
     uint8_t state;     /* State (udiag_state, at 2): TCP_LISTEN (10) if the socket listens,
                           TCP_ESTABLISHED (1) if it was connected, also if the peer has closed
-                          since, else TCP_CLOSE (7), as of most datagram sockets. A datagram
-                          socket is in state 7 again after a connect(2) to AF_UNSPEC. */
+                          since, or if it is a datagram socket to which another one connected,
+                          else TCP_CLOSE (7), as of most datagram sockets. A datagram socket is
+                          in state 7 again after a connect(2) to AF_UNSPEC. */
     uint32_t inode;    /* Inode of the socket (udiag_ino, at 4). */
     uint8_t cookie[8]; /* Cookie that distinguishes sockets with the same inode (udiag_cookie, at
                           8). */
@@ -695,8 +700,9 @@ static inline uint32_t sockdiag_unix_get_details(const uint8_t *payload, size_t 
 struct sockdiag_inet_header {
     uint8_t family;                  /* AF_INET or AF_INET6 (idiag_family, at 0). */
     uint8_t state;                   /* State, one of TCP_ESTABLISHED to TCP_CLOSING
-                                        (idiag_state, at 1), of the protocol that was requested.
-                                        The reply of an event has the protocol in
+                                        (idiag_state, at 1), but of an SCTP association a number
+                                        of SCTP, such as 3 for established. The protocol is that
+                                        of the request. The reply of an event has it in
                                         INET_DIAG_PROTOCOL. */
     uint8_t timer;                   /* Timer (idiag_timer, at 2): 0 none, 1 retransmission, 2
                                         keepalive, 3 TIME_WAIT, 4 zero-window probe; 5 delayed
@@ -714,16 +720,17 @@ struct sockdiag_inet_header {
                                         (idiag_if, at 40). */
     uint8_t cookie[8];               /* Cookie that distinguishes sockets with the same addresses
                                         and ports (idiag_cookie, at 44). */
-    uint32_t recv_queue;             /* Number of pending connections of a listening TCP socket
-                                        (idiag_rqueue, at 56). For other TCP sockets, number of
-                                        bytes that have not been read; a FIN counts as one. For
-                                        UDP and raw sockets, memory in use by the receive queue
-                                        in bytes, which exceeds the data. */
+    uint32_t recv_queue;             /* Number of pending connections of a listening TCP or MPTCP
+                                        socket (idiag_rqueue, at 56). For other TCP sockets,
+                                        number of bytes that have not been read; a FIN counts as
+                                        one. For UDP, raw and other MPTCP sockets, memory in use
+                                        by the receive queue in bytes, which exceeds the data. */
     uint32_t send_queue;             /* Limit of pending connections (backlog) of a listening TCP
-                                        socket (idiag_wqueue, at 60). For other TCP sockets,
-                                        number of bytes that are not yet acknowledged; a SYN and
-                                        a FIN count as one each. For UDP and raw sockets, memory
-                                        in use by packets that are being sent, in bytes. */
+                                        or MPTCP socket (idiag_wqueue, at 60). For other TCP
+                                        sockets, number of bytes that are not yet acknowledged; a
+                                        SYN and a FIN count as one each. For UDP, raw and other
+                                        MPTCP sockets, memory in use by packets that are being
+                                        sent, in bytes. */
     uint32_t uid;                    /* User id of the owner (idiag_uid, at 64). */
     uint32_t inode;                  /* Inode of the socket (idiag_inode, at 68). */
 };
@@ -1616,7 +1623,7 @@ struct sockdiag_message {
     uint16_t flags;           /* The flags NLM_F_.. (nlmsg_flags). sockdiag_is_interrupted tests
                                  NLM_F_DUMP_INTR. */
     uint32_t sequence_number; /* Sequence number (nlmsg_seq); an answer repeats the number of its
-                                 request. No call compares it: see sockdiag_is_answer. */
+                                 request. Only sockdiag_is_answer compares it. */
     uint32_t port_number;     /* Port id (nlmsg_pid); an answer of the kernel has the port id of
                                  the socket that sent the request. */
 };
@@ -1679,7 +1686,8 @@ uint32_t sockdiag_get_error_number(const uint8_t *payload, size_t length, int32_
  * cursor. The errors, after which the cursor is unchanged, are:
  * - SOCKDIAG_UNKNOWN_MESSAGE_TYPE: the message has another type;
  * - SOCKDIAG_WRONG_LENGTH: an NLMSG_DONE has fewer than 4 bytes; or an NLMSG_ERROR has fewer than
- *   20 bytes, or does not contain the whole request although it should.
+ *   20 bytes, or does not contain the whole request although it should, or the length field of this
+ *   request is below 16.
  */
 uint32_t sockdiag_find_error_attributes(const uint8_t *payload, size_t length,
                                         uint16_t message_type, uint16_t flags,
@@ -1707,8 +1715,8 @@ uint32_t sockdiag_is_interrupted(const struct sockdiag_message *message);
 
 /*
  * Returns 1 if the message is an NLMSG_DONE or an NLMSG_ERROR, else 0. After such a message no more
- * messages of the answer follow. sockdiag_get_error_number returns whether it reports success. An
- * NLMSG_OVERRUN does not end the answer, but data was lost.
+ * messages of the answer follow. The number that sockdiag_get_error_number stores is 0 if it
+ * reports success. An NLMSG_OVERRUN does not end the answer, but data was lost.
  */
 uint32_t sockdiag_ends_answer(const struct sockdiag_message *message);
 
@@ -1768,7 +1776,8 @@ struct sockdiag_vegas_info {
     uint32_t rtt_count; /* Number of round trips measured, tcpv_rttcnt, at offset 4. */
     uint32_t rtt;       /* Round-trip time, tcpv_rtt, at offset 8, in microseconds. Which one
                            (the least, the mean or the last) depends on the algorithm. */
-    uint32_t min_rtt;   /* Minimum round-trip time, tcpv_minrtt, at offset 12, in microseconds. */
+    uint32_t min_rtt;   /* Minimum round-trip time, tcpv_minrtt, at offset 12, in microseconds:
+                           of all measurements, or with Vegas only of the last round trip. */
 };
 
 /*
@@ -1789,8 +1798,9 @@ struct sockdiag_dctcp_info {
     uint32_t alpha;        /* Estimated fraction of the bytes that are marked, dctcp_alpha, at
                               offset 4, in 1024ths. */
     uint32_t marked_bytes; /* Number of acknowledged bytes that the peer reported as marked,
-                              dctcp_ab_ecn, at offset 8. */
-    uint32_t acked_bytes;  /* Number of acknowledged bytes, dctcp_ab_tot, at offset 12. */
+                              since alpha was last updated, dctcp_ab_ecn, at offset 8. */
+    uint32_t acked_bytes;  /* Number of acknowledged bytes since then, dctcp_ab_tot, at offset
+                              12. */
 };
 
 /*
@@ -1872,14 +1882,14 @@ uint32_t sockdiag_next_address(const uint8_t *value, size_t length, struct sockd
                                struct sockdiag_stored_address *address);
 
 /*
- * An address that a packet socket also receives: one of the records in the value of
- * PACKET_DIAG_MCLIST, struct packet_diag_mclist of linux/packet_diag.h, 44 bytes. The numbers are
- * little-endian.
+ * A membership of a packet socket: an address that it also receives, or all packets, or all
+ * multicast packets. It is one of the records in the value of PACKET_DIAG_MCLIST, struct
+ * packet_diag_mclist of linux/packet_diag.h, 44 bytes. The numbers are little-endian.
  */
 struct sockdiag_packet_membership {
     uint32_t interface;      /* Index of the interface, pdmc_index, at offset 0. */
-    uint32_t count;          /* Number of times that the address was added, pdmc_count, at offset
-                                4. */
+    uint32_t count;          /* Number of times that the membership was added, pdmc_count, at
+                                offset 4. */
     uint16_t kind;           /* Type of the membership, pdmc_type, at offset 8: one of
                                 PACKET_MR_.. of linux/if_packet.h. */
     uint16_t address_length; /* Length of the address, pdmc_alen, at offset 10, in bytes. */
@@ -2182,8 +2192,8 @@ uint32_t sockdiag_write_vsock_request(const struct sockdiag_vsock_request *reque
  * 4 GiB.
  *
  * One such attribute is the bytecode of a filter, INET_DIAG_REQ_BYTECODE, which the kernel runs on
- * each socket. It answers with -EINVAL if a jump of the filter leads into the middle of an
- * operation, or more than 4 bytes past the end, and with -EPERM if the filter has an
+ * each socket. It answers with -EINVAL if no of an operation leads into the middle of another or
+ * more than 4 bytes past the end, or yes past the end; and with -EPERM if the filter has an
  * INET_DIAG_BC_MARK_COND and the caller lacks CAP_NET_ADMIN.
  */
 uint32_t sockdiag_write_inet_request_with_attributes(const struct sockdiag_inet_request *request,
@@ -2196,7 +2206,8 @@ uint32_t sockdiag_write_inet_request_with_attributes(const struct sockdiag_inet_
  * A filter selects IPv4 and IPv6 sockets. Its text has the words of ss(8), which ASCII white space
  * separates:
  *
- * - state STATE and exclude STATE, any number of them, and then an expression or nothing;
+ * - state STATE and exclude STATE, any number of them, with the names that ss(8) has for states and
+ *   groups of them, as established or connected, and then an expression or nothing;
  * - conditions: sport and dport with a port, as :443 or 443; src and dst with an address, which a
  *   slash and a number of bits, and a colon and a port may follow, as 10.0.0.0/8:53, [::1]:53 or
  *   *:53; dev with the index of an interface; fwmark with a mark, as 1 or 0x1/0x3; cgroup with an
@@ -2207,8 +2218,9 @@ uint32_t sockdiag_write_inet_request_with_attributes(const struct sockdiag_inet_
  *   follows it. and and or group from the left with the same precedence, as ss(8) parses them,
  *   though its manual page says otherwise. Two operands without an operator are combined by and.
  *
- * An IPv6 address without a number of bits is in brackets. Numbers are in decimal, or in
- * hexadecimal after 0x. Names of hosts, services, interfaces and paths are not known.
+ * An IPv6 address is in brackets, with its number of bits if it has one: [fe80::/10]:53. With a
+ * number of bits the brackets may be left out. Numbers are in decimal, or in hexadecimal after 0x.
+ * Names of hosts, services, interfaces and control groups are not known.
  *
  * To request the sockets of a filter, pass its program to
  * sockdiag_write_inet_request_with_attributes as an attribute, and its states, if it has some, as

@@ -1,12 +1,13 @@
 #!/usr/bin/env python3
 """Prints what must be believed: the definitions that the contracts of all crates depend on, in the
-crates of the port and of the program `sockdiag` (module: name, lines, comment); the members by
-which impls name their definitions; and the number of definitions and lines of each crate.
+crates of the port and of the program `sockdiag` and in `netlink_captures` (module: name, lines,
+comment); the members by which impls name their definitions; and the number of definitions and lines
+of each crate.
 
 With `--of CRATE::FUNCTION`, prints where the clauses of one contract are, and the definitions that
 they depend on, each once, with its file and line: a definition follows the one that names it, and
-is indented below it. For a function of another crate the definitions of the port and of the program
-are not followed. They are listed after the others, and then the types and constants of the code,
+is indented below it. For a function of another crate the definitions of these crates are not
+followed. They are listed after the others, and then the types and constants of the code,
 and the names of the kit. The modules and the type of the function may be given too, as in
 `netlink_core::Wire::read`. Members of traits that a contract names are listed and not followed: the
 impls name their definitions. If a member has members of its own, the used ones are listed too, such

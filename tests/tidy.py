@@ -85,8 +85,8 @@ def is_unbreakable(name, line):
 
 
 def wide_lines(files):
-    """Yields the lines with more than COLUMNS columns, of pages except for tables and code.
-    Must-fail edits and pages of contracts, which quote code, are not checked."""
+    """Yields the lines with more than COLUMNS columns, of pages except for tables and code. Edits
+    and pages of contracts, which quote code, and .toml files are not checked."""
     for name, text in files.items():
         if Path(name).suffix in {".edit", ".toml", ".svg"} or name.endswith("CALLING.md"):
             continue

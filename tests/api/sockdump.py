@@ -77,8 +77,8 @@ FAILURES = [
      "sockdump: filter: unexpected word at byte 13: frob?; try sockdump -h\n"),
     (["tcp", "--", "( sport = :1", "or"], {}, 2,
      "sockdump: filter: the filter is not complete at byte 15; try sockdump -h\n"),
-    (["--", 257 * "! "], {}, 2, "sockdump: filter: more than 256 conditions and operators at byte"
-     " 512: !; try sockdump -h\n"),
+    (["--", 257 * "! "], {}, 2, "sockdump: filter: more than 256 conditions, operators and groups "
+     "at byte 512: !; try sockdump -h\n"),
     (["--eventsx"], {}, 2, UNKNOWN.format("--eventsx")),
     (["--netns=/none", "tcp"], {}, 1, "sockdump: /none: No such file or directory\n"),
     *(([f"--netns={it}", "tcp"], {}, 1, f"sockdump: {it}: Invalid argument\n")

@@ -193,7 +193,7 @@ NO_WORDS = [
         f"{1 << 64}", f"= {1 << 64}")),
     ("fwmark x", "filter: no mark, such as 1 or 0x1/0x3: x"),
     ("state dst src", "unknown host: src"),
-    (" ".join(129 * ["sport = 1"]), "filter: more than 256 conditions and operators: 1"),
+    (" ".join(129 * ["sport = 1"]), "filter: more than 256 conditions, operators and groups: 1"),
 ]
 # Arguments that are rejected before a program starts, and the text.
 KINDS = "tcp, udp, mptcp, raw, unix, packet, netlink, vsock, xdp"

@@ -18,8 +18,9 @@ not 0, and answers to requests. docs/KERNELS.md has to explain these lines. With
 are also stored in tests/api/kernels, where the gate reads them.
 
 The programs are the static sslist for each processor, out/static/sslist of tools/build and
-out/arm64/sslist, and SOCKDIAG_LIBRARY may be another C library for x86-64. Needs apt, dpkg,
-cpio, a C compiler for each processor, and qemu-system.
+out/arm64/sslist, to which bin/sslist of a release for arm64 has to be copied. SOCKDIAG_LIBRARY may
+be another C library for x86-64. Needs apt, dpkg, cpio, a C compiler for each processor, and
+qemu-system.
 """
 
 import gzip

@@ -35,7 +35,7 @@ const MAGIC_NANOSECONDS: u32 = 0xa1b2_3c4d;
 /// Major version of the pcap format, at offset 4 of the file header.
 const MAJOR_VERSION: u16 = 2;
 
-/// `LINKTYPE_NETLINK`, the link type of nlmon(4) devices.
+/// `LINKTYPE_NETLINK`, the link type of devices of the kind nlmon.
 pub(crate) const LINKTYPE_NETLINK: u32 = 253;
 
 /// Number of link types. The link type is in the low 16 bits of the field at offset 20. The high 16
@@ -68,7 +68,7 @@ pub enum CaptureError {
     Read(ReadError),
     /// An allocation failed.
     Memory,
-    /// The capture ends within a header or a packet.
+    /// The capture ends within a header, a packet or a block.
     Truncated,
     /// The input has no bytes.
     Empty,
@@ -83,7 +83,7 @@ pub enum CaptureError {
     OtherVersion(u16),
     /// The link type is not 253 (`LINKTYPE_NETLINK`). It is here.
     OtherLinkType(u32),
-    /// A packet header has a length of more than `MAX_PACKET_LEN` bytes. The length is here.
+    /// The captured length of a packet is more than `MAX_PACKET_LEN` bytes. It is here.
     PacketTooLong(u32),
     /// Another pcap file begins in place of a packet.
     AnotherCapture,
@@ -321,7 +321,7 @@ impl FileHeader {
     /// `MAX_PACKET_LEN`, and with `Memory` if an allocation failed. At the end of the input and
     /// after an error, the content of `packet` is not specified.
     ///
-    /// Allocates only for the bytes of the packet, and never for more than `MAX_PACKET_LEN` bytes.
+    /// Allocates only for the bytes of the packet, which are never more than `MAX_PACKET_LEN`.
     pub fn read_packet<R: Source>(
         &self,
         input: &mut R,

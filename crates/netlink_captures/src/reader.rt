@@ -149,7 +149,8 @@ impl CaptureReader {
     /// not specified, and after an error neither is the state of the reader.
     ///
     /// Stores at most the bytes of the packet and, of a pcapng file, the last block, of at most
-    /// `MAX_BLOCK_LEN` bytes, and the interfaces of the section, at most `MAX_INTERFACES`.
+    /// `MAX_BLOCK_LEN` bytes, and the interfaces of the section, at most `MAX_INTERFACES`. While a
+    /// block is read, its bytes are in `packet` too.
     pub fn read_packet<R: Source>(
         &mut self,
         input: &mut R,

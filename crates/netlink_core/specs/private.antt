@@ -1,2 +1,2 @@
--- Definitions that only the contracts of private functions need.
+-- Definitions that only the contracts of private functions of `sock_diag_replies` need.
 pub mod Response

@@ -71,10 +71,10 @@ pub const NLM_F_MATCH: u16 = 0x200;
 /// In a request: requests an atomic snapshot.
 pub const NLM_F_ATOMIC: u16 = 0x400;
 
-/// In an acknowledgement: it contains only the header of the request.
+/// In an `NLMSG_ERROR`: it contains only the header of the request.
 pub const NLM_F_CAPPED: u16 = 0x100;
 
-/// In an acknowledgement: attributes `NLMSGERR_ATTR_..` follow.
+/// In an `NLMSG_ERROR` or `NLMSG_DONE`: attributes `NLMSGERR_ATTR_..` follow.
 pub const NLM_F_ACK_TLVS: u16 = 0x200;
 
 /// The maximal length of a message in bytes, as its length field (`nlmsg_len`) has 32 bits.
@@ -154,9 +154,9 @@ impl<I: Copy, B: Copy> Clone for NetlinkPayload<I, B> {
 }
 
 /// Returns the error number at the start of the payload of an `NLMSG_ERROR` or `NLMSG_DONE`: 4
-/// bytes, little-endian, signed. It is 0 for an acknowledgement or a complete dump, else `-errno`
-/// (errno(3)). Returns `None` if the payload has fewer than 4 bytes. The bytes after these are
-/// ignored.
+/// bytes, little-endian, signed. It is 0 for an acknowledgement, or for a dump of which the kernel
+/// reports no error, else `-errno` (errno(3)). Returns `None` if the payload has fewer than 4
+/// bytes. The bytes after these are ignored.
 pub fn error_number(payload: &[u8]) -> Option<i32>
     ensures { result ≡ leading_error_number payload.now }
 {

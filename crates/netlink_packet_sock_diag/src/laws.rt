@@ -264,7 +264,7 @@ pub fn split_changes_no_dump()
 /// What the laws about splits assume, `IsCompleteSplit`, holds of messages with their padding, and
 /// it holds of all bytes of such a split as one datagram.
 ///
-/// - `first`: a message with its padding, before datagrams of which this holds;
+/// - `first`: a message with its padding, of zeros, before datagrams of which this holds;
 /// - `whole`: the split of all bytes of such datagrams into one datagram;
 /// - `example`: two datagrams with one `NLMSG_DONE` of 17 bytes each, the first one with its three
 ///   bytes of padding, are such a split, and so is the one datagram with both messages.

@@ -3,7 +3,7 @@
 //! Inputs that differ only in ignored bits parse as the same value. Ignored are undefined flag
 //! bits, padding and bytes that no parser reads, bytes after a record or after a netlink message,
 //! the padding of attributes, the flag bits of known attribute kinds, one terminating NUL of a
-//! text, and which nonzero byte means true.
+//! text, which nonzero byte means true, and which timer byte means no timer.
 #![tactic(auto)]
 
 ghost use Rattle.std.specs.Prelude.{[], ◌∷◌};

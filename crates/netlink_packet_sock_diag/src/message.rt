@@ -277,8 +277,9 @@ impl From<SockDiagMessage> for NetlinkPayload<SockDiagMessage> {
     }
 }
 
-/// The request to close the sockets that a message selects or describes: the bytes of the message
-/// under the type `SOCK_DESTROY`, 21.
+/// The request to close the socket that a request selects: the bytes of the request under the type
+/// `SOCK_DESTROY`, 21. Linux closes at most one TCP, UDP or raw socket, and no UNIX socket. A reply
+/// does not select a socket: the kernel takes its bytes as those of a request.
 ///
 /// It is parsed as a message is, and so only under the type `SOCK_DIAG_BY_FAMILY`. A serialized
 /// request has the type 21, and is rejected.
@@ -288,7 +289,7 @@ pub struct SockDiagDestroy(pub(crate) SockDiagMessage);
 impl SockDiagDestroy {
     ghost use Rattle.netlink_packet_sock_diag.specs.MessageModel.{message_model};
 
-    /// Returns the request to close the sockets that `message` selects or describes. It contains
+    /// Returns the request to close the socket that `message`, a request, selects. It contains
     /// `message` unchanged.
     pub fn new(message: SockDiagMessage) -> Self
         ensures { message_model result.0 ≡ message_model message }

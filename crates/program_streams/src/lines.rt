@@ -89,7 +89,8 @@ impl<T: Drop> From<AllocFailed<T>> for RunError {
 /// the answer to a line that began in an earlier read.
 const CHUNK: usize = 8192;
 
-/// The largest capacity, in bytes, that a buffer retains from line to line.
+/// The largest capacity, in bytes, that a buffer retains: `line` and `bytes` from line to line, and
+/// `answers` from read to read.
 const RETAINED_CAPACITY: usize = 131072;
 
 /// The state of a reader and a writer when a run starts, and the answer to each line. It is for

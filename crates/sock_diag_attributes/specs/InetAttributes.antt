@@ -16,11 +16,11 @@ use Rattle.sock_diag_records.specs.declared.constants.TheConstants as c
 -- Types 1 (`struct inet_diag_meminfo`), 2 (`struct tcp_info`), 4 (the name of the congestion
 -- control algorithm), 5 (type of service), 6 (traffic class), 7 (`u32` values, indexed by
 -- SK_MEMINFO_..), 8 (the directions that are shut down), 10 (IPPROTO_..), 11 (whether the socket is
--- restricted to IPv6), 15 (the mark) and 17 (the traffic control class). `attribute_spec t codec`
--- is type `t`, whose value is parsed and serialized by `codec`; `value_codec layout` is the codec
--- of a record. `number_attribute_spec t w` is type `t`, a little-endian number of exactly `w`
--- bytes. A value of an `allocating_attribute_spec` needs memory; a value of another type of the set
--- needs none.
+-- restricted to IPv6), 15 (the mark) and 17 (the class id of the control group, or the priority).
+-- `attribute_spec t codec` is type `t`, whose value is parsed and serialized by `codec`;
+-- `value_codec layout` is the codec of a record. `number_attribute_spec t w` is type `t`, a
+-- little-endian number of exactly `w` bytes. A value of an `allocating_attribute_spec` needs
+-- memory; a value of another type of the set needs none.
 abbrev pub inet_attribute_set : AttributeSet
 inet_attribute_set =
     attribute_spec c.INET_DIAG_MEMINFO (value_codec legacy_mem_info) ∷

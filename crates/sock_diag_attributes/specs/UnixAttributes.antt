@@ -13,9 +13,10 @@ use Rattle.sock_diag_attributes.specs.Numbers.{number_pair_value, numbers_value}
 use Rattle.sock_diag_records.specs.declared.constants.TheConstants as c
 
 -- Types 0 (the name), 1 (`struct unix_diag_vfs`), 2 (the inode of the peer), 3 (the inodes of the
--- connections that wait to be accepted), 4 (`struct unix_diag_rqlen`), 5 (`u32` values, indexed by
--- SK_MEMINFO_..) and 6 (the directions that are shut down). `attribute_spec t codec` is type `t`,
--- whose value is parsed and serialized by `codec`; `value_codec layout` is the codec of a record.
+-- sockets whose connections wait to be accepted), 4 (`struct unix_diag_rqlen`), 5 (`u32` values,
+-- indexed by SK_MEMINFO_..) and 6 (the directions that are shut down). `attribute_spec t codec` is
+-- type `t`, whose value is parsed and serialized by `codec`; `value_codec layout` is the codec of a
+-- record.
 -- `number_attribute_spec t w` is type `t`, a little-endian number of exactly `w` bytes. A value of
 -- an `allocating_attribute_spec` needs memory; a value of another type of the set needs none.
 abbrev pub unix_attribute_set : AttributeSet

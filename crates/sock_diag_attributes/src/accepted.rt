@@ -1,5 +1,6 @@
-//! Values of attributes that are known to be accepted: they are read without another test. The
-//! parameter `KIND` is the kind of the attribute, which only the contracts use.
+//! Values of attributes that are known to be accepted: they are read without another test, except a
+//! text, whose UTF-8 is tested again. The parameter `KIND` is the kind of the attribute, which only
+//! the contracts use.
 
 ghost use Rattle.std.specs.Prelude.{◌≡◌, Ok, IsOk, Some};
 ghost use Rattle.netlink_core.specs.Layout.{parse_record};

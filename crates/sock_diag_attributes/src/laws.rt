@@ -36,8 +36,8 @@ pub fn parsers_take_memory() -> (bool, bool, bool)
     )
 }
 
-/// States that attributes whose values are numbers or records need no memory: the inode of a peer,
-/// and `struct tcp_info`. So clauses `needs_no_memory` promise that calls succeed.
+/// States of one number, the inode of a peer, and of one record, `struct tcp_info`, that attributes
+/// with such a value need no memory. So clauses `needs_no_memory` promise that calls succeed.
 pub fn numbers_and_records_need_no_memory()
     ensures number { (inode : ℕ) → NeedsNoMemoryIn unix_attribute_set
         (value_as_decoded unix_attribute_set UNIX_DIAG_PEER inode) }

@@ -1,4 +1,4 @@
--- What the examples of the README return.
+-- What the short examples about UNIX sockets return.
 use Rattle.std.specs.Prelude.{◌≡◌, ◌==◌, Bool, false, ℕ, List, [], ◌∷◌, ◌++◌, count_by, Option}
 use Rattle.std.specs.Prelude.{Some, None, Result, Ok, Err}
 use Rattle.std.specs.Borrow.{Bor}

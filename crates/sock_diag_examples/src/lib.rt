@@ -1,5 +1,5 @@
-//! Example callers of the crates of sock_diag(7), with their contracts: the examples of the README,
-//! those of the pages CALLING.md of five libraries, and longer ones.
+//! Example callers of the crates of sock_diag(7), with their contracts: short ones about UNIX
+//! sockets, those of the pages CALLING.md of five libraries, and longer ones.
 #![tactic(auto)]
 
 pub mod bound_sockets;

@@ -1,6 +1,6 @@
--- What an attribute of a reply says, for the sockets of each family: one table of rows for each
--- family, with a row for each kind that the port leaves raw, and the port's values for its kinds.
--- `a` is an attribute, and `bytes` is the value of one.
+-- What an attribute of a reply says, for the sockets of each family: tables with a row for each
+-- kind that is not left to the port, and the port's values for its kinds. `a` is an attribute, and
+-- `bytes` is the value of one.
 use Rattle.std.specs.Prelude.{ℕ, ◌==◌, ◌%◌, nat_le, if◌then◌else◌, Bool, List, [], ◌∷◌, length}
 use Rattle.std.specs.Prelude.{Some, Result, Ok, Err}
 use Rattle.std.specs.Option.{option_map_or}

@@ -10,7 +10,7 @@ use Rattle.netlink_core.specs.declared.error.RecordName.{RecordName}
 pub record RecordTable (Value : Type 0) : Type 1 where
   -- the size in bytes
   pub size : ℕ
-  -- a row for each member of the C struct, in order: its offset, type, and member of `Value`
+  -- a row for each number or array that is read, in order: its offset, type, and member of `Value`
   pub rows : List (Row Value)
   -- the value with these numbers in its rows; an array has one number for each element
   pub value : List ℕ → Value

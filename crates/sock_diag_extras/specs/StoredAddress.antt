@@ -8,7 +8,7 @@ use Rattle.sock_diag_extras.specs.declared.stored_address.StoredAddress.{StoredA
 use Rattle.netlink_core.specs.Rows.{u16, u32, be16, be16s, u8s}
 use Rattle.sock_diag_records.specs.declared.constants.TheConstants.{AF_INET, AF_INET6}
 
--- `struct sockaddr_storage` (linux/socket.h). By the family it starts with one of two structs:
+-- `struct sockaddr_storage` (sys/socket.h). By the family it starts with one of two structs:
 -- `struct sockaddr_in` (ip(7)) with `sin_port` at 2 and `sin_addr` at 4; or `struct sockaddr_in6`
 -- (ipv6(7)) with `sin6_port` at 2, `sin6_flowinfo` at 4, `sin6_addr` at 8 and `sin6_scope_id` at
 -- 24. A row such as `be16s 8 8 segments` is an array of 8 numbers at offset 8, here of 16 bits in

@@ -24,7 +24,8 @@ pub struct VegasInfo {
     /// Round-trip time, `tcpv_rtt`, at offset 8, in microseconds. Which one (the least, the mean or
     /// the last) depends on the algorithm.
     pub rtt: u32,
-    /// Minimum round-trip time, `tcpv_minrtt`, at offset 12, in microseconds.
+    /// Minimum round-trip time, `tcpv_minrtt`, at offset 12, in microseconds: of all measurements,
+    /// or with Vegas only of the last round trip.
     pub min_rtt: u32,
 }
 
@@ -67,9 +68,10 @@ pub struct DctcpInfo {
     pub ce_state: u16,
     /// Estimated fraction of the bytes that are marked, `dctcp_alpha`, at offset 4, in 1024ths.
     pub alpha: u32,
-    /// Number of acknowledged bytes that the peer reported as marked, `dctcp_ab_ecn`, at offset 8.
+    /// Number of acknowledged bytes that the peer reported as marked, since `alpha` was last
+    /// updated, `dctcp_ab_ecn`, at offset 8.
     pub marked_bytes: u32,
-    /// Number of acknowledged bytes, `dctcp_ab_tot`, at offset 12.
+    /// Number of acknowledged bytes since then, `dctcp_ab_tot`, at offset 12.
     pub acked_bytes: u32,
 }
 

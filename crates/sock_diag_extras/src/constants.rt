@@ -1,7 +1,7 @@
-//! The constants of sock_diag(7) and netlink(7) that the port lacks, under the kernel's names. They
-//! are from `linux/inet_diag.h`, `linux/unix_diag.h`, `linux/sock_diag.h`, `linux/netlink.h`,
-//! `linux/tcp.h`, `linux/tls.h` and `linux/mptcp.h`. `tests/kernel_headers.py` compares them with
-//! these headers.
+//! Constants of sock_diag(7) and netlink(7) that the Rust crate lacks, under the kernel's names.
+//! They are from `linux/inet_diag.h`, `linux/unix_diag.h`, `linux/sock_diag.h`, `linux/netlink.h`,
+//! `linux/tcp.h`, `linux/tls.h` and `linux/mptcp.h`; the two states `TCP_..` are `BPF_TCP_..` of
+//! `linux/bpf.h`. `tests/kernel_headers.py` compares them with these headers.
 
 ghost use Rattle.std.specs.Prelude.{[], ◌∷◌};
 ghost use Rattle.sock_diag_records.specs.Constants.{PairsAreEqual};
@@ -15,7 +15,7 @@ pub use sock_diag_records::inet::{
     INET_DIAG_REQ_SK_BPF_STORAGES,
 };
 
-// ---- kinds of attributes that the port lacks, and the flag that requests one of them
+// ---- kinds of attributes that the port lacks, the flag that requests one, and message types
 
 /// Kind of the attribute of the upper layer protocol on TCP (ULP), such as TLS or MPTCP: nested
 /// attributes `INET_ULP_INFO_..`.
@@ -35,7 +35,7 @@ pub const INET_DIAG_CGROUP_ID: u16 = 21;
 /// See `SocketOptions`.
 pub const INET_DIAG_SOCKOPT: u16 = 22;
 
-/// Kind of the attribute with the id of the user who created the UNIX socket.
+/// Kind of the attribute with the user id of the UNIX socket's owner.
 ///
 /// See `parse_uid`.
 pub const UNIX_DIAG_UID: u16 = 7;
@@ -111,7 +111,7 @@ pub const MPTCP_SUBFLOW_ATTR_MAP_SEQ: u16 = 4;
 /// Sequence number in the subflow at which the mapped data starts.
 pub const MPTCP_SUBFLOW_ATTR_MAP_SFSEQ: u16 = 5;
 
-/// First sequence number of the subflow.
+/// First sequence number of the peer in the subflow.
 pub const MPTCP_SUBFLOW_ATTR_SSN_OFFSET: u16 = 6;
 
 /// Length of the mapped data, in bytes.
@@ -183,7 +183,7 @@ pub const INET_DIAG_BC_D_EQ: u8 = 12;
 /// Tests that the socket's control group has a given id.
 pub const INET_DIAG_BC_CGROUP_COND: u8 = 13;
 
-// ---- indices of the `u32` fields in INET_DIAG_SKMEMINFO and UNIX_DIAG_MEMINFO
+// ---- indices of the `u32` fields in INET_DIAG_SKMEMINFO and in the MEMINFO of other families
 
 /// Memory allocated for received data (`sk_rmem_alloc`), in bytes.
 pub const SK_MEMINFO_RMEM_ALLOC: u8 = 0;

@@ -1,6 +1,6 @@
 //! The parts of sock_diag(7) that the port of the Rust crate leaves out: all of `struct tcp_info`,
-//! `struct mptcp_info`, attributes that the port has no kind for, extended acknowledgements, and
-//! constants.
+//! `struct mptcp_info`, attributes that the port leaves raw, extended acknowledgements, constants,
+//! and a reader of replies of any family.
 //!
 //! This is an extension crate. It changes nothing of the port.
 #![tactic(auto)]

@@ -10,15 +10,15 @@ use crate::record::AttributeRecord;
 use byteorder::{ByteOrder, LittleEndian};
 use netlink_core::fields::array_at;
 
-/// An address that a packet socket also receives: one of the records in the value of
-/// `PACKET_DIAG_MCLIST`, `struct packet_diag_mclist` of `linux/packet_diag.h`, 44 bytes. The
-/// numbers are little-endian.
+/// A membership of a packet socket: an address that it also receives, or all packets, or all
+/// multicast packets. It is one of the records in the value of `PACKET_DIAG_MCLIST`, `struct
+/// packet_diag_mclist` of `linux/packet_diag.h`, 44 bytes. The numbers are little-endian.
 #[repr(C)]
 #[derive(Clone, Copy, Debug, PartialEq, Eq)]
 pub struct PacketMembership {
     /// Index of the interface, `pdmc_index`, at offset 0.
     pub interface: u32,
-    /// Number of times that the address was added, `pdmc_count`, at offset 4.
+    /// Number of times that the membership was added, `pdmc_count`, at offset 4.
     pub count: u32,
     /// Type of the membership, `pdmc_type`, at offset 8: one of `PACKET_MR_..` of
     /// `linux/if_packet.h`.

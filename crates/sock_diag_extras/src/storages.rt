@@ -13,9 +13,9 @@ use crate::constants::{
 use crate::nested::NestedNlas;
 use netlink_core::{DecodeError, NlaBuffer};
 
-/// The borrowed entry of a socket in one BPF map: an attribute `SK_DIAG_BPF_STORAGE` in the value
-/// of `INET_DIAG_SK_BPF_STORAGES` (`linux/sock_diag.h`). A `NlasIterator` over that value yields
-/// these attributes. A getter returns `None` if its attribute is not present.
+/// The borrowed entry of a socket in one BPF map: an attribute `SK_DIAG_BPF_STORAGE`
+/// (`linux/sock_diag.h`) in the value of `INET_DIAG_SK_BPF_STORAGES`. A `NlasIterator` over that
+/// value yields these attributes. A getter returns `None` if its attribute is not present.
 #[derive(Clone, Copy, Debug, PartialEq, Eq)]
 pub struct BpfStorage<'a>(pub NestedNlas<'a>);
 

@@ -167,7 +167,7 @@ pub enum SubflowField {
     /// Sequence number in the subflow at which the mapped data starts,
     /// `MPTCP_SUBFLOW_ATTR_MAP_SFSEQ`, 32 bits.
     MapSubflowSequence,
-    /// First sequence number of the subflow, `MPTCP_SUBFLOW_ATTR_SSN_OFFSET`, 32 bits.
+    /// First sequence number of the peer in the subflow, `MPTCP_SUBFLOW_ATTR_SSN_OFFSET`, 32 bits.
     SequenceOffset,
     /// Length of the mapped data in bytes, `MPTCP_SUBFLOW_ATTR_MAP_DATALEN`, 16 bits.
     MapLength,

@@ -1,5 +1,6 @@
 //! Records of four families of sockets that the port does not parse: vsock, netlink, packet and
-//! XDP. The crate has the requests, the headers of replies, and the values of attributes.
+//! XDP. The crate has the requests, the headers of replies, and records in attributes of packet and
+//! XDP sockets.
 #![tactic(auto)]
 
 pub mod laws;

@@ -65,7 +65,8 @@ host_bytes host =
 -- The arguments of a condition's operation: the bytes after its `struct inet_diag_bc_op` of four
 -- bytes. For a port they are a second `struct inet_diag_bc_op`, for a host a
 -- `struct inet_diag_hostcond`, for an interface its index as a u32, for a mark a
--- `struct inet_diag_markcond`, and for a control group its id as a u64, each little-endian.
+-- `struct inet_diag_markcond`, and for a control group its id as a u64. Numbers are little-endian,
+-- and the address of a host is in network byte order.
 abbrev pub arguments : Condition → List ℕ
 arguments (conditions.SourcePort comparison port) = port_bytes port
 arguments (conditions.DestinationPort comparison port) = port_bytes port

@@ -29,8 +29,7 @@ IsComparison field operator value condition =
     × (IsTrue (takes field operator))
     × (condition_in field (comparison_of operator) value ≡ Some condition)
 
--- `compared operator condition filter`: the filter is the condition, or its opposite if the
--- operator is negated.
+-- `compared negated condition filter`: the filter is the condition, or its opposite if `negated`.
 abbrev pub compared : Bool → Condition → Filter → Type 0
 compared false condition filter = filter ≡ filters.Condition condition
 compared true condition filter =

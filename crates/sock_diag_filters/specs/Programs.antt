@@ -9,7 +9,7 @@ use Rattle.sock_diag_filters.specs.Sockets.{Socket, kernel_evaluates, meets}
 
 -- `IsProgram filter program`: what `assemble` states of the program of the filter.
 pub record IsProgram (filter : Filter) (program : List ℕ) : Type 0 where
-  -- it has the length of the program
+  -- it has the length that `program_size` states
   pub size : length program ≡ program_size filter
   -- the kernel accepts it
   pub audited : IsAudited program

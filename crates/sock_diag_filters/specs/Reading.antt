@@ -1,6 +1,6 @@
 -- How a filter's text is read word by word, in one pass: what may follow the words so far, and
--- which operators wait for the end of their operand. `Grammar` states which texts are filters; this
--- module defines at which word a text that is none is rejected, and how many parts a filter needs.
+-- which operators wait for the end of their operand. `Grammar` states which texts are filters, and
+-- `Parsed` at which word others are rejected; this module defines how many parts a filter needs.
 use Rattle.std.specs.Prelude.{ℕ, ◌+◌, Bool, true, false, if◌then◌else◌, List, [], ◌∷◌, ◌++◌}
 use Rattle.std.specs.Prelude.{length, Option, None, Some, option_and_then, option_map, unwrap_or}
 use Rattle.std.specs.Prelude.{bit_and, bit_or, bit_xor}

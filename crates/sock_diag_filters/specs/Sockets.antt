@@ -190,8 +190,8 @@ abbrev pub IsPort : Option ℕ → Type 0
 IsPort None = ⊤
 IsPort (Some port) = port < 2 ^ 16
 
--- Each number of a condition fits its Rust type. Of an address with a prefix this is stated of the
--- port only; its prefix has a range of its own (`Prefix`).
+-- Each number of a condition fits its Rust type. Of a host this is stated of the port only; its
+-- prefix has a range of its own (`Prefix`).
 abbrev pub IsConditionInRange : Condition → Type 0
 IsConditionInRange (conditions.SourcePort comparison port) = port < 2 ^ 16
 IsConditionInRange (conditions.DestinationPort comparison port) = port < 2 ^ 16

@@ -47,6 +47,7 @@ use crate::filter::Filter;
 use crate::request::{
     INET_DIAG_REQ_BYTECODE, INET_DIAG_REQ_PROTOCOL, REQUEST_FRONT, RequestAttribute,
 };
+use crate::text::{MAX_PARSED_PROGRAM, MAX_PARTS};
 use crate::view::RequestView;
 use netlink_core::Exact;
 use sock_diag_records::constants::SOCK_DIAG_BY_FAMILY;
@@ -154,7 +155,7 @@ pub fn programs_select_by_filter()
         ≡ meaning (meets socket) filter }
 {}
 
-/// States that the parts of a filter, in postfix order, are met if the filter is. So
+/// States that the parts of a filter, in postfix order, are met if and only if the filter is. So
 /// [`ParsedFilter::selects`](crate::ParsedFilter::selects) selects the sockets that the program of
 /// the filter selects in the kernel, if what the filter compares is known.
 #[tactic(auto, using(crate::proofs::Evaluating::filter_rules))]
@@ -252,9 +253,9 @@ pub fn equal_any_request_views(view: &AnyRequestView<'_>, other: &AnyRequestView
     view == other
 }
 
-/// States the numeric value of each constant: `PairsAreEqual` states that both numbers of each pair
-/// are equal.
+/// States the numeric value of each public constant: `PairsAreEqual` states that both numbers of
+/// each pair are equal.
 pub fn filter_constants_have_their_values()
-    ensures { PairsAreEqual ((MAX_PROGRAM, 65531) ∷ (INET_DIAG_REQ_BYTECODE, 1) ∷
-        (INET_DIAG_REQ_PROTOCOL, 3) ∷ (REQUEST_FRONT, 72) ∷ []) }
+    ensures { PairsAreEqual ((MAX_PROGRAM, 65531) ∷ (MAX_PARTS, 256) ∷ (MAX_PARSED_PROGRAM, 7168) ∷
+        (INET_DIAG_REQ_BYTECODE, 1) ∷ (INET_DIAG_REQ_PROTOCOL, 3) ∷ (REQUEST_FRONT, 72) ∷ []) }
 {}

@@ -1,5 +1,5 @@
-//! Filters for IPv4 and IPv6 sockets: bytecode that the kernel runs on each socket, and requests
-//! that carry it. Requests of all families can also be parsed, for a test kernel.
+//! Filters for IPv4 and IPv6 sockets, also by text: bytecode that the kernel runs on each socket,
+//! and requests that carry it. Requests of seven families can also be parsed, for a test kernel.
 #![tactic(auto)]
 
 mod any;

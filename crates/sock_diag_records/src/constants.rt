@@ -1,5 +1,5 @@
-//! The constants of sock_diag(7), and of the pages and headers that it refers to, under the
-//! kernel's names.
+//! The constants of sock_diag(7), and of the pages and headers that it refers to, under the names
+//! of the Rust crate: the kernel's, but in capitals, such as `TCP_CA_OPEN` for `TCP_CA_Open`.
 
 ghost use Rattle.std.specs.Prelude.{[], ◌∷◌};
 ghost use Rattle.sock_diag_records.specs.Constants.{PairsAreEqual};
@@ -281,7 +281,8 @@ pub const INET_DIAG_MARK: u16 = 15;
 /// Measurements of BBR: `struct tcp_bbr_info`.
 pub const INET_DIAG_BBRINFO: u16 = 16;
 
-/// Traffic class id (net_cls) of the socket's control group.
+/// Traffic class id (net_cls) of the socket's control group, or if it is 0, the priority of the
+/// socket (`SO_PRIORITY`).
 pub const INET_DIAG_CLASS_ID: u16 = 17;
 
 /// Keys of TCP MD5 signatures.
@@ -353,7 +354,7 @@ pub const UNIX_DIAG_VFS: u16 = 1;
 /// Inode number of the peer.
 pub const UNIX_DIAG_PEER: u16 = 2;
 
-/// Inode numbers of pending connections.
+/// Inode numbers of sockets that connected and were not accepted yet.
 pub const UNIX_DIAG_ICONS: u16 = 3;
 
 /// Lengths of the queues.
@@ -393,7 +394,7 @@ pub const TCP_CA_OPEN: u8 = 0;
 /// Duplicate or selective acknowledgements were received.
 pub const TCP_CA_DISORDER: u8 = 1;
 
-/// The congestion window is being reduced, after a congestion notification.
+/// The congestion window is being reduced, after a congestion notification or local congestion.
 pub const TCP_CA_CWR: u8 = 2;
 
 /// Lost segments are retransmitted, by fast retransmit.

@@ -1,4 +1,4 @@
-//! The fixed-size records that attributes of sock_diag(7) replies have as their values.
+//! The five records that attributes of sock_diag(7) replies have as their values.
 #![tactic(auto)]
 
 pub mod inet;

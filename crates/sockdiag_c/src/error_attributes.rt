@@ -25,7 +25,8 @@ use sock_diag_extras::AckView;
 /// cursor. The errors, after which the cursor is unchanged, are:
 /// - `SOCKDIAG_UNKNOWN_MESSAGE_TYPE`: the message has another type;
 /// - `SOCKDIAG_WRONG_LENGTH`: an `NLMSG_DONE` has fewer than 4 bytes; or an `NLMSG_ERROR` has fewer
-///   than 20 bytes, or does not contain the whole request although it should.
+///   than 20 bytes, or does not contain the whole request although it should, or the length field
+///   of this request is below 16.
 #[unsafe(no_mangle)]
 pub extern "C" fn sockdiag_find_error_attributes(
     payload: &[u8],

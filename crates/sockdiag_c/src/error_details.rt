@@ -137,7 +137,7 @@ fn details_of(error: DecodeError) -> ErrorDetails
             details.length = length as usize;
             details.got = got;
         }
-        // The other errors have no fields.
+        // The other errors have no field, or one of the header of the message.
         _ => {}
     }
     details

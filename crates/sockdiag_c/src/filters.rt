@@ -28,9 +28,9 @@ use sock_diag_families::RawNla;
 /// attributes of 4 GiB.
 ///
 /// One such attribute is the bytecode of a filter, `INET_DIAG_REQ_BYTECODE`, which the kernel runs
-/// on each socket. It answers with `-EINVAL` if a jump of the filter leads into the middle of an
-/// operation, or more than 4 bytes past the end, and with `-EPERM` if the filter has an
-/// `INET_DIAG_BC_MARK_COND` and the caller lacks `CAP_NET_ADMIN`.
+/// on each socket. It answers with `-EINVAL` if `no` of an operation leads into the middle of
+/// another or more than 4 bytes past the end, or `yes` past the end; and with `-EPERM` if the
+/// filter has an `INET_DIAG_BC_MARK_COND` and the caller lacks `CAP_NET_ADMIN`.
 #[unsafe(no_mangle)]
 pub extern "C" fn sockdiag_write_inet_request_with_attributes(
     request: &InetRequest,

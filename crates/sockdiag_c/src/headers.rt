@@ -19,8 +19,9 @@ pub struct UnixHeader {
     /// Type of the socket, one of `SOCK_..` (`udiag_type`, at 1).
     pub kind: u8,
     /// State (`udiag_state`, at 2): `TCP_LISTEN` (10) if the socket listens, `TCP_ESTABLISHED` (1)
-    /// if it was connected, also if the peer has closed since, else `TCP_CLOSE` (7), as of most
-    /// datagram sockets. A datagram socket is in state 7 again after a connect(2) to `AF_UNSPEC`.
+    /// if it was connected, also if the peer has closed since, or if it is a datagram socket to
+    /// which another one connected, else `TCP_CLOSE` (7), as of most datagram sockets. A datagram
+    /// socket is in state 7 again after a connect(2) to `AF_UNSPEC`.
     pub state: u8,
     /// Inode of the socket (`udiag_ino`, at 4).
     pub inode: u32,
@@ -36,8 +37,9 @@ const _: () = prove!(std::mem::size_of::<UnixHeader>() == 16);
 pub struct InetHeader {
     /// `AF_INET` or `AF_INET6` (`idiag_family`, at 0).
     pub family: u8,
-    /// State, one of `TCP_ESTABLISHED` to `TCP_CLOSING` (`idiag_state`, at 1), of the protocol that
-    /// was requested. The reply of an event has the protocol in `INET_DIAG_PROTOCOL`.
+    /// State, one of `TCP_ESTABLISHED` to `TCP_CLOSING` (`idiag_state`, at 1), but of an SCTP
+    /// association a number of SCTP, such as 3 for established. The protocol is that of the
+    /// request. The reply of an event has it in `INET_DIAG_PROTOCOL`.
     pub state: u8,
     /// Timer (`idiag_timer`, at 2): 0 none, 1 retransmission, 2 keepalive, 3 TIME_WAIT, 4
     /// zero-window probe; 5 delayed acknowledgement, since Linux 7.2.
@@ -60,14 +62,15 @@ pub struct InetHeader {
     pub interface_id: u32,
     /// Cookie that distinguishes sockets with the same addresses and ports (`idiag_cookie`, at 44).
     pub cookie: [u8; 8],
-    /// Number of pending connections of a listening TCP socket (`idiag_rqueue`, at 56). For other
-    /// TCP sockets, number of bytes that have not been read; a FIN counts as one. For UDP and raw
-    /// sockets, memory in use by the receive queue in bytes, which exceeds the data.
+    /// Number of pending connections of a listening TCP or MPTCP socket (`idiag_rqueue`, at 56).
+    /// For other TCP sockets, number of bytes that have not been read; a FIN counts as one. For
+    /// UDP, raw and other MPTCP sockets, memory in use by the receive queue in bytes, which exceeds
+    /// the data.
     pub recv_queue: u32,
-    /// Limit of pending connections (backlog) of a listening TCP socket (`idiag_wqueue`, at 60).
-    /// For other TCP sockets, number of bytes that are not yet acknowledged; a SYN and a FIN count
-    /// as one each. For UDP and raw sockets, memory in use by packets that are being sent, in
-    /// bytes.
+    /// Limit of pending connections (backlog) of a listening TCP or MPTCP socket (`idiag_wqueue`,
+    /// at 60). For other TCP sockets, number of bytes that are not yet acknowledged; a SYN and a
+    /// FIN count as one each. For UDP, raw and other MPTCP sockets, memory in use by packets that
+    /// are being sent, in bytes.
     pub send_queue: u32,
     /// User id of the owner (`idiag_uid`, at 64).
     pub uid: u32,

@@ -38,8 +38,8 @@ pub extern "C" fn sockdiag_is_interrupted(message: &MessageRange) -> u32
 }
 
 /// Returns 1 if the message is an `NLMSG_DONE` or an `NLMSG_ERROR`, else 0. After such a message no
-/// more messages of the answer follow. `sockdiag_get_error_number` returns whether it reports
-/// success. An `NLMSG_OVERRUN` does not end the answer, but data was lost.
+/// more messages of the answer follow. The number that `sockdiag_get_error_number` stores is 0 if
+/// it reports success. An `NLMSG_OVERRUN` does not end the answer, but data was lost.
 #[unsafe(no_mangle)]
 pub extern "C" fn sockdiag_ends_answer(message: &MessageRange) -> u32
     ensures { IsOneIf ((message.now.message_type ≡ NLMSG_DONE)

@@ -57,8 +57,8 @@ pub struct MessageRange {
     pub message_type: u16,
     /// The flags `NLM_F_..` (`nlmsg_flags`). `sockdiag_is_interrupted` tests `NLM_F_DUMP_INTR`.
     pub flags: u16,
-    /// Sequence number (`nlmsg_seq`); an answer repeats the number of its request. No call compares
-    /// it: see `sockdiag_is_answer`.
+    /// Sequence number (`nlmsg_seq`); an answer repeats the number of its request. Only
+    /// `sockdiag_is_answer` compares it.
     pub sequence_number: u32,
     /// Port id (`nlmsg_pid`); an answer of the kernel has the port id of the socket that sent the
     /// request.

@@ -18,7 +18,8 @@ use std::{env, str};
 /// Exit status if the command line is rejected.
 const USAGE_ERROR: u8 = 2;
 
-/// Greatest length in bytes of an argument that Linux passes to a program (`MAX_ARG_STRLEN`).
+/// Greatest length in bytes, with its NUL, of an argument that Linux passes to a program, if a page
+/// has 4 KiB (`MAX_ARG_STRLEN`).
 const LONGEST_ARGUMENT: usize = 131_072;
 
 /// Text after the error about a file that cannot be opened, if its name may be a filter of ss(8).
@@ -66,7 +67,8 @@ fn answer(rt: &HostRuntime, arguments: &[String]) -> ExitCode {
     }
 }
 
-/// Returns the filter in the arguments. If there is none, reports why, and returns the status.
+/// Returns the filter in the arguments, which may be empty. If it is rejected, or an allocation
+/// fails, reports why, and returns the status.
 fn filter_in(rt: &HostRuntime, arguments: &[String]) -> Result<ParsedFilter, ExitCode> {
     let Ok(text) = filter_text(rt.alloc(), arguments) else {
         return Err(out_of_memory(rt));

@@ -63,13 +63,13 @@ pub struct Options<'a> {
     pub inet6: bool,
     /// `-l`: list only sockets in the states `LISTEN` and `UNCONN`.
     pub listening: bool,
-    /// `-H`: write neither the heading nor a caption.
+    /// `-H`: write neither the heading, nor a caption, nor the lines between two lists.
     pub no_heading: bool,
     /// `--utf8`: show letters of names that are valid UTF-8.
     pub utf8: bool,
     /// `--requests`: write a line with the time of each request.
     pub requests: bool,
-    /// `--json`: write a JSON object for each socket, and neither a heading nor a caption.
+    /// `--json`: write a JSON object for each socket, and no other line.
     pub json: bool,
     /// The filter that selects the sockets, if there is one. [`Options::with_filter`] sets it.
     pub filter: Option<&'a ParsedFilter>,

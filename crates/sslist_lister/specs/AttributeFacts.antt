@@ -230,8 +230,8 @@ any_facts utf8 sockets (any.statistics counters) = xdp_statistics_facts counters
 any_facts utf8 sockets (any.unknown a) = no_facts
 
 -- the status of an attribute that says this (`Status` of `src/facts.rt`): true if it has facts,
--- false if its kind is unknown, or the error of its value. An upper layer protocol needs a valid
--- name.
+-- false if its kind is unknown or INET_DIAG_SK_BPF_STORAGES, or the error of its value. An upper
+-- layer protocol needs a valid name.
 abbrev pub value_status : AnyValue → Result Bool DecodeError
 value_status (any.ulp bytes) = map_ok (λ name. true) (ulp_name bytes)
 value_status (any.bpf_storages bytes) = Ok false

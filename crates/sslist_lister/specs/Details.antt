@@ -1,5 +1,5 @@
--- Details of a socket: a text for each value that the columns do not show. Texts are lists of ASCII
--- codes: 44 is a comma and 41 a closing parenthesis.
+-- Details of a socket: a text for each value that the columns do not show. Texts are lists of
+-- bytes: 44 is a comma and 41 a closing parenthesis.
 use Rattle.std.specs.Prelude.{ℕ, ◌==◌, ◌||◌, if◌then◌else◌, List, [], ◌∷◌, ◌++◌, codes, decimal}
 use Rattle.std.specs.Prelude.{Bool, true, false, length, flat_map, Result, Ok}
 use Rattle.std.specs.Prelude.{Err, None, Option, Some}

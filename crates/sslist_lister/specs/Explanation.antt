@@ -79,7 +79,7 @@ text_and_offset_in bytes =
     ++ offset_text (nested_number (NLMSGERR_ATTR_OFFS, 4) bytes)
 
 -- `unknown_request t`: the text about the request that a message with the type `t` answers, if the
--- message does not contain it, or contains one for sockets of an unknown family. Nothing if it is
+-- message does not contain it, or if it is not known what it asks for. Nothing if the message is
 -- neither an NLMSG_ERROR nor an NLMSG_DONE.
 abbrev pub unknown_request : ℕ → List ℕ
 unknown_request t =

@@ -1,4 +1,4 @@
--- Facts of a reply, and what they are shown as. Texts are lists of ASCII codes: 41 is a closing
+-- Facts of a reply, and what they are shown as. Texts are lists of bytes: 41 is a closing
 -- parenthesis and 44 a comma.
 use Rattle.std.specs.Prelude.{◌≡◌, ℕ, ◌==◌, ◌/◌, ◌%◌, ◌||◌, if◌then◌else◌, Bool, List, [], ◌∷◌}
 use Rattle.std.specs.Prelude.{◌++◌, bit_and, codes, decimal, false, flat_map}
@@ -23,7 +23,7 @@ use Rattle.sslist_lister.specs.declared.facts.Shown.TheVariants.{NonzeroExcept, 
 use Rattle.sslist_lister.specs.declared.facts.Shown.TheVariants.{Version}
 
 -- `Facts`: their text in the table, and their members in JSON. A definition says once which facts a
--- reply has, so the table and JSON show the same ones, in the same order.
+-- reply has. Some have no text in the table (`Never`), and some no member in JSON (None).
 pub record Facts : Type 0 where
   pub text : List ℕ
   pub members : List JsonMember
@@ -164,7 +164,7 @@ name_facts name = record { text = []; members = object_member (codes "name") (na
 
 -- ---- sinks
 
--- What a sink (`src/facts.rt`) shows: a list of items, ASCII codes in the table and tokens in JSON.
+-- What a sink (`src/facts.rt`) shows: a list of items, bytes in the table and tokens in JSON.
 -- `items facts` are the items of facts.
 pub record SinkContent {Item : Type 0} (items : Facts → List Item) : Type 0 where
   -- the items that were appended so far

@@ -33,8 +33,8 @@ inet_front_members timer h =
     (codes "sport", h.socket_id.source_port) ∷ (codes "dport", h.socket_id.destination_port) ∷ [])
 
 -- `inet_back_members timer h`: the members of the header of an IPv4 or IPv6 socket that follow the
--- cookie: `idiag_expires` in milliseconds, `idiag_rqueue` and `idiag_wqueue` in bytes, `idiag_uid`
--- and `idiag_inode`
+-- cookie: `idiag_expires` in milliseconds, `idiag_rqueue` and `idiag_wqueue` in bytes (of a
+-- listening TCP or MPTCP socket numbers of connections), `idiag_uid` and `idiag_inode`
 abbrev pub inet_back_members : RawTimer → InetResponseHeader → List JsonMember
 inet_back_members timer h =
     number_members ((codes "expires", timer.expires) ∷ (codes "rqueue", h.recv_queue) ∷

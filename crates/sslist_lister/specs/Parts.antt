@@ -29,8 +29,8 @@ directions state =
     32 ∷ (if bit_and state RCV_SHUTDOWN == 0 then 60 else 45) ∷ 45
     ∷ (if bit_and state SEND_SHUTDOWN == 0 then 62 else 45) ∷ []
 
--- the name of a kind of timer (`idiag_timer`, sock_diag(7)), as ss(8) prints it; 5 is the timer of
--- a delayed acknowledgement (IDIAG_TIMER_DELACK) of Linux 7.2 and later
+-- the name of a kind of timer (`idiag_timer`, sock_diag(7)), as ss(8) prints 1 to 4; 5 is the timer
+-- of a delayed acknowledgement (IDIAG_TIMER_DELACK) of Linux 7.2 and later
 abbrev pub timer_name : ℕ → List ℕ
 timer_name kind =
     if kind == 1 then codes "on" else if kind == 2 then codes "keepalive"

@@ -19,6 +19,7 @@ use Rattle.sock_diag_families.specs.declared.xdp.TheConstants.{AF_XDP}
 use Rattle.sslist_command_line.specs.declared.options.Family.{Family}
 use Rattle.sslist_command_line.specs.declared.options.Family.TheVariants.{Netlink, Packet}
 use Rattle.sslist_command_line.specs.declared.options.Family.TheVariants.{Vsock, Xdp}
+use Rattle.sslist_lister.specs.declared.requests.TheConstants.{MAX_OLDER_REQUESTS}
 use Rattle.sslist_lister.specs.declared.requests.Query.{Query}
 use Rattle.sslist_lister.specs.declared.requests.Requested.{Requested}
 use Rattle.sslist_lister.specs.declared.requests.Requested.TheVariants as requests
@@ -45,7 +46,8 @@ query_of request = record {
   states = little_number 4 (drop 4 request.payload);
 }
 
--- a request of this type is about sockets: it lists or closes them
+-- A request of this type lists or closes the sockets of a family. False for the older types
+-- TCPDIAG_GETSOCK and DCCPDIAG_GETSOCK, whose struct is not decoded.
 abbrev pub is_about_sockets : ℕ → Bool
 is_about_sockets message_type =
     (message_type == c.SOCK_DIAG_BY_FAMILY) || (message_type == c.SOCK_DESTROY)
@@ -78,10 +80,10 @@ requested request =
     then requests.Unknown else requested_of_family (slice_index request.payload 0) request
 
 -- `with_newest sockets asked`: the requests after one more, which asks for these sockets. If they
--- are IPv4 or IPv6 sockets, the request becomes the first one, and at most 15 of the older ones in
--- `asked` follow, so that at most 16 are kept. Other requests are not added.
+-- are IPv4 or IPv6 sockets, the request becomes the first one, and at most MAX_OLDER_REQUESTS of
+-- the older ones in `asked` follow. Other requests are not added.
 abbrev pub with_newest : Requested → List Query → List Query
-with_newest (requests.Inet newest) asked = newest ∷ take 15 asked
+with_newest (requests.Inet newest) asked = newest ∷ take MAX_OLDER_REQUESTS asked
 with_newest sockets asked = asked
 
 -- `with_query request asked`: the requests for IPv4 and IPv6 sockets after one more request. A

@@ -113,13 +113,13 @@ unix_first_columns h queues uid = record {
 -- `unix_columns o h s`: the columns of a UNIX socket, whose header is `h`: the first columns, the
 -- cell of the name, and the peer. The name is in the attribute UNIX_DIAG_NAME, the inode of the
 -- peer in UNIX_DIAG_PEER, the lengths of the queues in UNIX_DIAG_RQLEN, and the user id in
--- UNIX_DIAG_UID. The width of the cell, 30, is measured by `name_column`.
+-- UNIX_DIAG_UID. `name_column` measures the width of the cell.
 abbrev pub unix_columns : Options → UnixResponseHeader → Summary → List ℕ
 unix_columns o h s =
     first_columns (unix_first_columns h
     (option_and_then queue_lengths_of (value_in UNIX_DIAG_RQLEN s))
     (option_and_then owner_of (value_in UNIX_DIAG_UID s)))
-    ++ name_column o.utf8 30
+    ++ name_column o.utf8 LOCAL_WIDTH
     (name_cell o.utf8 (option_and_then socket_name_of (value_in UNIX_DIAG_NAME s)))
     ++ number_or_star (option_and_then peer_of (value_in UNIX_DIAG_PEER s))
 

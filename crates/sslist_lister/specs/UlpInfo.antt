@@ -1,7 +1,8 @@
 -- The upper layer protocol of a TCP socket, INET_DIAG_ULP_INFO. The value of the attribute consists
 -- of attributes, which may consist of attributes again. Of each type the first one counts. Names in
--- JSON are the kernel's names without the prefixes `INET_ULP_INFO_`, `TLS_INFO_` and
--- `MPTCP_SUBFLOW_ATTR_`; the texts are those of ss(8), but for the version of TLS and the tokens.
+-- JSON are the kernel's names in lowercase, without the prefixes `INET_ULP_INFO_`, `TLS_INFO_` and
+-- `MPTCP_SUBFLOW_ATTR_`; the texts are those of ss(8), but for those of TLS, which in ss(8) have a
+-- space after each colon, and the tokens.
 use Rattle.std.specs.Prelude.{ℕ, ◌==◌, if◌then◌else◌, Bool, List, codes, is_some, length}
 use Rattle.std.specs.Prelude.{Option, None, Some, Result, Ok, Err, false, option_and_then}
 use Rattle.std.specs.Prelude.{option_map}

@@ -1,3 +1,3 @@
--- Definitions that only the contracts of private functions need.
+-- Definitions that only proofs and the contracts of private functions need.
 pub mod Sentence
 pub mod JsonNames

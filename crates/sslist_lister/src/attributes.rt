@@ -41,9 +41,9 @@ use sock_diag_values::inet::{LegacyMemInfo, MemInfo};
 use std::alloc::{AllocError, Global};
 
 /// Shows the facts of an attribute that says this, in a reply about these sockets. Shows nothing if
-/// its kind is unknown. Only JSON has the name of a UNIX socket, its peer, its queues and its owner
-/// here, since the table has columns for them. The table shows names with letters that are not
-/// ASCII if `utf8` is set. JSON allocates temporary strings by `alloc`.
+/// its kind is unknown or `INET_DIAG_SK_BPF_STORAGES`. Only JSON has the name of a UNIX socket, its
+/// peer, its queues and its owner here, since the table has columns for them. The table shows names
+/// with letters that are not ASCII if `utf8` is set. JSON allocates temporary strings by `alloc`.
 pub(crate) fn show_any<S: FactSink>(
     sink: &mut S,
     alloc: Global,

@@ -39,8 +39,8 @@ pub(crate) fn push_explanation(text: &mut Vec<u8>, message: &Message<'_>) -> Res
 }
 
 /// Returns the text about the request that a message of this type answers, if the message does not
-/// contain the request, or one for sockets of an unknown family. It is empty if messages of this
-/// type answer no request.
+/// contain the request, or if it is not known what it asks for. It is empty if the type is neither
+/// `NLMSG_ERROR` nor `NLMSG_DONE`.
 fn unknown_request(message_type: u16) -> &'static [u8]
     ensures { result.now ≡ unknown_request message_type }
 {

@@ -1,6 +1,6 @@
-//! The facts of a reply. A fact has a row: how the table shows it, and its name in JSON. Both show
-//! the same facts, in the same order. A function of this module appends to a sink. If it fails, an
-//! allocation failed, and the content of the sink is not specified.
+//! The facts of a reply. A fact has a row: how the table shows it, and its name in JSON. Some are
+//! only in one of them. A function of this module appends to a sink. If it fails, an allocation
+//! failed, and the content of the sink is not specified.
 //!
 //! In the contracts, `AddsFacts old new facts` states that the sink shows these facts after what it
 //! showed before, and `AddsItems` states it of items. `S.content sink.old` and `S.content sink.new`
@@ -57,7 +57,7 @@ pub(crate) enum Shown {
     Bits(u64),
     /// A text, bits 0 to 3 in decimal, a comma, the bits above, and a closing parenthesis.
     Halves,
-    /// A text, and `<->` with a `-` in place of each direction that is shut down, as ss(8) has it.
+    /// A text, a space, and `<->` with `-` for each direction that is shut down, as ss(8) has it.
     Directions,
     /// A text, and a version of TLS.
     Version,
@@ -73,7 +73,7 @@ pub(crate) enum Shown {
 
 /// What facts are shown in: the text of the table, or a line of JSON.
 pub(crate) trait FactSink {
-    // The type of the items that the sink shows: ASCII codes in the table, tokens in JSON.
+    // The type of the items that the sink shows: bytes in the table, tokens in JSON.
     ghost Item: { Type 0 };
 
     // The items by which the sink shows facts.
@@ -359,8 +359,8 @@ impl FactSink for Writer {
     ghost items_of_group = { λ opening closing member facts. group_tokens member facts.members };
 }
 
-/// The status of an attribute: `Ok(true)` if it has facts, `Ok(false)` if its type is unknown, or
-/// the error of its value.
+/// The status of an attribute: `Ok(true)` if it has facts, `Ok(false)` if its type is unknown or
+/// `INET_DIAG_SK_BPF_STORAGES`, or the error of its value.
 pub(crate) type Status = Result<bool, DecodeError>;
 
 /// A number of a record: how the table shows it, its text there, its name in JSON, and the number,

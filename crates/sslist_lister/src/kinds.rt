@@ -25,8 +25,9 @@ pub(crate) fn name_of_unix_kind(kind: u8) -> &'static str
     }
 }
 
-/// Returns the name of the protocol of an IPv4 or IPv6 socket, as ss(8) prints it. Returns the name
-/// of the family if the protocol is not known (`None`) or has no name here.
+/// Returns the name of the protocol of an IPv4 or IPv6 socket, as ss(8) prints it, which does not
+/// list UDP-Lite. Returns the name of the family if the protocol is not known (`None`) or has no
+/// name here.
 pub(crate) fn name_of_inet_kind(protocol: Option<u32>, family: u8) -> &'static str
     ensures { result.now ≡ inet_kind protocol family }
 {

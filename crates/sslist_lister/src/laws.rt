@@ -6,10 +6,11 @@ ghost use Rattle.sock_diag_extras.specs.TcpFields.{tcp_span_of};
 ghost use Rattle.sslist_lister.specs.TcpRows.{spans_of_rows, tcp_number_fields, tcp_rows};
 ghost use Rattle.sslist_lister.specs.declared.tcp.TheConstants.{MPTCP_ROWS};
 
-/// States that the rows of each struct are about all of its fields, except `tcpi_options2`, in
-/// order, at their offsets and with their widths.
+/// States that the rows of each struct are about all of its numbers, in order, at their offsets and
+/// with their widths. A byte of bit fields counts as one number: which of its bits the rows are
+/// about is not stated. Of the last number of `struct tcp_info` only the first byte counts.
 pub fn rows_are_fields()
-    // The last rows of `struct tcp_info` are about the byte at 276, which has its first bit fields.
+    // The last rows of `struct tcp_info` are about the byte at 276, before `tcpi_options2`.
     ensures tcp { spans_of_rows tcp_rows ≡ map tcp_span_of tcp_number_fields ++ (276, 1) ∷ [] }
     ensures mptcp { spans_of_rows MPTCP_ROWS ≡ map mptcp_span_of mptcp_fields }
 {}

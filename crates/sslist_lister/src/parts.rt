@@ -65,8 +65,8 @@ fn push_timer(text: &mut Vec<u8>, timer: &RawTimer) -> Result<(), AllocError>
     Ok(text.push(b')')?)
 }
 
-/// Returns the name of a kind of timer (`idiag_timer`, sock_diag(7)), as ss(8) prints it. 5 is the
-/// timer of a delayed acknowledgement (`IDIAG_TIMER_DELACK`) of Linux 7.2 and later.
+/// Returns the name of a kind of timer (`idiag_timer`, sock_diag(7)), as ss(8) prints 1 to 4. 5 is
+/// the timer of a delayed acknowledgement (`IDIAG_TIMER_DELACK`) of Linux 7.2 and later.
 fn name_of_timer(kind: u8) -> &'static [u8]
     ensures { result.now ≡ timer_name kind }
 {

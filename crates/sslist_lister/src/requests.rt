@@ -28,8 +28,8 @@ use sock_diag_records::unix::UNIX_REQUEST_LEN;
 use sslist_command_line::Family;
 use std::alloc::{AllocError, Global};
 
-/// Number of older requests that are kept when a new one is added: at most 16 are kept.
-const MAX_OLDER_REQUESTS: usize = 15;
+/// Number of older requests that are kept when a new one is added: with it at most 16 are kept.
+pub(crate) const MAX_OLDER_REQUESTS: usize = 15;
 
 /// A request for IPv4 or IPv6 sockets.
 #[derive(Clone, Copy, Debug, PartialEq, Eq)]
@@ -96,8 +96,9 @@ impl Requests {
         }
     }
 
-    /// Adds a request to `asked` if it is to list IPv4 or IPv6 sockets. Then at most 15 older
-    /// requests are kept. If it fails, an allocation failed, and `asked` is not specified.
+    /// Adds a request to `asked` if it is to list IPv4 or IPv6 sockets. Then at most
+    /// [`MAX_OLDER_REQUESTS`] older ones are kept. If it fails, an allocation failed, and `asked`
+    /// is not specified.
     fn add_query(&mut self, request: &Message<'_>) -> Result<(), AllocError>
         ensures queries { OnOk result (self.new.asked.items
             ≡ with_query (message_parts request.now) self.old.asked.items) }
@@ -192,7 +193,8 @@ fn family_numbered(number: u8) -> Option<Family>
     }
 }
 
-/// Returns whether a request of this type is about sockets: it lists or closes them.
+/// Returns whether a request of this type lists or closes the sockets of a family. Returns false
+/// for the older types `TCPDIAG_GETSOCK` and `DCCPDIAG_GETSOCK`, whose struct is not decoded.
 fn is_about_sockets(message_type: u16) -> bool
     ensures { result ≡ is_about_sockets message_type }
 {

@@ -46,8 +46,8 @@ is_visible_category category =
     || in_group Symbol category
 
 -- The bidirectional classes of characters that `--utf8` shows. They are written from left to right,
--- or take the direction of their neighbors. The others are written from right to left, or control
--- the direction.
+-- or take the direction of their neighbors. The others are those of letters written from right to
+-- left, of Arabic numbers, marks and spaces, and of characters that control the direction.
 abbrev pub is_left_to_right : BidiClass → Bool
 is_left_to_right bidi_class_variants.LeftToRight = true
 is_left_to_right bidi_class_variants.EuropeanNumber = true

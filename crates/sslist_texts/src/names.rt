@@ -26,7 +26,8 @@ const HIEROGLYPH_HALF_BLANK: char = '\u{13442}';
 
 /// Appends a name so that it cannot break a line or a column. A byte from `!` to `~` except the
 /// backslash is appended unchanged, any other byte as `\x` and two digits. If `utf8` is set and the
-/// bytes are valid UTF-8, visible characters that are not ASCII are appended unchanged too.
+/// bytes are valid UTF-8, visible characters that are not ASCII are appended unchanged too, unless
+/// they are written from right to left.
 pub fn push_shown(text: &mut Vec<u8>, utf8: bool, bytes: &[u8]) -> Result<(), AllocError>
     ensures shown { OnOk result (text.new.items ≡ text.old.items ++ shown_name utf8 bytes.now) }
     // `later`: any text that follows. `unescaped_bytes` reads the bytes back from what is shown, so

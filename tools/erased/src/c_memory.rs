@@ -1,5 +1,6 @@
 //! References to what C passes. Each function requires what include/sockdiag.h requires of its
-//! caller: valid pointers, to memory that nothing else reads or writes during the call.
+//! caller: valid pointers, to memory that nothing else writes during the call, nor reads if the
+//! call writes it.
 #![allow(unsafe_code, clippy::missing_safety_doc)]
 
 use core::arch::asm;

@@ -60,7 +60,7 @@
 //! | [`Nla::emit_value`], [`emit_nla`], [`emit_nlas`] | the buffer has at least as many bytes as are written | [`Nla::value_len`], [`nla_len`], [`nlas_len`] | panics |
 //! | [`emit_u32`] | the buffer has at least 4 bytes | `len` of the buffer | panics |
 //! | [`padded`] | the length is below 2<sup>32</sup> | | returns the right length up to `usize::MAX - 3`; above it an overflow |
-//! | [`NlaBuffer::new`], [`NlasIterator::next_accepted`] | the bytes begin with an attribute | [`NlaBuffer::new_checked`], `next` of [`NlasIterator`] | panics |
+//! | [`NlaBuffer::new`], [`NlasIterator::next_accepted`] | the bytes begin with an attribute; for `next_accepted` there may also be none | [`NlaBuffer::new_checked`], `next` of [`NlasIterator`] | panics |
 //! | [`unix::nlas::NameView::new`], [`unix::nlas::NlaView::new`], [`inet::nlas::NlaView::new`], [`FamilyView::read_accepted`], [`FamilyNla::own_accepted`] | the parser accepts the bytes or the attribute | `parse` of the same type; [`FamilyView::read_view`] | panics, or returns a value that the parser rejects |
 //! | [`same_views`], [`ReplyHeader::is_same`], [`ReplyHeader::len_with`], [`ReplyHeader::emit_with`] | the bytes have no decode error | [`ReplyHeader::check`]; `==`, `writable_len` and `emit` of a [`ReplyView`] | panics, or returns or writes a wrong value |
 //! | [`ReplyHeader::emit_with`] | the reply is writable, and the buffer has its length | [`ReplyHeader::check_len`] | as `emit` |
@@ -68,6 +68,7 @@
 //! | [`Record::write_fields`], [`extras::AttributeRecord::write_fields`] | the buffer has exactly the length of the record | [`Record::size`], [`extras::AttributeRecord::size`] | panics |
 //! | [`extras::write_attribute_record`] | the buffer is at least as long as the record | [`extras::AttributeRecord::size`] | panics |
 //! | [`extras::NestedNlas::number_of`] | the width is 1 to 8 | | 0 for a width of 0; panics above 8 if there is a value of this length |
+//! | [`any::RawTimer::parse`] | there are at least 72 bytes | [`any::AnyReply::timer`] | panics if there are fewer than 56, and else returns what they have |
 //! | the functions of [`fields`] | the bytes or the buffer have the length that the function names | `len` | panics |
 //! | [`SmallVec::push_reserved`] | there is capacity | [`SmallVec::push`] | panics |
 //!

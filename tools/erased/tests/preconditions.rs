@@ -2,6 +2,7 @@
 //! as the documentation of the crate says.
 #![cfg(feature = "alloc")]
 
+use sockdiag::any::RawTimer;
 use sockdiag::extras::{self, AttributeRecord, NestedNlas, VegasInfo};
 use sockdiag::fields::{
     array_at, u16s_be_at, u32s_at, u64s_at, write_bytes, write_u16s, write_u16s_be, write_u32s,
@@ -232,6 +233,7 @@ fn numbers_need_their_bytes() {
     assert!(nested.number_of(1, 9).is_err());
     assert_panics!(
         nested.number_of(2, 9),
+        RawTimer::parse(&[0; 55]),
         array_at::<4>(&[0; 4], 1),
         array_at::<4>(&[0; 4], usize::MAX),
         u32s_at::<2>(&[0; 8], 1),

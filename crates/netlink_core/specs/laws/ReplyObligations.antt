@@ -7,7 +7,7 @@ use Rattle.netlink_core.specs.AttributeSet.{AttributeSpec, AttributeSet}
 use Rattle.netlink_core.specs.Response.{ResponseSpec}
 
 -- `IsPrefixCodec C size`: in addition to the codec laws, for a record that other bytes follow:
--- values in range have `size` bytes, and round-trip also if bytes follow.
+-- values in range have `size` bytes, and those in normal form round-trip also if bytes follow.
 pub record IsPrefixCodec (C : ValueCodec (Unit {0})) (size : ℕ) : Type 0 where
   pub bytes_long : (v : C.Value) → C.is_in_range v → length (C.bytes v) ≡ size
   pub reads_as_prefix : (v : C.Value) (rest : List ℕ) → C.is_in_range v → C.is_normal tt v

@@ -84,8 +84,8 @@ impl LossyDump {
         self.dump.status.0
     }
 
-    /// Returns the error number that the end of the dump carries: 0 if the dump is complete, else
-    /// `-errno`. Returns `None` while the dump is read, and if its end carries no number. See
+    /// Returns the error number that the end of the dump carries: 0 if the kernel reports no error,
+    /// else `-errno`. Returns `None` while the dump is read, and if its end carries no number. See
     /// [`DumpReader::error_number`](crate::DumpReader::error_number).
     pub fn error_number(&self) -> Option<i32>
         ensures { result ≡ (lossy_progress self.now).error_number }

@@ -120,7 +120,7 @@ impl DumpReader {
     }
 
     /// Returns the error number that the end of the dump carries, as
-    /// [`netlink_core::error_number`] reads it: 0 if the dump is complete, else `-errno`
+    /// [`netlink_core::error_number`] reads it: 0 if the kernel reports no error, else `-errno`
     /// (errno(3)). Returns `None` while the dump is read, and if its end carries no number.
     pub fn error_number(&self) -> Option<i32>
         ensures { result ≡ (reader_progress self.now).error_number }

@@ -61,7 +61,7 @@ fn payload_writable_len(payload: &PayloadView<'_>) -> Option<usize>
 /// A borrowed message with its header: the bytes of a [`netlink_core::NetlinkMessage`], checked.
 #[derive(Debug, Drop)]
 pub struct MessageView<'a> {
-    /// The header. Its sequence number is the one of the request that is answered.
+    /// The header. In an answer, its sequence number is the one of the request.
     pub header: NetlinkHeader,
     /// The payload.
     pub payload: PayloadView<'a>,

@@ -42,13 +42,15 @@ const FAILURES: [u8; 40] = [
     0, 7, 0, 0, 0, 0, 0, 0, 0, 0, 0, 0, 0,
 ];
 
-// A message of rtnetlink(7) about eth0, an Ethernet device: name, an attribute of type 13, MTU.
+// The payload of a message of rtnetlink(7) about eth0, an Ethernet device: name, an attribute of
+// type 13, MTU.
 const ETH0: [u8; 44] = [
     0, 0, 1, 0, 2, 0, 0, 0, 0x43, 0x10, 1, 0, 0, 0, 0, 0, 9, 0, 3, 0, 0x65, 0x74, 0x68, 0x30, 0, 0,
     0, 0, 8, 0, 13, 0, 0xe8, 3, 0, 0, 8, 0, 4, 0, 0xdc, 5, 0, 0,
 ];
 
-// A request for all UNIX sockets with their names, with sequence number 7.
+// A request for established and listening UNIX sockets (states 0x402) with their names, with
+// sequence number 7.
 const REQUEST: [u8; 40] = [
     40, 0, 0, 0, 20, 0, 1, 3, 7, 0, 0, 0, 0, 0, 0, 0, 1, 0, 0, 0, 2, 4, 0, 0, 0, 0, 0, 0, 1, 0, 0,
     0, 0, 0, 0, 0, 0, 0, 0, 0,

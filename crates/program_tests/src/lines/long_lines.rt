@@ -142,8 +142,8 @@ fn answers_bytes_that_are_no_text(rt: HostRuntime) {
 /// Names of lines, each with the space that follows it.
 const LINE_NAMES: &str = "unixreq |inetreq |sockid4 |unix |inet |message |netlink |unixview |dump ";
 
-/// Checks that a line with a field of each size has an answer if there is memory: `ok` or an error.
-/// With two digits for each byte, the longest field has 1 MiB.
+/// Checks that a line with a field of each size has an answer if there is memory. With two digits
+/// for each byte, the longest field has 1 MiB.
 #[test]
 fn lines_of_each_size(rt: HostRuntime) {
     let alloc = rt.alloc();
@@ -224,8 +224,8 @@ fn payloads_of_each_size(rt: HostRuntime) {
 /// Sizes of names above 300, up to the longest.
 const NAME_SIZES: [usize; 7] = [512, 1_000, 1_024, 4_096, 10_000, 32_768, 65_530];
 
-/// Asserts that a reply with a pathname of `size` letters and its NUL is accepted: owned, borrowed
-/// and as a message.
+/// Asserts that a reply with a pathname of `size` letters and its NUL is accepted in lines `unix`,
+/// `unixview` and `message`.
 fn assert_name_accepted(rt: &impl Abort, alloc: Global, size: usize) {
     // The length field of the attribute, which counts its header and the NUL: the two low bytes in
     // little-endian order. The type is 0 (`UNIX_DIAG_NAME`).

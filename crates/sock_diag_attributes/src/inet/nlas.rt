@@ -52,7 +52,8 @@ pub enum InetNla<T, O> {
     SkV6Only(bool),
     /// Mark of the socket (`INET_DIAG_MARK`).
     Mark(u32),
-    /// Traffic control class of the packets of the socket (`INET_DIAG_CLASS_ID`).
+    /// Traffic class id (net_cls) of the socket's control group, or the priority of the socket,
+    /// `SO_PRIORITY` of socket(7), if that id is 0 (`INET_DIAG_CLASS_ID`).
     ClassId(u32),
     /// An attribute of another kind, raw, with its complete type field (`nla_type`).
     Other(O),
@@ -231,7 +232,8 @@ impl<'a> NlaView<'a> {
     }
 
     /// Returns the view that [`NlaView::parse`] returns. Requires that `parse` accepts the
-    /// attribute. No length is tested again.
+    /// attribute. Tested again are only the UTF-8 of a text, and the length of a [`MemInfo`], which
+    /// has a variable number of fields.
     #[inline(always)]
     pub fn new(nla: &NlaBuffer<'a>) -> NlaView<'a>
         requires { IsOk (decode_attribute inet_attribute_set (buffered_attribute nla.now)) }

@@ -37,12 +37,14 @@ pub enum UnixNla<N, L, O> {
     Name(N),
     /// File that the socket is bound to (`UNIX_DIAG_VFS`).
     Vfs(Vfs),
-    /// Inodes of the sockets that wait to be accepted (`UNIX_DIAG_ICONS`).
+    /// Inodes of the sockets that connected, one for each connection that waits to be accepted; 0
+    /// if that socket was closed (`UNIX_DIAG_ICONS`).
     PendingConnections(L),
     /// Lengths of the queues (`udiag_rqueue` and `udiag_wqueue` of `unix_diag_rqlen`,
     /// `UNIX_DIAG_RQLEN`). If the socket listens: the number of connections that wait to be
     /// accepted, and the limit on it. If it does not listen: the number of bytes that wait to be
-    /// read, and the memory in bytes of sent data that was not read yet.
+    /// read, of a datagram socket only those of the first datagram, and the memory in bytes of sent
+    /// data that was not read yet.
     ReceiveQueueLength(u32, u32),
     /// Socket memory (`UNIX_DIAG_MEMINFO`).
     MemInfo(MemInfo),

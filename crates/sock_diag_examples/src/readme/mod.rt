@@ -1,4 +1,4 @@
-//! The examples of the repository's README.
+//! Short examples about UNIX sockets. The repository's README has the contract of `path`.
 
 mod comparing;
 mod counting;

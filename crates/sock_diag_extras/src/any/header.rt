@@ -41,7 +41,7 @@ pub enum AnyHeader {
 #[derive(Clone, Copy, Debug, PartialEq, Eq)]
 pub struct RawTimer {
     /// What the timer is for (`idiag_timer`): 0 none, 1 retransmission, 2 keepalive, 3 TIME_WAIT, 4
-    /// zero window probe.
+    /// zero window probe, 5 delayed acknowledgement (since Linux 7.2).
     pub kind: u8,
     /// Number of retransmissions, or of probes for keepalive and zero window probes
     /// (`idiag_retrans`).

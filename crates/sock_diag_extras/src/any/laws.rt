@@ -45,9 +45,9 @@ pub fn copied_any_header(header: &AnyHeader) -> Result<AnyHeader, AllocError>
     header.clone()
 }
 
-/// A reply about a UNIX socket, or about an IPv4 or IPv6 socket whose protocol is not known, is
-/// accepted by the port if and only if no item is rejected, except attributes of kinds that the
-/// port leaves raw. Otherwise the port's error is that of the first other rejected item.
+/// The attributes of a reply about a UNIX socket, or about an IPv4 or IPv6 socket whose protocol is
+/// not known, are accepted by the port if and only if no item is rejected, except attributes of
+/// kinds that the port leaves raw. Otherwise its error is that of the first other rejected item.
 pub fn items_agree_with_the_port()
     ensures unix { AgreesWithPort unix_attribute_set Unix }
     ensures inet { AgreesWithPort inet_attribute_set (Inet Unknown) }

@@ -91,7 +91,8 @@ pub enum AnyNla<'a> {
     Vfs(Vfs),
     /// `UNIX_DIAG_PEER`: the inode of the peer of a UNIX socket.
     Peer(u32),
-    /// `UNIX_DIAG_ICONS`: the inodes of connections that wait to be accepted.
+    /// `UNIX_DIAG_ICONS`: the inodes of sockets that connected and were not accepted yet, 0 for one
+    /// that was closed since.
     PendingConnections(NumbersView<'a>),
     /// `UNIX_DIAG_RQLEN`: the lengths of the receive and of the send queue (`udiag_rqueue`,
     /// `udiag_wqueue`).
@@ -190,11 +191,13 @@ pub enum AnyNla<'a> {
 
 impl<'a> AnyNla<'a> {
     /// Decodes an attribute of a reply about these sockets. The port decides of the kinds that it
-    /// has, and its error is returned. Of the other kinds a number and an array of records need
-    /// their exact length, or else the error is `WrongLength` with the kind. A record may be
-    /// followed by more bytes. If there are too few, the error is `WrongLength` with the kind for
-    /// IPv4, IPv6 and UNIX sockets, and `BufferTooSmall` for the other families. The error of
-    /// nested attributes is the first one of their framing.
+    /// has, and its error is returned, except for `INET_DIAG_INFO` of a known format: that of TCP
+    /// and MPTCP may have any length, and that of SCTP is `Unknown`. Of the other kinds a number
+    /// needs its exact length, and an array of records a multiple of a record's length, or else the
+    /// error is `WrongLength` with the kind. A record may be followed by more bytes. If there are
+    /// too few, the error is `WrongLength` with the kind for IPv4, IPv6 and UNIX sockets, and
+    /// `BufferTooSmall` for the other families. The error of nested attributes is the first one of
+    /// their framing.
     #[inline(always)]
     pub fn read(sockets: Sockets, nla: &NlaBuffer<'a>) -> Result<AnyNla<'a>, DecodeError>
         ensures { map_ok any_model result ≡ read_any sockets (buffered_attribute nla.now) }

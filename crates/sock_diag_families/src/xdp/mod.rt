@@ -7,7 +7,7 @@ use crate::ShowRequest;
 pub use attributes::{XdpInfo, XdpStatistics, XdpUmem};
 pub use response::{XDP_RESPONSE_HEADER_LEN, XdpResponseHeader};
 
-/// The address family of XDP sockets, `AF_XDP` of `linux/socket.h`.
+/// The address family of XDP sockets, `AF_XDP` of `sys/socket.h`.
 pub const AF_XDP: u8 = 44;
 
 /// A request for XDP sockets: `struct xdp_diag_req`. `protocol` is 0. `show` has bits `XDP_SHOW_*`.

@@ -11,6 +11,6 @@ pub operation_codes : (c.INET_DIAG_BC_JMP ≡ 1) × (c.INET_DIAG_BC_S_GE ≡ 2)
 operation_codes =
     (refl, refl, refl, refl, refl, refl, refl, refl, refl, refl, refl, refl, refl)
 
--- the size of `struct inet_diag_bc_op`; `laws.rt` states the other lengths
+-- the size of `struct inet_diag_bc_op`; `laws.rt` states the public constants
 pub operation_header_length : c.OPERATION_HEADER_LEN ≡ 4
 operation_header_length = refl

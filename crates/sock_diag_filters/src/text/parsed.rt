@@ -64,7 +64,7 @@ pub enum FilterTextError {
     #[error("the filter is not complete")]
     Incomplete,
     /// With this word the filter has more than [`MAX_PARTS`] conditions, operators and open groups.
-    #[error("more than {MAX_PARTS} conditions and operators at byte {offset}")]
+    #[error("more than {MAX_PARTS} conditions, operators and groups at byte {offset}")]
     TooLong {
         /// The offset of the word in bytes.
         offset: usize,
@@ -85,7 +85,9 @@ pub struct ParsedFilter {
 impl ParsedFilter {
     /// Parses a filter in the words of ss(8), which ASCII white space separates:
     ///
-    /// - `state STATE` and `exclude STATE`, any number of them, and then an expression or nothing;
+    /// - `state STATE` and `exclude STATE`, any number of them, with the names that ss(8) has for
+    ///   states and groups of them, as `established` or `connected`, and then an expression or
+    ///   nothing;
     /// - conditions: `sport` and `dport` with a port, as `:443` or `443`; `src` and `dst` with an
     ///   address, which a slash and a number of bits, and a colon and a port may follow, as
     ///   `10.0.0.0/8:53`, `[::1]:53` or `*:53`; `dev` with the index of an interface; `fwmark` with
@@ -98,8 +100,10 @@ impl ParsedFilter {
     ///   as ss(8) parses them, though its manual page says otherwise. Two operands without an
     ///   operator are combined by `and`.
     ///
-    /// An IPv6 address without a number of bits is in brackets. Numbers are in decimal, or in
-    /// hexadecimal after `0x`. Names of hosts, services, interfaces and paths are not known.
+    /// An IPv6 address is in brackets, with its number of bits if it has one: `[fe80::/10]:53`.
+    /// With a number of bits the brackets may be left out. Numbers are in decimal, or in
+    /// hexadecimal after `0x`. Names of hosts, services, interfaces and control groups are not
+    /// known.
     ///
     /// Fails with the first error, see [`FilterTextError`].
     pub fn parse(text: &[u8]) -> Result<ParsedFilter, FilterTextError>
@@ -151,8 +155,9 @@ impl ParsedFilter {
     /// [`program_len`](Self::program_len), and then writes nothing. Without conditions the program
     /// is empty, and a request has no such attribute.
     ///
-    /// The program is that of `assemble`: it passes the kernel's audit, and selects the sockets
-    /// that meet the filter.
+    /// If [`parts`](Self::parts) are a filter, as after [`parse`](Self::parse), the program has the
+    /// properties of `assemble`'s: it passes the kernel's audit, and selects the sockets that meet
+    /// the filter.
     pub fn write_program(&self, buffer: &mut [u8]) -> Option<usize>
         ensures len { SomeIff result
             (sum_by part_size self.now.parts.items ≤ length buffer.old)

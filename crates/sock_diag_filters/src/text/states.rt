@@ -9,7 +9,8 @@ use sock_diag_records::constants::{
     TCP_LAST_ACK, TCP_LISTEN, TCP_SYN_RECV, TCP_SYN_SENT, TCP_TIME_WAIT,
 };
 
-/// The states by their names: those of the filter `state` of ss(8), and of its column State.
+/// The states by their names: those of the filter `state` of ss(8) (iproute2 6.1), and of its
+/// column State.
 pub(crate) const STATES: [(&str, u8); 17] = [
     ("established", TCP_ESTABLISHED),
     ("estab", TCP_ESTABLISHED),

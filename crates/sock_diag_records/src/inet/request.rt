@@ -29,7 +29,8 @@ pub const INET_DIAG_REQ_PROTOCOL: u16 = 3;
 pub const INET_REQUEST_LEN: usize = 56;
 
 /// A request for IPv4 or IPv6 sockets: `struct inet_diag_req_v2` (sock_diag(7)), 56 bytes. The byte
-/// at offset 3 (`pad`) is ignored, and serialized as 0.
+/// at offset 3 (`pad`) is ignored, and serialized as 0. In a request for raw sockets the kernel
+/// reads it as their protocol (`sdiag_raw_protocol`).
 #[derive(Clone, Debug, Drop, PartialEq, Eq)]
 pub struct InetRequest {
     /// Address family (`sdiag_family`), `AF_INET` (2) or `AF_INET6` (10), at offset 0.

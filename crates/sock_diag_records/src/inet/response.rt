@@ -45,22 +45,27 @@ pub const INET_RESPONSE_HEADER_LEN: usize = 72;
 pub struct InetResponseHeader {
     /// Address family (`idiag_family`), `AF_INET` (2) or `AF_INET6` (10), at offset 0.
     pub family: u8,
-    /// TCP state (`idiag_state`), `TCP_ESTABLISHED` to `TCP_CLOSING`, at offset 1.
+    /// State (`idiag_state`), at offset 1: `TCP_ESTABLISHED` to `TCP_CLOSING`, also for UDP and raw
+    /// sockets. The state of an SCTP association is a number of SCTP.
     pub state: u8,
     /// Timer: `idiag_timer` at offset 2, `idiag_retrans` at offset 3, and `idiag_expires`,
-    /// little-endian, at offset 52. A timer byte other than 1, 2, 3 and 4 means no timer, and is
-    /// serialized as 0. A field that the timer does not have is ignored, and serialized as 0.
+    /// little-endian, at offset 52. A timer byte other than 1, 2, 3 and 4 is parsed as `None`, also
+    /// 5, a delayed acknowledgement since Linux 7.2. `None` is serialized as 0. A field that the
+    /// timer does not have is ignored, and serialized as 0.
     pub timer: Option<Timer>,
     /// Id of the socket (`id`), at offset 4. In a parsed header, the addresses are of the family's
     /// IP version.
     pub socket_id: SocketId,
-    /// For a listening TCP socket, the number of pending connections; else the bytes in the receive
-    /// queue that are not yet read (`idiag_rqueue`), little-endian, at offset 56.
+    /// For a listening TCP or MPTCP socket, the number of pending connections; for other TCP
+    /// sockets, the bytes that are not yet read; for UDP, raw and other MPTCP sockets, the memory
+    /// in use by the receive queue in bytes, which exceeds the data (`idiag_rqueue`),
+    /// little-endian, at offset 56.
     pub recv_queue: u32,
-    /// For a listening TCP socket, the backlog limit; else the bytes in the send queue
-    /// (`idiag_wqueue`), little-endian, at offset 60. For TCP these are the bytes that are not yet
-    /// acknowledged. sock_diag(7) describes the memory available for sending, which is not what the
-    /// kernel writes.
+    /// For a listening TCP or MPTCP socket, the backlog limit; for other TCP sockets, the bytes
+    /// that are not yet acknowledged; for UDP, raw and other MPTCP sockets, the memory in use by
+    /// packets that are being sent, in bytes (`idiag_wqueue`), little-endian, at offset 60.
+    /// sock_diag(7) describes the memory available for sending, which is not what the kernel
+    /// writes.
     pub send_queue: u32,
     /// User id of the socket's owner (`idiag_uid`), little-endian, at offset 64.
     pub uid: u32,

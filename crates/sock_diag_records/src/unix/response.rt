@@ -22,7 +22,7 @@ pub struct UnixResponseHeader {
     /// Socket type (`udiag_type`), `SOCK_*`, at offset 1.
     pub kind: u8,
     /// State (`udiag_state`), at offset 2: `TCP_ESTABLISHED` (1), `TCP_LISTEN` (10), or `TCP_CLOSE`
-    /// (7) for a socket that is neither connected nor listening.
+    /// (7), as of a socket that neither listens nor was ever connected.
     pub state: u8,
     /// Inode number of the socket (`udiag_ino`), little-endian, at offset 4.
     pub inode: u32,

@@ -50,8 +50,9 @@ impl UnixResponse {
         })
     }
 
-    /// Returns the inodes of the connections that wait to be accepted: the value of the first
-    /// `PendingConnections` (`UNIX_DIAG_ICONS`). Returns `None` if there is no such attribute.
+    /// Returns the inodes of the sockets that connected, one for each connection that waits to be
+    /// accepted, or 0 if that socket was closed: the value of the first `PendingConnections`
+    /// (`UNIX_DIAG_ICONS`). Returns `None` if there is no such attribute.
     pub fn pending_connections(&self) -> Option<&[u32]>
         ensures { option_copied result
             ≡ first_content_of (value_of_kind unix_attribute_set UNIX_DIAG_ICONS)
@@ -148,9 +149,10 @@ impl UnixResponse {
         }
     }
 
-    /// Returns the number of bytes that wait to be read: the first number of the first
-    /// `ReceiveQueueLength` (`udiag_rqueue` of `unix_diag_rqlen`). Returns `None` if the socket
-    /// listens (its state is `TCP_LISTEN`), or if there is no such attribute.
+    /// Returns the number of bytes that wait to be read, of a datagram socket only those of the
+    /// first datagram: the first number of the first `ReceiveQueueLength` (`udiag_rqueue` of
+    /// `unix_diag_rqlen`). Returns `None` if the socket listens (its state is `TCP_LISTEN`), or if
+    /// there is no such attribute.
     pub fn receive_queue_size(&self) -> Option<u32>
         ensures { result ≡ option_map udiag_rqueue
             (nonlistening_queue_of (response_model (λ h. h) unix_nla_model self.now)) }

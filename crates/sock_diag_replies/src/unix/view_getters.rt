@@ -54,8 +54,9 @@ impl<'a> UnixResponseView<'a> {
         })
     }
 
-    /// Returns the inodes of the connections that wait to be accepted: the value of the first
-    /// `PendingConnections` (`UNIX_DIAG_ICONS`). Returns `None` if there is no such attribute.
+    /// Returns the inodes of the sockets that connected, one for each connection that waits to be
+    /// accepted, or 0 if that socket was closed: the value of the first `PendingConnections`
+    /// (`UNIX_DIAG_ICONS`). Returns `None` if there is no such attribute.
     pub fn pending_connections(&self) -> Option<NumbersView<'a>>
         ensures { option_map numbers_view_model result
             ≡ first_content_of (value_of_kind unix_attribute_set UNIX_DIAG_ICONS)
@@ -155,9 +156,10 @@ impl<'a> UnixResponseView<'a> {
         }
     }
 
-    /// Returns the number of bytes that wait to be read: the first number of the first
-    /// `ReceiveQueueLength` (`udiag_rqueue` of `unix_diag_rqlen`). Returns `None` if the socket
-    /// listens (its state is `TCP_LISTEN`), or if there is no such attribute.
+    /// Returns the number of bytes that wait to be read, of a datagram socket only those of the
+    /// first datagram: the first number of the first `ReceiveQueueLength` (`udiag_rqueue` of
+    /// `unix_diag_rqlen`). Returns `None` if the socket listens (its state is `TCP_LISTEN`), or if
+    /// there is no such attribute.
     pub fn receive_queue_size(&self) -> Option<u32>
         ensures { result ≡ option_map udiag_rqueue
             (nonlistening_queue_of (unix_response_view_model self.now)) }

@@ -18,14 +18,15 @@ pub const LEGACY_MEM_INFO_LEN: usize = 16;
 /// Newer kernels also send [`MemInfo`](super::MemInfo).
 #[derive(Clone, Debug, Drop, PartialEq, Eq)]
 pub struct LegacyMemInfo {
-    /// Data in the receive queue in bytes (`idiag_rmem`), at offset 0.
+    /// Memory that the receive queue uses, in bytes (`idiag_rmem`), at offset 0. sock_diag(7) calls
+    /// it the data in the receive queue.
     pub receive_queue: u32,
     /// Memory that the send queue uses, in bytes (`idiag_wmem`), at offset 4. Linux sends the
     /// number of `SK_MEMINFO_WMEM_QUEUED`, which is `send_queue` of [`MemInfo`](super::MemInfo);
     /// sock_diag(7) calls it data that TCP has queued and not yet sent.
     pub bottom_send_queue: u32,
-    /// Memory that is reserved for later use, in bytes (`idiag_fmem`), at offset 8. Only TCP has
-    /// it.
+    /// Memory that is reserved for later use, in bytes (`idiag_fmem`), at offset 8. sock_diag(7)
+    /// says that only TCP has it; Linux also sends it for UDP.
     pub cache: u32,
     /// Memory of packets that were committed to the device queue, in bytes, at offset 12
     /// (`idiag_tmem`). Linux sends the number of `SK_MEMINFO_WMEM_ALLOC`, which is

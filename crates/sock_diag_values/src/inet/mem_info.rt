@@ -45,8 +45,8 @@ pub struct MemInfo {
     /// Memory that the socket has reserved and does not use yet, in bytes (`SK_MEMINFO_FWD_ALLOC`),
     /// at offset 16.
     pub cache: u32,
-    /// Memory that the send queue uses, in bytes (`SK_MEMINFO_WMEM_QUEUED`), at offset 20. It does
-    /// not include packets that were committed to the device queue.
+    /// Memory that the send queue uses, in bytes (`SK_MEMINFO_WMEM_QUEUED`), at offset 20. TCP
+    /// keeps a sent segment there until it is acknowledged.
     pub send_queue: u32,
     /// Memory of the socket's options in bytes (`SK_MEMINFO_OPTMEM`), at offset 24.
     pub options: u32,

@@ -6,6 +6,7 @@ use Rattle.sslist_lister.specs.declared.family_facts.TheConstants.{GROUP_BITS, M
 use Rattle.sslist_lister.specs.declared.line.TheConstants.{LOCAL_WIDTH, NO_INTERFACE}
 use Rattle.sslist_lister.specs.declared.list.TheConstants.{EINVAL, ENOENT}
 use Rattle.sslist_lister.specs.declared.others.TheConstants.{ANY, NETLINK_CONNECTED}
+use Rattle.sslist_lister.specs.declared.requests.TheConstants.{MAX_OLDER_REQUESTS}
 use Rattle.sslist_lister.specs.declared.sctp.TheConstants.{NO_TCP_STATE}
 use Rattle.sslist_lister.specs.declared.parts.TheConstants as parts
 
@@ -35,6 +36,10 @@ no_tcp_state = refl
 -- a slot for each kind up to the last one of linux/inet_diag.h
 pub number_of_kinds : KINDS ≡ INET_DIAG_SOCKOPT + 1
 number_of_kinds = refl
+
+-- with the newest request at most 16 are kept
+pub older_requests : MAX_OLDER_REQUESTS ≡ 15
+older_requests = refl
 
 -- the width of the column of the local address, by the heading of the table
 pub local_width : LOCAL_WIDTH ≡ 30

@@ -1,12 +1,12 @@
 //! Times in UTC as texts, as in the crate jiff.
 
-/// The number of nanoseconds since the start of 1970, from there to the end of 9999.
+/// The number of nanoseconds since the start of 1970, from there to July 2554.
 #[derive(Clone, Copy)]
 pub struct Timestamp(u64);
 
 impl Timestamp {
-    /// Returns the time that is this number of nanoseconds after the start of 1970. Fails if it is
-    /// earlier, or after the year 2554.
+    /// Returns the time that is this number of nanoseconds after the start of 1970. Fails if the
+    /// number is negative or does not fit 64 bits, as after July 2554.
     pub fn from_nanosecond(nanoseconds: i128) -> Result<Self, core::num::TryFromIntError> {
         u64::try_from(nanoseconds).map(Timestamp)
     }
