@@ -92,6 +92,8 @@ CHANGES = [
     ("Ipv[46]Addr ::", "from_octets|from_segments", "from"),
     ("", "IpAddr ::(?= parse_ascii )", "crate :: kit :: std :: net ::"),
     ("", "", "core ::(?= str :: from_utf8 )"),
+    ("", r"unsafe \{ str :: from_utf8_unchecked", "core :: str :: from_utf8"),
+    (r"\( text_bytes \( bytes \) \)", r"\}", r'\. unwrap_or \( "" \)'),
 ]
 # The changes of programs and tests: the runtime, and its allocator.
 CHANGES_OF_PROGRAMS = [

@@ -1,6 +1,6 @@
 -- Texts in bytes, and their terminating NUL.
 use Rattle.std.proofs.Common.{◌≡◌, ◌≢◌, ◌⊎◌, inl, inr, ℕ, zero, suc, ◌-◌, List, [], ◌∷◌, ◌++◌, Ok}
-use Rattle.std.proofs.Common.{Err, length, slice_index, refl, ap, arith}
+use Rattle.std.proofs.Common.{Err, IsOk, length, slice_index, refl, ap, arith}
 use Rattle.std.proofs.lemmas.List.{length-append, take_at}
 use Rattle.std.proofs.lemmas.Bool.Decides.{nat_tests}
 use Rattle.std.specs.Prelude.{IsUtf8}
@@ -62,6 +62,12 @@ pub invalid_utf8_is_no_text : (bytes : List ℕ) → ¬ (IsUtf8 (without_termina
     → parse_text bytes ≡ Err NotUtf8
 invalid_utf8_is_no_text bytes invalid =
     grind (arith, IsUtf8-from_is_utf8 (without_terminating_nul bytes))
+
+-- a text is valid UTF-8
+pub text_is_valid_utf8 : (bytes : List ℕ) → IsOk (parse_text bytes)
+    → IsUtf8 (without_terminating_nul bytes)
+text_is_valid_utf8 bytes is-text =
+    IsUtf8-from_is_utf8 (without_terminating_nul bytes) (grind arith)
 
 -- what `parse_str` returns
 pub ruleset utf8_text_rules = (valid_utf8_is_text, invalid_utf8_is_no_text)

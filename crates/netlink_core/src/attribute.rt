@@ -8,7 +8,7 @@
 //! bytes. `buffered_attribute buffer` is the type field and the value of an [`NlaBuffer`].
 
 ghost use Rattle.std.specs.Prelude.{◌≡◌, ◌+◌, ◌/◌, ◌≤◌, ◌<◌, ◌^◌, ◌↔◌, length, IsTrue, IsBitSet};
-ghost use Rattle.std.specs.Prelude.{MatchOption, MatchResult, IfSome, None, []};
+ghost use Rattle.std.specs.Prelude.{◌%◌, ⊤, MatchOption, MatchResult, IfSome, None, []};
 ghost use Rattle.byteorder.specs.Endian.{little_number};
 ghost use Rattle.netlink_core.specs.Attribute.{HasAttributePrefix, IsFramingError, padding_length};
 ghost use Rattle.netlink_core.specs.Attribute.{attribute_kind, attribute_bytes};
@@ -16,6 +16,7 @@ ghost use Rattle.netlink_core.specs.Attribute.{attribute_kind, attribute_bytes};
 use crate::codec::Input;
 use crate::error::DecodeError;
 use byteorder::{ByteOrder, LittleEndian};
+use std::alloc::AllocError;
 
 /// The size of an attribute's header, its length field and its type field, in bytes.
 pub const NLA_HEADER_SIZE: usize = 4;
@@ -159,12 +160,33 @@ impl Input for NlaBuffer<'_> {
 ///
 /// The iterator ends when no bytes are left. The padding after the last attribute may be missing,
 /// wholly or in part. An error is the last item.
-#[derive(Clone, Drop)]
+#[derive(Drop)]
 pub struct NlasIterator<'a> {
     bytes: &'a [u8],
     // The offset of the next attribute. If it is not below the number of bytes, no attribute is
     // left.
     at: usize,
+    // The offset of the last byte of its header.
+    header_last: usize,
+    ghost aligned: { at % 4 ≡ 0 },
+    ghost header: { header_last ≡ at + 3 },
+}
+
+impl Clone for NlasIterator<'_> {
+    ghost use Rattle.netlink_core.specs.Walk.{unread_bytes};
+
+    // A clone has the same bytes left.
+    ghost is_clone = { λ walk copy. unread_bytes copy ≡ unread_bytes walk };
+
+    ghost is_infallible = { λ _. ⊤ };
+
+    fn clone(&self) -> Result<Self, AllocError> {
+        Ok(NlasIterator {
+            bytes: self.bytes,
+            at: self.at,
+            header_last: self.header_last,
+        })
+    }
 }
 
 impl<'a> NlasIterator<'a> {
@@ -175,7 +197,31 @@ impl<'a> NlasIterator<'a> {
     pub fn new(bytes: &'a [u8]) -> NlasIterator<'a>
         ensures { unread_bytes result ≡ bytes.entry.now }
     {
-        NlasIterator { bytes, at: 0 }
+        NlasIterator {
+            bytes,
+            at: 0,
+            header_last: NLA_HEADER_SIZE - 1,
+        }
+    }
+
+    // Continues after the next attribute, whose length field is `nla_len`, and after its padding.
+    // A walk over small attributes takes as long as the chain from one offset to the next. By the
+    // offset of the last byte of the header, two operations follow the load of the length, and not
+    // three.
+    #[inline(always)]
+    fn skip(&mut self, nla_len: u16)
+        requires { self.old.at < length self.old.bytes.now }
+        ensures bytes { self.new.bytes ≡ self.old.bytes }
+        ensures at { self.new.at ≡ self.old.at + nla_len + padding_length nla_len }
+    {
+        // The sum does not wrap: the offset is at most `isize::MAX`, as that of each slice.
+        let end = self.header_last.wrapping_add(usize::from(nla_len));
+        let at = end / 4 * 4;
+        *self = NlasIterator {
+            bytes: self.bytes,
+            at,
+            header_last: at + 3,
+        };
     }
 
     /// Returns the attribute at the start of the bytes that are left, and continues after its
@@ -196,9 +242,7 @@ impl<'a> NlasIterator<'a> {
             return None;
         }
         let nla = NlaBuffer::new(&self.bytes[self.at..]);
-        let length = nla.length() as usize;
-        // The sum does not wrap: the offset is at most `isize::MAX`, as that of each slice.
-        self.at = self.at.wrapping_add(padded(length));
+        self.skip(nla.length());
         Some(nla)
     }
 }
@@ -227,17 +271,16 @@ impl<'a> Iterator for NlasIterator<'a> {
                 return None;
             }
             let left = len - self.at;
-            self.at = len;
+            *self = NlasIterator::new(&[]);
             return Some(Err(DecodeError::AttributeHeaderCut { left }));
         }
         match NlaBuffer::after_header(&self.bytes[self.at..]) {
             Ok(nla) => {
-                // The sum does not wrap: the offset is at most `isize::MAX`, as that of each slice.
-                self.at = self.at.wrapping_add(padded(nla.length() as usize));
+                self.skip(nla.length());
                 Some(Ok(nla))
             }
             Err(error) => {
-                self.at = len;
+                *self = NlasIterator::new(&[]);
                 Some(Err(error))
             }
         }

@@ -1,6 +1,5 @@
-//! Values of attributes that are known to be accepted: they are read without another test, except a
-//! text, whose UTF-8 is tested again. The parameter `KIND` is the kind of the attribute, which only
-//! the contracts use.
+//! Values of attributes that are known to be accepted: they are read without another test. The
+//! parameter `KIND` is the kind of the attribute, which only the contracts use.
 
 ghost use Rattle.std.specs.Prelude.{◌≡◌, Ok, IsOk, Some};
 ghost use Rattle.netlink_core.specs.Layout.{parse_record};
@@ -8,7 +7,7 @@ ghost use Rattle.netlink_core.specs.Parse.{number_of_width, parse_text};
 ghost use Rattle.sock_diag_attributes.specs.Numbers.{parse_number_pair};
 
 use byteorder::{ByteOrder, LittleEndian};
-use netlink_core::{Record, parse_str};
+use netlink_core::{Record, text_bytes};
 
 /// Returns the number in one byte. Requires that the value has exactly one byte.
 #[inline(always)]
@@ -58,16 +57,12 @@ pub(crate) fn accepted_record<T: Record<Param = ()>>(bytes: &[u8]) -> T
 
 /// Returns the text in the bytes, without one terminating NUL if there is one. Requires that the
 /// text is valid UTF-8.
-// UTF-8 is tested again, since only the test makes a `str` of bytes. In the impossible case the
-// text is empty, and not `unreachable!`: so the compiler can remove the test if the text is not
-// used.
 #[inline(always)]
+#[tactic(auto, using(netlink_core::proofs::Texts::text_is_valid_utf8))]
 pub(crate) fn accepted_str(bytes: &[u8]) -> &str
     requires { IsOk (parse_text bytes.now) }
     ensures { parse_text bytes.entry.now ≡ Ok result.now }
 {
-    match parse_str(bytes) {
-        Ok(text) => text,
-        Err(_) => "",
-    }
+    // It is proved that the text is valid UTF-8.
+    unsafe { str::from_utf8_unchecked(text_bytes(bytes)) }
 }

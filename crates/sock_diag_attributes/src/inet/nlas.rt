@@ -232,8 +232,8 @@ impl<'a> NlaView<'a> {
     }
 
     /// Returns the view that [`NlaView::parse`] returns. Requires that `parse` accepts the
-    /// attribute. Tested again are only the UTF-8 of a text, and the length of a [`MemInfo`], which
-    /// has a variable number of fields.
+    /// attribute. Tested again is only the length of a [`MemInfo`], which has a variable number of
+    /// fields.
     #[inline(always)]
     pub fn new(nla: &NlaBuffer<'a>) -> NlaView<'a>
         requires { IsOk (decode_attribute inet_attribute_set (buffered_attribute nla.now)) }

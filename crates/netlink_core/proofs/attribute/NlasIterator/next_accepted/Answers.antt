@@ -11,6 +11,6 @@ returns c =
       take_rest,
       drop-drop,
       c.new-nla.ensures,
-      c.padded.ensures,
-      c.length-length.ensures,
+      c.skip.ensures,
+      c.length.ensures,
     )
