@@ -566,9 +566,10 @@ static int parse_filter(const char *text, struct filter *filter) {
     if (found.states.is_set)
         filter->states = found.states.value;
     /* A TCP socket that is only bound is closed in replies, and has a state of its own in requests.
-     * It is left out next to listening sockets, as by -l of ss(8). */
-    if ((filter->states & (1u << SOCKDIAG_TCP_CLOSE | 1u << SOCKDIAG_TCP_LISTEN))
-        == 1u << SOCKDIAG_TCP_CLOSE)
+     * It is requested with closed sockets, but not next to listening ones, as by -l of ss(8). */
+    if ((filter->states & 1u << SOCKDIAG_TCP_CLOSE) == 0)
+        filter->states &= ~(1u << SOCKDIAG_TCP_BOUND_INACTIVE);
+    else if ((filter->states & 1u << SOCKDIAG_TCP_LISTEN) == 0)
         filter->states |= 1u << SOCKDIAG_TCP_BOUND_INACTIVE;
     head.nla_len = (uint16_t)(sizeof head + found.program_length);
     memcpy(filter->attribute, &head, sizeof head);

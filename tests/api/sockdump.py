@@ -372,12 +372,14 @@ def test_filters(runs, files):
     program = bytes.fromhex("1400 0100 0208 1400 0000 1600 0308 0c00 0000 901f")
     listening = struct.pack("<I", 1 << 10)
     # Closed TCP sockets are also those that are only bound, the state 13 of requests.
-    closed = struct.pack("<I", 1 << 7 | 1 << 13)
+    closed, connected = (struct.pack("<I", it) for it in (
+        1 << 7 | 1 << 13, 0xffffffff ^ (1 << 7 | 1 << 10 | 1 << 13)))
     for file, (words, kinds, states, attribute) in itertools.product(files, (
             (["state listening", "sport", ">= :22 and sport <= :8080"], (), listening, program),
             (["sport >= :22", "sport <= :8080"], ("unix", "tcp"), b"\xff" * 4, program),
             (["state", "listening"], (), listening, b""), ([], ("tcp",), b"\xff" * 4, b""),
             (["state closed"], ("tcp", "udp"), closed, b""),
+            (["state connected"], ("unix", "tcp"), connected, b""),
             (["state closed state listening"], ("tcp",), struct.pack("<I", 1 << 7 | 1 << 10), b""),
             (["state listening"], ("netlink", "vsock"), listening, b""))):
         expected = []
