@@ -5,8 +5,9 @@
  * A dump is requested from NETLINK_SOCK_DIAG, as sock_diag(7) shows. One that was interrupted, or
  * of which data was lost, is requested again, each time on another socket: the rest of the answer
  * is not received there. Replies are stored until the dump ends, so the function is called for
- * those of the last attempt only. Sockets that open or close during a dump may be missing or listed
- * twice all the same: the kernel does not report it.
+ * those of the last attempt only. If sockets open or close during a dump, they and others, which
+ * were open all the time, may be missing or listed twice all the same: the kernel does not report
+ * it.
  */
 #ifndef DUMP_H
 #define DUMP_H

@@ -23,9 +23,10 @@
  * The structs named sockdiag_.._details, and struct sockdiag_vsock_header, sockdiag_tcp_info and
  * sockdiag_mptcp_info, may get more fields at their end in a later version; no others do. A call
  * that fills one takes its size, sizeof *details. It fills at most this number of bytes, and sets
- * fields that the library does not know to 0. So a program runs with older and newer libraries. A
- * size below that of version 1.0 is SOCKDIAG_INVALID_ARGUMENT, except that of a struct
- * sockdiag_tcp_info or sockdiag_mptcp_info, which may have any size.
+ * fields that the library does not know to 0. So a program runs with newer libraries, and with
+ * older ones if they have all functions that it calls. A size below that of version 1.0 is
+ * SOCKDIAG_INVALID_ARGUMENT, except that of a struct sockdiag_tcp_info or sockdiag_mptcp_info,
+ * which may have any size.
  *
  * The library does not allocate, opens no files or sockets, and has no state between calls. So any
  * thread may call it at any time, with memory that meets the requirements below. It needs at most
@@ -107,8 +108,8 @@ enum sockdiag_code {
                                                AF_INET nor AF_INET6. */
     SOCKDIAG_MESSAGE_TOO_SHORT = 4,         /* A message has fewer than 2 bytes: its family, and
                                                the byte after it. */
-    SOCKDIAG_UNKNOWN_FAMILY = 5,            /* The first byte of a message is not a family whose
-                                               replies are parsed. */
+    SOCKDIAG_UNKNOWN_FAMILY = 5,            /* The family, which is the first byte of a message,
+                                               is not one that the call takes. */
     SOCKDIAG_UNKNOWN_MESSAGE_TYPE = 6,      /* The type of a message is not SOCK_DIAG_BY_FAMILY. */
     SOCKDIAG_ATTRIBUTE_HEADER_CUT = 7,      /* Fewer bytes are left than the 4 of an attribute's
                                                header. */
@@ -641,7 +642,8 @@ struct sockdiag_unix_header {
                           TCP_ESTABLISHED (1) if it was connected, also if the peer has closed
                           since, or if it is a datagram socket to which another one connected,
                           else TCP_CLOSE (7), as of most datagram sockets. A datagram socket is
-                          in state 7 again after a connect(2) to AF_UNSPEC. */
+                          in state 7 again after a connect(2) to AF_UNSPEC. On Linux 5.10 every
+                          datagram socket is in state 7, also one with a peer. */
     uint32_t inode;    /* Inode of the socket (udiag_ino, at 4). */
     uint8_t cookie[8]; /* Cookie that distinguishes sockets with the same inode (udiag_cookie, at
                           8). */
@@ -721,16 +723,19 @@ struct sockdiag_inet_header {
     uint8_t cookie[8];               /* Cookie that distinguishes sockets with the same addresses
                                         and ports (idiag_cookie, at 44). */
     uint32_t recv_queue;             /* Number of pending connections of a listening TCP or MPTCP
-                                        socket (idiag_rqueue, at 56). For other TCP sockets,
-                                        number of bytes that have not been read; a FIN counts as
-                                        one. For UDP, raw and other MPTCP sockets, memory in use
-                                        by the receive queue in bytes, which exceeds the data. */
+                                        socket, and of an SCTP socket that is no association
+                                        (idiag_rqueue, at 56). For other TCP sockets, number of
+                                        bytes that have not been read; a FIN counts as one. For
+                                        UDP and raw sockets, other MPTCP sockets and SCTP
+                                        associations, memory in use by the receive queue in
+                                        bytes, which exceeds the data. */
     uint32_t send_queue;             /* Limit of pending connections (backlog) of a listening TCP
-                                        or MPTCP socket (idiag_wqueue, at 60). For other TCP
-                                        sockets, number of bytes that are not yet acknowledged; a
-                                        SYN and a FIN count as one each. For UDP, raw and other
-                                        MPTCP sockets, memory in use by packets that are being
-                                        sent, in bytes. */
+                                        or MPTCP socket, and of an SCTP socket that is no
+                                        association (idiag_wqueue, at 60). For other TCP sockets,
+                                        number of bytes that are not yet acknowledged; a SYN and
+                                        a FIN count as one each. For UDP and raw sockets, other
+                                        MPTCP sockets and SCTP associations, memory in use by
+                                        packets that are being sent, in bytes. */
     uint32_t uid;                    /* User id of the owner (idiag_uid, at 64). */
     uint32_t inode;                  /* Inode of the socket (idiag_inode, at 68). */
 };
@@ -978,8 +983,9 @@ struct sockdiag_tcp_info {
     uint32_t received_ce_bytes;        /* Number of bytes received with the ECN mark CE.
                                           tcpi_received_ce_bytes at 272. */
     uint32_t ecn_mode : 2;             /* How ECN is used: 0 not at all, 1 as in RFC 3168, 2
-                                          accurate ECN, 3 not negotiated yet. tcpi_ecn_mode at
-                                          276, bits 0 and 1. */
+                                          accurate ECN, 3 not negotiated yet. It is also 0 from
+                                          kernels before Linux 7.0, with and without ECN.
+                                          tcpi_ecn_mode at 276, bits 0 and 1. */
     uint32_t accecn_opt_seen : 2;      /* Which TCP options of accurate ECN were seen.
                                           tcpi_accecn_opt_seen at 276, bits 2 and 3. */
     uint32_t accecn_fail_mode : 4;     /* Bits for the ways in which accurate ECN failed.
@@ -989,9 +995,10 @@ struct sockdiag_tcp_info {
 };
 
 /*
- * Returns whether the kernel sent a field of the struct info. value_length is the number that
- * sockdiag_inet_get_tcp_info or sockdiag_inet_get_mptcp_info has stored. Bit fields, which this
- * macro does not take, are 0 if the kernel did not send them.
+ * Returns whether the value contains the bytes of a field of the struct info. value_length is the
+ * number that sockdiag_inet_get_tcp_info or sockdiag_inet_get_mptcp_info has stored. Older kernels
+ * send padding in place of some fields of struct sockdiag_mptcp_info, as their comments say. Bit
+ * fields, which this macro does not take, are 0 if the kernel did not send them.
  */
 #define SOCKDIAG_HAS(value_length, info, field)                                                   \
     ((value_length) >= (size_t)((const char *)&(info).field - (const char *)&(info))              \
@@ -1130,8 +1137,8 @@ uint32_t sockdiag_netlink_fill_details(const uint8_t *payload, size_t length,
                                        size_t later_length);
 
 /*
- * Parses a reply about a netlink socket. Linux 6.18 lists a netlink socket twice if it is a member
- * of a group.
+ * Parses a reply about a netlink socket. Linux lists a netlink socket twice if it is a member of a
+ * group.
  */
 static inline uint32_t sockdiag_netlink_get_details(const uint8_t *payload, size_t length,
                                                     struct sockdiag_netlink_details *details,
@@ -2075,10 +2082,12 @@ struct sockdiag_inet_request {
     struct sockdiag_request_header header; /* Fields of the netlink header. */
     uint8_t family;                        /* AF_INET or AF_INET6 (sdiag_family). */
     uint8_t extensions;                    /* Attributes that the replies shall have, with the
-                                              bit 1 << (kind - 1) for each kind (idiag_ext). That
-                                              of INET_DIAG_VEGASINFO requests what the socket's
+                                              bit 1 << (kind - 1) for each kind up to 8
+                                              (idiag_ext). Kinds above 8 have no bit. That of
+                                              INET_DIAG_VEGASINFO requests what the socket's
                                               algorithm has, also INET_DIAG_DCTCPINFO or
-                                              INET_DIAG_BBRINFO. For MPTCP, and for kernels
+                                              INET_DIAG_BBRINFO, and that of INET_DIAG_TCLASS
+                                              also INET_DIAG_CLASS_ID. For MPTCP, and for kernels
                                               without tcpi_snd_wnd, leave out INET_DIAG_INFO, or
                                               use a lenient call: sockdiag_inet_get_details
                                               rejects their replies. */
@@ -2093,7 +2102,8 @@ struct sockdiag_inet_request {
                                               TCP_LISTEN (idiag_states). UINT32_MAX includes all.
                                               The bit 1 << TCP_BOUND_INACTIVE includes TCP
                                               sockets that are only bound; replies about them
-                                              have the state TCP_CLOSE. */
+                                              have the state TCP_CLOSE. Linux 5.10 and 6.1 do not
+                                              list them. */
     uint16_t source_port;                  /* Local port (idiag_sport). */
     uint16_t destination_port;             /* Remote port (idiag_dport). */
     uint8_t source_address[16];            /* Local address in network byte order (idiag_src).

@@ -69,7 +69,7 @@ pub enum DecodeError {
     MessageTooShort {
         got: usize,
     },
-    /// The first byte of a message is not a family whose replies are parsed.
+    /// The family, which is the first byte of a message, is not one that the call takes.
     #[error("unknown address family {family}")]
     UnknownFamily {
         family: u8,

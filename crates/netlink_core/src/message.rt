@@ -126,8 +126,8 @@ pub trait NetlinkDeserializable: HasCodec<Param = u16> {
 }
 
 /// The payload of a netlink message, by the message type. `B` holds the bytes of a payload that is
-/// not decoded: `Vec<u8>`, or `&[u8]` in a borrowed payload. Only a borrowed payload is `Clone` and
-/// `Copy`.
+/// not decoded: `Vec<u8>`, or `&[u8]` in a borrowed payload. Only a borrowed payload is `Copy`,
+/// and in Rattle only it is `Clone`.
 #[derive(Copy, Debug, Drop, PartialEq, Eq)]
 pub enum NetlinkPayload<I, B = Vec<u8>> {
     /// `NLMSG_DONE`: the end of a dump. The bytes are raw.

@@ -162,8 +162,9 @@ pub enum TcpField {
     ReceivedE0Bytes,
     /// Number of bytes received with the ECN mark CE. `tcpi_received_ce_bytes` at 272.
     ReceivedCeBytes,
-    /// How ECN is used: 0 not at all, 1 as in RFC 3168, 2 accurate ECN, 3 not negotiated yet.
-    /// `tcpi_ecn_mode` at 276, bits 0 and 1.
+    /// How ECN is used: 0 not at all, 1 as in RFC 3168, 2 accurate ECN, 3 not negotiated yet. It
+    /// is also 0 from kernels before Linux 7.0, with and without ECN. `tcpi_ecn_mode` at 276, bits
+    /// 0 and 1.
     EcnMode,
     /// Which TCP options of accurate ECN were seen. `tcpi_accecn_opt_seen` at 276, bits 2 and 3.
     AccecnOptSeen,

@@ -21,7 +21,8 @@ pub struct UnixHeader {
     /// State (`udiag_state`, at 2): `TCP_LISTEN` (10) if the socket listens, `TCP_ESTABLISHED` (1)
     /// if it was connected, also if the peer has closed since, or if it is a datagram socket to
     /// which another one connected, else `TCP_CLOSE` (7), as of most datagram sockets. A datagram
-    /// socket is in state 7 again after a connect(2) to `AF_UNSPEC`.
+    /// socket is in state 7 again after a connect(2) to `AF_UNSPEC`. On Linux 5.10 every datagram
+    /// socket is in state 7, also one with a peer.
     pub state: u8,
     /// Inode of the socket (`udiag_ino`, at 4).
     pub inode: u32,
@@ -62,15 +63,16 @@ pub struct InetHeader {
     pub interface_id: u32,
     /// Cookie that distinguishes sockets with the same addresses and ports (`idiag_cookie`, at 44).
     pub cookie: [u8; 8],
-    /// Number of pending connections of a listening TCP or MPTCP socket (`idiag_rqueue`, at 56).
-    /// For other TCP sockets, number of bytes that have not been read; a FIN counts as one. For
-    /// UDP, raw and other MPTCP sockets, memory in use by the receive queue in bytes, which exceeds
-    /// the data.
+    /// Number of pending connections of a listening TCP or MPTCP socket, and of an SCTP socket that
+    /// is no association (`idiag_rqueue`, at 56). For other TCP sockets, number of bytes that have
+    /// not been read; a FIN counts as one. For UDP and raw sockets, other MPTCP sockets and SCTP
+    /// associations, memory in use by the receive queue in bytes, which exceeds the data.
     pub recv_queue: u32,
-    /// Limit of pending connections (backlog) of a listening TCP or MPTCP socket (`idiag_wqueue`,
-    /// at 60). For other TCP sockets, number of bytes that are not yet acknowledged; a SYN and a
-    /// FIN count as one each. For UDP, raw and other MPTCP sockets, memory in use by packets that
-    /// are being sent, in bytes.
+    /// Limit of pending connections (backlog) of a listening TCP or MPTCP socket, and of an SCTP
+    /// socket that is no association (`idiag_wqueue`, at 60). For other TCP sockets, number of
+    /// bytes that are not yet acknowledged; a SYN and a FIN count as one each. For UDP and raw
+    /// sockets, other MPTCP sockets and SCTP associations, memory in use by packets that are being
+    /// sent, in bytes.
     pub send_queue: u32,
     /// User id of the owner (`idiag_uid`, at 64).
     pub uid: u32,

@@ -31,8 +31,8 @@ pub struct NetlinkDetails<'a> {
 
 const _: () = prove!(std::mem::size_of::<NetlinkDetails<'static>>() == 136);
 
-/// Parses a reply about a netlink socket. Linux 6.18 lists a netlink socket twice if it is a member
-/// of a group.
+/// Parses a reply about a netlink socket. Linux lists a netlink socket twice if it is a member of a
+/// group.
 #[unsafe(no_mangle)]
 pub extern "C" fn sockdiag_netlink_fill_details<'a>(
     payload: &'a [u8],

@@ -72,9 +72,10 @@ pub struct InetRequest {
     pub header: RequestHeader,
     /// `AF_INET` or `AF_INET6` (`sdiag_family`).
     pub family: u8,
-    /// Attributes that the replies shall have, with the bit `1 << (kind - 1)` for each kind
-    /// (`idiag_ext`). That of `INET_DIAG_VEGASINFO` requests what the socket's algorithm has, also
-    /// `INET_DIAG_DCTCPINFO` or `INET_DIAG_BBRINFO`. For MPTCP, and for kernels without
+    /// Attributes that the replies shall have, with the bit `1 << (kind - 1)` for each kind up to
+    /// 8 (`idiag_ext`). Kinds above 8 have no bit. That of `INET_DIAG_VEGASINFO` requests what the
+    /// socket's algorithm has, also `INET_DIAG_DCTCPINFO` or `INET_DIAG_BBRINFO`, and that of
+    /// `INET_DIAG_TCLASS` also `INET_DIAG_CLASS_ID`. For MPTCP, and for kernels without
     /// `tcpi_snd_wnd`, leave out `INET_DIAG_INFO`, or use a lenient call:
     /// `sockdiag_inet_get_details` rejects their replies.
     pub extensions: u8,
@@ -85,7 +86,8 @@ pub struct InetRequest {
     pub protocol: u32,
     /// States to include, with the bit `1 << TCP_LISTEN` for `TCP_LISTEN` (`idiag_states`).
     /// `UINT32_MAX` includes all. The bit `1 << TCP_BOUND_INACTIVE` includes TCP sockets that are
-    /// only bound; replies about them have the state `TCP_CLOSE`.
+    /// only bound; replies about them have the state `TCP_CLOSE`. Linux 5.10 and 6.1 do not list
+    /// them.
     pub states: u32,
     /// Local port (`idiag_sport`).
     pub source_port: u16,

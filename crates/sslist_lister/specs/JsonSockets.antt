@@ -34,7 +34,7 @@ inet_front_members timer h =
 
 -- `inet_back_members timer h`: the members of the header of an IPv4 or IPv6 socket that follow the
 -- cookie: `idiag_expires` in milliseconds, `idiag_rqueue` and `idiag_wqueue` in bytes (of a
--- listening TCP or MPTCP socket numbers of connections), `idiag_uid` and `idiag_inode`
+-- listening TCP, MPTCP or SCTP socket numbers of connections), `idiag_uid` and `idiag_inode`
 abbrev pub inet_back_members : RawTimer → InetResponseHeader → List JsonMember
 inet_back_members timer h =
     number_members ((codes "expires", timer.expires) ∷ (codes "rqueue", h.recv_queue) ∷

@@ -72,11 +72,18 @@
 //! | the functions of [`fields`] | the bytes or the buffer have the length that the function names | `len` | panics |
 //! | [`SmallVec::push_reserved`] | there is capacity | [`SmallVec::push`] | panics |
 //!
+//! The fields of a [`filters::Prefix`] are public. In Rattle a proof excludes more bits than its
+//! address has, and here nothing does: make it by [`filters::Prefix::new`]. With more bits
+//! [`filters::assemble`] returns a program that the kernel rejects, and
+//! [`filters::SocketFacts::meets`] is an overflow.
+//!
 //! "An overflow" panics if overflow checks are on, and else returns a wrong number. The profiles of
 //! this package turn them on. If your program depends on it, the profile of your program decides.
 //!
-//! `clone` and `push` panic if an allocation fails; `try_clone` and `try_reserve_exact` return the
-//! error.
+//! If an allocation fails, `push` panics, and so does `clone` of a reply, of a [`SockDiagMessage`]
+//! and of a [`DefaultNla`]. `clone` of a name, an attribute or a [`NetlinkPayload`] may end the
+//! process, as that of a `Vec` does. `try_clone`, which a [`NetlinkMessage`] and its payload lack,
+//! and `try_reserve_exact` return the error.
 #![no_std]
 #![deny(unsafe_code)]
 // What only contracts, proofs, other crates or the C library use is left.

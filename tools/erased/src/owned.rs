@@ -1,5 +1,6 @@
 //! `Clone` and `Default` of values that own memory, and `Copy` and `Hash`, as Rust programs expect
-//! them. A clone panics if an allocation fails; `try_clone` returns the error.
+//! them. If an allocation fails, a clone panics, or ends the process where it clones a `Vec` or a
+//! `String`; `try_clone` returns the error.
 
 use crate::inet::{InetResponse, SocketId};
 use crate::netlink_core::{DefaultNla, NetlinkHeader, NetlinkMessage, NetlinkPayload};

@@ -8,6 +8,7 @@ use sockdiag::fields::{
     array_at, u16s_be_at, u32s_at, u64s_at, write_bytes, write_u16s, write_u16s_be, write_u32s,
     write_u64s,
 };
+use sockdiag::filters::{Condition, Filter, Host, Prefix, SocketFacts, assemble};
 use sockdiag::inet::{self, InetRequest, InetResponse, InetResponseHeader, SocketId, nlas::TcpInfo};
 use sockdiag::unix::nlas::{NameView, Nla, NlaView, UnixDiagName, Vfs};
 use sockdiag::unix::{UnixRequest, UnixResponse, UnixResponseHeader, UnixResponseView};
@@ -17,6 +18,7 @@ use sockdiag::{
     emit_u32, nla_len, nlas_len, nlas_writable, padded, same_views, smallvec,
 };
 use std::fmt::Debug;
+use std::net::IpAddr;
 use std::panic::{AssertUnwindSafe, catch_unwind};
 
 /// The header of a reply about a listening UNIX socket.
@@ -119,6 +121,27 @@ fn a_length_near_the_end_overflows() {
     assert_eq!(padded(usize::MAX - 3), usize::MAX - 3);
     // With overflow checks, which this package's profiles turn on.
     assert_panics!(padded(usize::MAX - 2));
+}
+
+#[test]
+fn a_prefix_with_too_many_bits_overflows() {
+    let address = IpAddr::from([127, 0, 0, 1]);
+    assert!(Prefix::new(address, 33).is_none());
+    let prefix = Some(Prefix { address, bits: 33 });
+    let condition = Condition::Source(Host { prefix, port: None });
+    let facts = SocketFacts {
+        source: address,
+        destination: address,
+        source_port: 0,
+        destination_port: 0,
+        interface: 0,
+        mark: None,
+        cgroup: None,
+        is_auto_bound: None,
+    };
+    assert_panics!(facts.meets(condition));
+    // `prefix_len` of `struct inet_diag_hostcond`, after the four bytes of the operation.
+    assert_eq!(assemble(&Filter::Condition(condition)).unwrap()[5], 33);
 }
 
 #[test]

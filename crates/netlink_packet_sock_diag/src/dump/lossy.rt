@@ -28,7 +28,7 @@ impl LossyDump {
     ghost use Rattle.netlink_packet_sock_diag.specs.declared.dump.DumpError.TheVariants.{Fault};
 
     /// Returns a reader that nothing was fed to: it has no entries, its state is `Reading`, it has
-    /// no error number, and it is not interrupted. It keeps the allocator.
+    /// no error number, and it is not interrupted. In Rattle it keeps the allocator.
     pub fn new(alloc: Global) -> Self
         ensures { lossy_progress result ≡ new_dump }
     {

@@ -68,7 +68,7 @@ impl DumpReader {
     ghost use Rattle.netlink_packet_sock_diag.specs.DumpModel.{reader_progress};
 
     /// Returns a reader that nothing was fed to: it has no messages, its state is `Reading`, it has
-    /// no error number, and it is not interrupted. It keeps the allocator.
+    /// no error number, and it is not interrupted. In Rattle it keeps the allocator.
     pub fn new(alloc: Global) -> Self
         ensures { reader_progress result ≡ new_dump }
     {

@@ -15,7 +15,7 @@ use netlink_core::{
 use std::alloc::{AllocError, Global};
 
 /// The name that a UNIX socket is bound to (`UNIX_DIAG_NAME`). `B` holds its bytes: `Vec<u8>`, or
-/// `&[u8]` in a borrowed name. Only a borrowed name is `Clone` and `Copy`.
+/// `&[u8]` in a borrowed name. Only a borrowed name is `Copy`, and in Rattle only it is `Clone`.
 ///
 /// The first byte of an abstract name is zero. Any other name is a path, whose last byte is its
 /// only zero.

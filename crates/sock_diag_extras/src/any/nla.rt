@@ -185,7 +185,7 @@ pub enum AnyNla<'a> {
     Umem(XdpUmem),
     /// `XDP_DIAG_STATS`: the counters of an XDP socket.
     Statistics(XdpStatistics),
-    /// An attribute of any other kind.
+    /// An attribute of any other kind, or the `INET_DIAG_INFO` of SCTP.
     Unknown(NlaBuffer<'a>),
 }
 

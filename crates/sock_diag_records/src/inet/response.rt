@@ -56,16 +56,17 @@ pub struct InetResponseHeader {
     /// Id of the socket (`id`), at offset 4. In a parsed header, the addresses are of the family's
     /// IP version.
     pub socket_id: SocketId,
-    /// For a listening TCP or MPTCP socket, the number of pending connections; for other TCP
-    /// sockets, the bytes that are not yet read; for UDP, raw and other MPTCP sockets, the memory
-    /// in use by the receive queue in bytes, which exceeds the data (`idiag_rqueue`),
-    /// little-endian, at offset 56.
+    /// For a listening TCP or MPTCP socket, and for an SCTP socket that is no association, the
+    /// number of pending connections; for other TCP sockets, the bytes that are not yet read; for
+    /// UDP and raw sockets, other MPTCP sockets and SCTP associations, the memory in use by the
+    /// receive queue in bytes, which exceeds the data (`idiag_rqueue`), little-endian, at offset
+    /// 56.
     pub recv_queue: u32,
-    /// For a listening TCP or MPTCP socket, the backlog limit; for other TCP sockets, the bytes
-    /// that are not yet acknowledged; for UDP, raw and other MPTCP sockets, the memory in use by
-    /// packets that are being sent, in bytes (`idiag_wqueue`), little-endian, at offset 60.
-    /// sock_diag(7) describes the memory available for sending, which is not what the kernel
-    /// writes.
+    /// For a listening TCP or MPTCP socket, and for an SCTP socket that is no association, the
+    /// backlog limit; for other TCP sockets, the bytes that are not yet acknowledged; for UDP and
+    /// raw sockets, other MPTCP sockets and SCTP associations, the memory in use by packets that
+    /// are being sent, in bytes (`idiag_wqueue`), little-endian, at offset 60. sock_diag(7)
+    /// describes the memory available for sending, which is not what the kernel writes.
     pub send_queue: u32,
     /// User id of the socket's owner (`idiag_uid`), little-endian, at offset 64.
     pub uid: u32,

@@ -44,7 +44,8 @@ pub struct SocketId {
     /// 36.
     pub interface_id: u32,
     /// Cookie that distinguishes sockets with the same addresses and ports (`idiag_cookie`), at
-    /// offset 40. Eight bytes 0xff are INET_DIAG_NOCOOKIE.
+    /// offset 40. In a request for a single socket eight bytes 0xff (INET_DIAG_NOCOOKIE) select any
+    /// cookie, and the zeros of `new_v4` and `new_v6` do not.
     pub cookie: [u8; 8],
 }
 

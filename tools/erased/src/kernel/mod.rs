@@ -145,8 +145,10 @@ impl<C: Connection, O: FnMut() -> io::Result<C>> Kernel<O> {
     /// Sets the sequence number of the request, and its flags `NLM_F_REQUEST` and `NLM_F_ACK`.
     ///
     /// The request is sent once. The errors are those of [`Kernel::dump`]: `ENOENT` or `ESTALE`
-    /// from the kernel if there is no such socket. The kind `Interrupted` means that data was lost,
-    /// so that it is unknown whether the request had an effect.
+    /// from the kernel if there is no such socket, or if it has another cookie. `new_v4` and
+    /// `new_v6` of a socket id set a cookie of zeros, which the kernel compares too; eight bytes
+    /// 0xff match any. The kind `Interrupted` means that data was lost, so that it is unknown
+    /// whether the request had an effect.
     pub fn request<R: Request + ?Sized>(&mut self, request: &R) -> io::Result<Answer> {
         Ok(self.answer(request, 0, 1)?)
     }
