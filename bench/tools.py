@@ -97,6 +97,8 @@ def replies(capture):
 def program(name, given=os.devnull):
     """Returns the path of a program of this repository. Starts it with a valid input, which proves
     and builds it first if necessary."""
+    print(f"tools.py: starting {name}, which is proved and built first if it was not",
+          file=sys.stderr)
     run([str(TOP / name)], given)
     return str(TOP / "crates" / name / "out" / name)
 
@@ -109,6 +111,7 @@ def sockets(capture):
 def linked(name, *libraries):
     """Returns the path of a C program of bench/, which is built with the C library."""
     if not LIBRARY.exists():
+        print("tools.py: proving and building the C library", file=sys.stderr)
         quietly("rt", "lib", cwd=TOP / "crates" / "sockdiag_c")
     built = str(MADE / name)
     quietly("cc", "-O2", f"-I{TOP / 'include'}", "-o", built, str(BENCH / f"{name}.c"),
