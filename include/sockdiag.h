@@ -349,7 +349,7 @@ enum sockdiag_inet_attribute {
                                                 event, IPPROTO_*. */
     SOCKDIAG_INET_DIAG_SKV6ONLY = 11,        /* Whether the socket is IPv6-only. */
     SOCKDIAG_INET_DIAG_LOCALS = 12,          /* Local addresses of an SCTP socket. */
-    SOCKDIAG_INET_DIAG_PEERS = 13,           /* Remote addresses of an SCTP socket. */
+    SOCKDIAG_INET_DIAG_PEERS = 13,           /* Remote addresses of an SCTP association. */
     SOCKDIAG_INET_DIAG_PAD = 14,             /* Padding. */
     SOCKDIAG_INET_DIAG_MARK = 15,            /* Mark of the socket, SO_MARK of socket(7). */
     SOCKDIAG_INET_DIAG_BBRINFO = 16,         /* Measurements of BBR: struct tcp_bbr_info. */
@@ -706,9 +706,11 @@ struct sockdiag_inet_header {
                                         of SCTP, such as 3 for established. The protocol is that
                                         of the request. The reply of an event has it in
                                         INET_DIAG_PROTOCOL. */
-    uint8_t timer;                   /* Timer (idiag_timer, at 2): 0 none, 1 retransmission, 2
-                                        keepalive, 3 TIME_WAIT, 4 zero-window probe; 5 delayed
-                                        acknowledgement, since Linux 7.2. */
+    uint8_t timer;                   /* Timer (idiag_timer, at 2). Of a TCP socket: 0 none, 1
+                                        retransmission, 2 keepalive, 3 TIME_WAIT, 4 zero-window
+                                        probe; 5 delayed acknowledgement, since Linux 7.2. Of an
+                                        SCTP association: 0 none, or else its retransmission
+                                        timer (T3-rtx). */
     uint8_t retransmits;             /* Number of retransmissions if the timer is 1, of probes if
                                         it is 2 or 4 (idiag_retrans, at 3). */
     uint32_t expires;                /* Milliseconds until the timer expires (idiag_expires, at
@@ -795,8 +797,9 @@ struct sockdiag_inet_details {
     struct sockdiag_number v6only;               /* 1 if the socket is for IPv6 only, else 0
                                                     (INET_DIAG_SKV6ONLY). */
     struct sockdiag_number mark;                 /* Mark of the socket, SO_MARK (INET_DIAG_MARK). */
-    struct sockdiag_number class_id;             /* Traffic control class of the socket's packets
-                                                    (INET_DIAG_CLASS_ID). */
+    struct sockdiag_number class_id;             /* Traffic class id (net_cls) of the socket's
+                                                    control group, or the priority of a socket
+                                                    without one (INET_DIAG_CLASS_ID). */
     struct sockdiag_memory memory;               /* Socket memory (INET_DIAG_SKMEMINFO). */
     uint32_t has_legacy_memory;                  /* 1 if legacy_memory is set, else 0. */
     struct sockdiag_legacy_memory legacy_memory; /* Socket memory in the format of old kernels
@@ -911,9 +914,11 @@ struct sockdiag_tcp_info {
     uint64_t max_pacing_rate;          /* Limit on the pacing rate in bytes per second
                                           (tcpi_max_pacing_rate), at offset 112. */
     uint64_t bytes_acked;              /* Number of acknowledged bytes (tcpi_bytes_acked), at
-                                          offset 120. */
+                                          offset 120. A FIN counts as one byte, and so does the
+                                          SYN of the socket that called connect(2). */
     uint64_t bytes_received;           /* Number of bytes that were received in order
-                                          (tcpi_bytes_received), at offset 128. */
+                                          (tcpi_bytes_received), at offset 128. A FIN counts as
+                                          one byte. */
     uint32_t segs_out;                 /* Number of sent segments (tcpi_segs_out), at offset 136. */
     uint32_t segs_in;                  /* Number of received segments (tcpi_segs_in), at offset
                                           140. */
@@ -1066,8 +1071,9 @@ struct sockdiag_mptcp_info {
     uint64_t bytes_sent;           /* Number of bytes sent, without retransmitted bytes.
                                       mptcpi_bytes_sent at 56. */
     uint64_t bytes_received;       /* Number of bytes received. mptcpi_bytes_received at 64. */
-    uint64_t bytes_acked;          /* Number of sent bytes that the peer acknowledged.
-                                      mptcpi_bytes_acked at 72. */
+    uint64_t bytes_acked;          /* Number of sent bytes that the peer acknowledged. The end of
+                                      the data (DATA_FIN) counts as one byte. mptcpi_bytes_acked
+                                      at 72. */
     uint8_t subflows_total;        /* Number of subflows, including the first one.
                                       mptcpi_subflows_total at 80. */
     uint8_t endp_laminar_max;      /* Number of endpoints with the flag laminar.
@@ -1861,8 +1867,8 @@ uint32_t sockdiag_next_md5_signature(const uint8_t *value, size_t length,
                                      struct sockdiag_md5_signature *signature);
 
 /*
- * An address of an SCTP association: one of the records in the values of INET_DIAG_LOCALS and
- * INET_DIAG_PEERS. It is a struct sockaddr_storage, 128 bytes. By its family, it starts with a
+ * An address of an SCTP socket or association: one of the records in the values of INET_DIAG_LOCALS
+ * and INET_DIAG_PEERS. It is a struct sockaddr_storage, 128 bytes. By its family, it starts with a
  * struct sockaddr_in (ip(7)) or a struct sockaddr_in6 (ipv6(7)). No byte is ignored.
  */
 struct sockdiag_stored_address {

@@ -319,17 +319,17 @@ ROWS = [
     Row("python3 tests/imports.py", (
         "crates.txt: netlink_core uses planted",
         "gives PLANTED of netlink_core the name of another item, EXCHANGED",
-        "sock_diag_extras.any.nla: XDP_DIAG_RX_RING is the name of a public item, and no law states "
-        "its number", "crates.txt: sock_diag_extras does not name planted",
+        "sock_diag_any.nla: XDP_DIAG_RX_RING is the name of a public item, and no law states "
+        "its number", "crates.txt: sock_diag_any does not name planted",
         "crates/netlink_core/src/lib.rt: nothing uses IsPlanted",
     ), (
         ("crates.txt", None, "netlink_core: planted\nsock_diag_families:\n"
-         "sock_diag_extras: sock_diag_families planted\n"),
+         "sock_diag_any: sock_diag_families planted\n"),
         ("crates/netlink_core/src/lib.rt", "",
          "use crate::planted::{PLANTED as EXCHANGED};\nconst EXCHANGED: u8 = 1;\n"
          "ghost use Rattle.netlink_core.specs.Bytes.{IsBytes as IsPlanted};\n"),
-        ("crates/sock_diag_extras/src/any/nla.rt", " XDP_DIAG_RX_RING,", ""),
-        ("crates/sock_diag_extras/src/any/nla.rt", "", "const XDP_DIAG_RX_RING: u16 = 4;\n"),
+        ("crates/sock_diag_any/src/nla.rt", " XDP_DIAG_RX_RING,", ""),
+        ("crates/sock_diag_any/src/nla.rt", "", "const XDP_DIAG_RX_RING: u16 = 4;\n"),
     )),
     Row("python3 tests/kernel_headers.py", (
         "SOCK_DIAG_BY_FAMILY: 20 in the headers, 21 in the crates",

@@ -1,6 +1,1 @@
 mod BitFields
-mod FirstErrors
-mod Framing
-mod PortKinds
-pub mod AnyAgreement
-pub mod PieceWalk

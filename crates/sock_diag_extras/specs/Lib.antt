@@ -9,13 +9,6 @@ pub mod Nested
 pub mod Acknowledgement
 pub mod UlpInfo
 pub mod Records
-pub mod Pieces
-pub mod AnyNla
-pub mod AnyParts
-pub mod AnyItems
-pub mod AnyHeader
-pub mod AnyReply
-pub mod AnyAgreement
 pub mod Md5Signature
 pub mod StoredAddress
 pub mod PacketMembership

@@ -1,4 +1,4 @@
--- An address of an SCTP association in INET_DIAG_LOCALS or INET_DIAG_PEERS, 128 bytes.
+-- An address of an SCTP socket or association, in INET_DIAG_LOCALS or INET_DIAG_PEERS, 128 bytes.
 use Rattle.std.specs.Prelude.{◌≡◌, ◌==◌, if◌then◌else◌, [], ◌∷◌, length, take, drop, slice_index}
 use Rattle.std.specs.Prelude.{Option, Some, None}
 use Rattle.std.specs.declared.net.ip_addr.IpAddr.{IpAddr}

@@ -157,7 +157,8 @@ pub const INET_DIAG_BC_D_GE: u8 = 4;
 /// Tests that the destination port is at most a given port.
 pub const INET_DIAG_BC_D_LE: u8 = 5;
 
-/// Tests that the kernel chose the source port.
+/// Tests that the socket itself was not bound to its source port: the kernel chose the port, or a
+/// listening socket accepted the socket. Each socket in TIME_WAIT passes too.
 pub const INET_DIAG_BC_AUTO: u8 = 6;
 
 /// Tests the source address by a prefix, and optionally the source port:

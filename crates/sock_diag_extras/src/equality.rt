@@ -3,7 +3,6 @@
 ghost use Rattle.std.proofs.Common.{rules};
 ghost use Rattle.sock_diag_extras.specs.laws.EqualTcpField.{tcp_field_equal};
 
-use crate::any::{InfoFormat, RawTimer, Sockets};
 use crate::congestion::{BbrInfo, DctcpInfo, VegasInfo};
 use crate::filter_instruction::FilterInstruction;
 use crate::md5_signature::Md5Signature;
@@ -65,17 +64,5 @@ impl Exact for SubflowField {
 }
 
 impl Exact for TlsField {
-    ghost exact = { Prim.search rules };
-}
-
-impl Exact for InfoFormat {
-    ghost exact = { Prim.search rules };
-}
-
-impl Exact for Sockets {
-    ghost exact = { Prim.search rules };
-}
-
-impl Exact for RawTimer {
     ghost exact = { Prim.search rules };
 }

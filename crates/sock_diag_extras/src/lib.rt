@@ -1,12 +1,11 @@
 //! The parts of sock_diag(7) that the port of the Rust crate leaves out: all of `struct tcp_info`,
-//! `struct mptcp_info`, attributes that the port leaves raw, extended acknowledgements, constants,
-//! and a reader of replies of any family.
+//! `struct mptcp_info`, attributes that the port leaves raw, extended acknowledgements, and
+//! constants.
 //!
 //! This is an extension crate. It changes nothing of the port.
 #![tactic(auto)]
 
 mod acknowledgement;
-pub mod any;
 mod bytes;
 mod congestion;
 pub mod constants;

@@ -55,7 +55,8 @@ pub enum MptcpField {
     BytesSent,
     /// Number of bytes received. `mptcpi_bytes_received` at 64.
     BytesReceived,
-    /// Number of sent bytes that the peer acknowledged. `mptcpi_bytes_acked` at 72.
+    /// Number of sent bytes that the peer acknowledged. The end of the data (DATA_FIN) counts as
+    /// one byte. `mptcpi_bytes_acked` at 72.
     BytesAcked,
     /// Number of subflows, including the first one. `mptcpi_subflows_total` at 80.
     SubflowsTotal,

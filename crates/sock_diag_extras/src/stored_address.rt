@@ -1,4 +1,4 @@
-//! The addresses of an SCTP association: INET_DIAG_LOCALS and INET_DIAG_PEERS.
+//! The addresses of an SCTP socket or association: INET_DIAG_LOCALS and INET_DIAG_PEERS.
 
 ghost use Rattle.std.specs.Prelude.{◌≡◌, refl};
 ghost use Rattle.netlink_core.proofs.FieldReads.{first_numbers_are_all};
@@ -17,9 +17,10 @@ const INET: u16 = 2;
 /// The address family of IPv6, `AF_INET6`.
 const INET6: u16 = 10;
 
-/// An address of an SCTP association: one of the records in the values of `INET_DIAG_LOCALS` and
-/// `INET_DIAG_PEERS`. It is a `struct sockaddr_storage`, 128 bytes. By its family, it starts with a
-/// `struct sockaddr_in` (ip(7)) or a `struct sockaddr_in6` (ipv6(7)). No byte is ignored.
+/// An address of an SCTP socket or association: one of the records in the values of
+/// `INET_DIAG_LOCALS` and `INET_DIAG_PEERS`. It is a `struct sockaddr_storage`, 128 bytes. By its
+/// family, it starts with a `struct sockaddr_in` (ip(7)) or a `struct sockaddr_in6` (ipv6(7)). No
+/// byte is ignored.
 #[repr(C)]
 #[derive(Clone, Copy, Debug, PartialEq, Eq)]
 pub struct StoredAddress {

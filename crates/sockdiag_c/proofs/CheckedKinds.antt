@@ -5,9 +5,9 @@ use Rattle.netlink_core.specs.Attribute.{Attribute}
 use Rattle.netlink_core.specs.AttributeSet.{AttributeSet, AttributeValue, decode_attribute}
 use Rattle.netlink_core.specs.declared.error.DecodeError.{DecodeError}
 use Rattle.std.proofs.Common.{true}
-use Rattle.sock_diag_extras.specs.AnyAgreement.{has_kind}
-use Rattle.sock_diag_extras.specs.AnyNla.{AnyValue, read_any, unknown}
-use Rattle.sock_diag_extras.specs.declared.any.nla.Sockets.{Sockets}
+use Rattle.sock_diag_any.specs.AnyAgreement.{has_kind}
+use Rattle.sock_diag_any.specs.AnyNla.{AnyValue, read_any, unknown}
+use Rattle.sock_diag_any.specs.declared.nla.Sockets.{Sockets}
 use Rattle.sockdiag_c.specs.CheckedKinds.{read_checked}
 
 module _ (F : AttributeSet) (s : Sockets) where

@@ -5,7 +5,7 @@ use Rattle.std.specs.Result.{result_err}
 use Rattle.netlink_core.specs.declared.error.DecodeError.{DecodeError}
 use Rattle.netlink_core.specs.Attribute.{Attribute, attribute_kind}
 use Rattle.netlink_core.specs.AttributeSet.{AttributeSet, decode_attribute, kind_numbers}
-use Rattle.sock_diag_extras.specs.AnyNla.{KindRow, read_by, read_unknown}
+use Rattle.sock_diag_any.specs.AnyNla.{KindRow, read_by, read_unknown}
 
 -- only an attribute of a kind in the set can be rejected
 pub rejected_kind_is_below : (F : AttributeSet) (n : ℕ)

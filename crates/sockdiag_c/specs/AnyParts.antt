@@ -6,8 +6,8 @@ use Rattle.sock_diag_attributes.specs.declared.unix.name.SocketName.TheVariants.
 use Rattle.sock_diag_families.specs.declared.packet.attributes.PacketRing.{PacketRing}
 use Rattle.sock_diag_families.specs.declared.xdp.attributes.XdpStatistics.{XdpStatistics}
 use Rattle.sock_diag_families.specs.declared.xdp.attributes.XdpUmem.{XdpUmem}
-use Rattle.sock_diag_extras.specs.AnyNla.{AnyValue}
-use Rattle.sock_diag_extras.specs.AnyNla as any
+use Rattle.sock_diag_any.specs.AnyNla.{AnyValue}
+use Rattle.sock_diag_any.specs.AnyNla as any
 use Rattle.sockdiag_c.specs.declared.details.TheConstants.{ABSTRACT, TEXT}
 
 -- the name of a UNIX socket: its kind, SOCKDIAG_TEXT for a pathname or SOCKDIAG_ABSTRACT, and its
@@ -62,7 +62,7 @@ abbrev pub v6_only_of : AnyValue → Option ℕ
 v6_only_of (any.v6_only only) = Some (if only then 1 else 0)
 v6_only_of other = None
 
--- the traffic control class
+-- the traffic class id of the control group, or the priority if that id is 0
 abbrev pub class_id_of : AnyValue → Option ℕ
 class_id_of (any.class_id n) = Some n
 class_id_of other = None

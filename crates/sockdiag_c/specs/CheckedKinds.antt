@@ -5,8 +5,8 @@ use Rattle.std.specs.Result.{result_err, result_ok}
 use Rattle.netlink_core.specs.Attribute.{Attribute}
 use Rattle.netlink_core.specs.AttributeSet.{AttributeSet, decode_attribute}
 use Rattle.netlink_core.specs.declared.error.DecodeError.{DecodeError}
-use Rattle.sock_diag_extras.specs.AnyNla.{AnyValue, read_any, unknown}
-use Rattle.sock_diag_extras.specs.declared.any.nla.Sockets.{Sockets}
+use Rattle.sock_diag_any.specs.AnyNla.{AnyValue, read_any, unknown}
+use Rattle.sock_diag_any.specs.declared.nla.Sockets.{Sockets}
 
 -- `unless_error error value`: the error, if there is one, else the value
 abbrev pub unless_error : Option DecodeError → AnyValue → Result AnyValue DecodeError

@@ -12,8 +12,8 @@ use Rattle.sock_diag_records.specs.ResponseKind.{inet_request, inet_response, un
 use Rattle.sock_diag_records.specs.ResponseKind.{unix_response}
 use Rattle.sock_diag_replies.specs.InetResponseSpec.{inet_response_spec}
 use Rattle.sock_diag_replies.specs.UnixResponseSpec.{unix_response_spec}
-use Rattle.sock_diag_extras.specs.AnyHeader.{timer_at}
-use Rattle.sock_diag_extras.specs.declared.any.header.RawTimer.{RawTimer}
+use Rattle.sock_diag_any.specs.AnyHeader.{timer_at}
+use Rattle.sock_diag_any.specs.declared.header.RawTimer.{RawTimer}
 use Rattle.sockdiag_c.specs.Answers.{Check}
 use Rattle.sockdiag_c.specs.declared.headers.InetHeader.{InetHeader}
 use Rattle.sockdiag_c.specs.declared.headers.Reply.{Reply}

@@ -4,11 +4,11 @@ use Rattle.netlink_core.specs.Errors.{map_ok}
 use Rattle.sock_diag_values.specs.declared.inet.legacy_mem_info.LegacyMemInfo.{LegacyMemInfo}
 use Rattle.sock_diag_attributes.specs.InetAttributes.{inet_attribute_set}
 use Rattle.sock_diag_replies.specs.InetResponseSpec.{inet_response_spec}
-use Rattle.sock_diag_extras.specs.AnyHeader.{timer_at}
-use Rattle.sock_diag_extras.specs.AnyNla.{AnyValue}
-use Rattle.sock_diag_extras.specs.declared.any.nla.InfoFormat.TheVariants.{Unknown}
-use Rattle.sock_diag_extras.specs.declared.any.nla.Sockets.TheVariants.{Inet}
-use Rattle.sock_diag_extras.specs.AnyParts.{cgroup_id_of, mark_of, memory_of, socket_protocol_of}
+use Rattle.sock_diag_any.specs.AnyHeader.{timer_at}
+use Rattle.sock_diag_any.specs.AnyNla.{AnyValue}
+use Rattle.sock_diag_any.specs.declared.nla.InfoFormat.TheVariants.{Unknown}
+use Rattle.sock_diag_any.specs.declared.nla.Sockets.TheVariants.{Inet}
+use Rattle.sock_diag_any.specs.AnyParts.{cgroup_id_of, mark_of, memory_of, socket_protocol_of}
 use Rattle.sockdiag_c.specs.AnyParts.{class_id_of, congestion_of, legacy_memory_of, options_of}
 use Rattle.sockdiag_c.specs.AnyParts.{shutdown_of, tos_of, traffic_class_of, v6_only_of}
 use Rattle.sockdiag_c.specs.declared.headers.InetHeader.{InetHeader}

@@ -5,9 +5,9 @@ use Rattle.sock_diag_families.specs.NetlinkResponseHeader.{netlink_header}
 use Rattle.sock_diag_families.specs.declared.netlink.response.NetlinkResponseHeader.{
   NetlinkResponseHeader,
 }
-use Rattle.sock_diag_extras.specs.AnyNla.{AnyValue, read_any}
-use Rattle.sock_diag_extras.specs.declared.any.nla.Sockets.TheVariants.{Netlink}
-use Rattle.sock_diag_extras.specs.AnyParts.{memory_of}
+use Rattle.sock_diag_any.specs.AnyNla.{AnyValue, read_any}
+use Rattle.sock_diag_any.specs.declared.nla.Sockets.TheVariants.{Netlink}
+use Rattle.sock_diag_any.specs.AnyParts.{memory_of}
 use Rattle.sockdiag_c.specs.AnyParts.{groups_of, netlink_flags_of}
 use Rattle.sockdiag_c.specs.Details.{bytes_row, memory_row, number_row}
 use Rattle.sockdiag_c.specs.Family.{Family}

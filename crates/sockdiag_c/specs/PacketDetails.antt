@@ -7,9 +7,9 @@ use Rattle.sock_diag_families.specs.declared.packet.attributes.PacketRing.{Packe
 use Rattle.sock_diag_families.specs.declared.packet.response.PacketResponseHeader.{
   PacketResponseHeader,
 }
-use Rattle.sock_diag_extras.specs.AnyNla.{AnyValue, read_any}
-use Rattle.sock_diag_extras.specs.declared.any.nla.Sockets.TheVariants.{Packet}
-use Rattle.sock_diag_extras.specs.AnyParts.{memory_of, owner_of, packet_info_of}
+use Rattle.sock_diag_any.specs.AnyNla.{AnyValue, read_any}
+use Rattle.sock_diag_any.specs.declared.nla.Sockets.TheVariants.{Packet}
+use Rattle.sock_diag_any.specs.AnyParts.{memory_of, owner_of, packet_info_of}
 use Rattle.sockdiag_c.specs.AnyParts.{fanout_of, filter_of, memberships_of, receive_frames_of}
 use Rattle.sockdiag_c.specs.AnyParts.{send_frames_of}
 use Rattle.sockdiag_c.specs.Details.{bytes_row, memory_row, number_row, record_row}

@@ -3,9 +3,9 @@ use Rattle.std.specs.Prelude.{List, [], ◌∷◌}
 use Rattle.netlink_core.specs.Errors.{map_ok}
 use Rattle.sock_diag_attributes.specs.UnixAttributes.{unix_attribute_set}
 use Rattle.sock_diag_replies.specs.UnixResponseSpec.{unix_response_spec}
-use Rattle.sock_diag_extras.specs.AnyNla.{AnyValue}
-use Rattle.sock_diag_extras.specs.declared.any.nla.Sockets.TheVariants.{Unix}
-use Rattle.sock_diag_extras.specs.AnyParts.{memory_of, owner_of, peer_of}
+use Rattle.sock_diag_any.specs.AnyNla.{AnyValue}
+use Rattle.sock_diag_any.specs.declared.nla.Sockets.TheVariants.{Unix}
+use Rattle.sock_diag_any.specs.AnyParts.{memory_of, owner_of, peer_of}
 use Rattle.sockdiag_c.specs.AnyParts.{file_device_of, file_inode_of, name_of, recv_queue_of}
 use Rattle.sockdiag_c.specs.AnyParts.{send_queue_of, shutdown_of}
 use Rattle.sockdiag_c.specs.declared.headers.UnixHeader.{UnixHeader}

@@ -5,8 +5,8 @@ use Rattle.sock_diag_families.specs.VsockResponseHeader.{vsock_header}
 use Rattle.sock_diag_families.specs.declared.vsock.response.VsockResponseHeader.{
   VsockResponseHeader,
 }
-use Rattle.sock_diag_extras.specs.AnyNla.{AnyValue, read_any}
-use Rattle.sock_diag_extras.specs.declared.any.nla.Sockets.TheVariants.{Vsock}
+use Rattle.sock_diag_any.specs.AnyNla.{AnyValue, read_any}
+use Rattle.sock_diag_any.specs.declared.nla.Sockets.TheVariants.{Vsock}
 use Rattle.sockdiag_c.specs.Family.{Family}
 
 -- Replies about vsock sockets. The struct is the header itself, of `vsock_header.least` bytes.

@@ -6,9 +6,9 @@ use Rattle.sock_diag_families.specs.declared.xdp.attributes.XdpInfo.{XdpInfo}
 use Rattle.sock_diag_families.specs.declared.xdp.attributes.XdpStatistics.{XdpStatistics}
 use Rattle.sock_diag_families.specs.declared.xdp.attributes.XdpUmem.{XdpUmem}
 use Rattle.sock_diag_families.specs.declared.xdp.response.XdpResponseHeader.{XdpResponseHeader}
-use Rattle.sock_diag_extras.specs.AnyNla.{AnyValue, read_any}
-use Rattle.sock_diag_extras.specs.declared.any.nla.Sockets.TheVariants.{Xdp}
-use Rattle.sock_diag_extras.specs.AnyParts.{memory_of, owner_of, xdp_info_of}
+use Rattle.sock_diag_any.specs.AnyNla.{AnyValue, read_any}
+use Rattle.sock_diag_any.specs.declared.nla.Sockets.TheVariants.{Xdp}
+use Rattle.sock_diag_any.specs.AnyParts.{memory_of, owner_of, xdp_info_of}
 use Rattle.sockdiag_c.specs.AnyParts.{completion_ring_of, fill_ring_of, receive_ring_of}
 use Rattle.sockdiag_c.specs.AnyParts.{send_ring_of, statistics_of, umem_of}
 use Rattle.sockdiag_c.specs.Details.{memory_row, number_row, record_row}

@@ -3,13 +3,13 @@
 ghost use Rattle.std.specs.Prelude.{◌≡◌, ◌+◌, ◌≤◌, Ok, length};
 ghost use Rattle.netlink_core.specs.Layout.{parse_record};
 ghost use Rattle.sock_diag_records.specs.InetResponse.{inet_response_header};
-ghost use Rattle.sock_diag_extras.specs.AnyHeader.{timer_at};
+ghost use Rattle.sock_diag_any.specs.AnyHeader.{timer_at};
 ghost use Rattle.sockdiag_c.specs.Headers.{address_octets_of, inet_header_of, unix_header_of};
 ghost use Rattle.sockdiag_c.specs.private.Headers.{HasAddressAt};
 
 use netlink_packet_sock_diag::inet::InetResponseHeader;
 use netlink_packet_sock_diag::unix::UnixResponseHeader;
-use sock_diag_extras::any::RawTimer;
+use sock_diag_any::RawTimer;
 use std::net::IpAddr;
 
 /// Header of a reply about a UNIX socket: `struct unix_diag_msg` of sock_diag(7).
@@ -42,8 +42,9 @@ pub struct InetHeader {
     /// association a number of SCTP, such as 3 for established. The protocol is that of the
     /// request. The reply of an event has it in `INET_DIAG_PROTOCOL`.
     pub state: u8,
-    /// Timer (`idiag_timer`, at 2): 0 none, 1 retransmission, 2 keepalive, 3 TIME_WAIT, 4
-    /// zero-window probe; 5 delayed acknowledgement, since Linux 7.2.
+    /// Timer (`idiag_timer`, at 2). Of a TCP socket: 0 none, 1 retransmission, 2 keepalive, 3
+    /// TIME_WAIT, 4 zero-window probe; 5 delayed acknowledgement, since Linux 7.2. Of an SCTP
+    /// association: 0 none, or else its retransmission timer (T3-rtx).
     pub timer: u8,
     /// Number of retransmissions if the timer is 1, of probes if it is 2 or 4 (`idiag_retrans`, at
     /// 3).

@@ -5,10 +5,10 @@ ghost use Rattle.std.specs.Prelude.{◌≡◌, Err};
 ghost use Rattle.netlink_core.specs.Errors.{map_ok};
 ghost use Rattle.netlink_core.specs.Walk.{buffered_attribute};
 ghost use Rattle.sock_diag_attributes.specs.InetAttributes.{inet_attribute_set};
-ghost use Rattle.sock_diag_extras.specs.AnyNla.{any_model, read_any};
-ghost use Rattle.sock_diag_extras.specs.declared.any.nla.AnyNla.TheVariants.{Protocol};
-ghost use Rattle.sock_diag_extras.specs.declared.any.nla.InfoFormat.TheVariants.{Unknown};
-ghost use Rattle.sock_diag_extras.specs.declared.any.nla.Sockets.TheVariants.{Inet};
+ghost use Rattle.sock_diag_any.specs.AnyNla.{any_model, read_any};
+ghost use Rattle.sock_diag_any.specs.declared.nla.AnyNla.TheVariants.{Protocol};
+ghost use Rattle.sock_diag_any.specs.declared.nla.InfoFormat.TheVariants.{Unknown};
+ghost use Rattle.sock_diag_any.specs.declared.nla.Sockets.TheVariants.{Inet};
 ghost use Rattle.sockdiag_c.specs.CheckedKinds.{read_checked};
 ghost use Rattle.sockdiag_c.specs.Family.{StoresDetails};
 ghost use Rattle.sockdiag_c.specs.InetDetails.{inet_family, legacy_memory_struct};
@@ -19,8 +19,8 @@ use crate::family_values::{Memory, set_record};
 use crate::headers::{InetHeader, inet_header};
 use netlink_core::{DecodeError, NlaBuffer};
 use netlink_packet_sock_diag::inet::{INET_RESPONSE_HEADER_LEN, InetResponseHeader};
+use sock_diag_any::{AnyNla, InfoFormat, Sockets};
 use sock_diag_attributes::inet::nlas::NlaView as InetNlaView;
-use sock_diag_extras::any::{AnyNla, InfoFormat, Sockets};
 use sock_diag_values::inet::LegacyMemInfo;
 
 /// Memory of an IPv4 or IPv6 socket in the format of old kernels: `struct inet_diag_meminfo` of
@@ -63,7 +63,8 @@ pub struct InetDetails<'a> {
     pub v6only: Number,
     /// Mark of the socket, `SO_MARK` (`INET_DIAG_MARK`).
     pub mark: Number,
-    /// Traffic control class of the socket's packets (`INET_DIAG_CLASS_ID`).
+    /// Traffic class id (net_cls) of the socket's control group, or the priority of a socket
+    /// without one (`INET_DIAG_CLASS_ID`).
     pub class_id: Number,
     /// Socket memory (`INET_DIAG_SKMEMINFO`).
     pub memory: Memory,

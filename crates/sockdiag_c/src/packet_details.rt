@@ -1,13 +1,13 @@
 //! The contents of a reply about a packet socket, as a C struct.
 
-ghost use Rattle.sock_diag_extras.specs.AnyNla.{any_model};
+ghost use Rattle.sock_diag_any.specs.AnyNla.{any_model};
 ghost use Rattle.sockdiag_c.specs.Family.{StoresDetails};
 ghost use Rattle.sockdiag_c.specs.PacketDetails.{packet_family};
 
 use crate::details::{BYTES, Number, ReplyDetails, Text, store_details};
 use crate::family_values::{Memory, set_record, split_header};
 use netlink_core::{DecodeError, NlaBuffer};
-use sock_diag_extras::any::{AnyNla, Sockets};
+use sock_diag_any::{AnyNla, Sockets};
 use sock_diag_families::packet::{PacketInfo, PacketResponseHeader, PacketRing};
 
 const _: () = prove!(std::mem::size_of::<PacketResponseHeader>() == 16);

@@ -5,8 +5,8 @@ ghost use Rattle.std.specs.Option.{option_or};
 ghost use Rattle.netlink_core.specs.Errors.{map_ok};
 ghost use Rattle.netlink_core.specs.Walk.{buffered_attribute};
 ghost use Rattle.sock_diag_attributes.specs.UnixAttributes.{unix_attribute_set};
-ghost use Rattle.sock_diag_extras.specs.AnyNla.{any_model, read_any};
-ghost use Rattle.sock_diag_extras.specs.declared.any.nla.Sockets.TheVariants.{Unix};
+ghost use Rattle.sock_diag_any.specs.AnyNla.{any_model, read_any};
+ghost use Rattle.sock_diag_any.specs.declared.nla.Sockets.TheVariants.{Unix};
 ghost use Rattle.sockdiag_c.specs.CheckedKinds.{read_checked};
 ghost use Rattle.sockdiag_c.specs.Details.{text_parts};
 ghost use Rattle.sockdiag_c.specs.Family.{StoresDetails};
@@ -18,8 +18,8 @@ use crate::headers::UnixHeader;
 use netlink_core::{DecodeError, NlaBuffer};
 use netlink_packet_sock_diag::unix::UnixResponseHeader;
 use netlink_packet_sock_diag::unix::nlas::NameView;
+use sock_diag_any::{AnyNla, Sockets};
 use sock_diag_attributes::unix::nlas::NlaView as UnixNlaView;
-use sock_diag_extras::any::{AnyNla, Sockets};
 
 /// Everything that a reply contains about a UNIX socket, except the connections that wait to be
 /// accepted.

@@ -1,14 +1,14 @@
 //! The contents of a reply about a vsock socket: its header.
 
 ghost use Rattle.std.specs.Prelude.{◌≡◌, []};
-ghost use Rattle.sock_diag_extras.specs.AnyNla.{any_model};
+ghost use Rattle.sock_diag_any.specs.AnyNla.{any_model};
 ghost use Rattle.sockdiag_c.specs.Family.{HasValues, StoresDetails};
 ghost use Rattle.sockdiag_c.specs.VsockDetails.{vsock_family};
 
 use crate::details::{ReplyDetails, store_details};
 use crate::family_values::split_header;
 use netlink_core::{DecodeError, NlaBuffer};
-use sock_diag_extras::any::{AnyNla, Sockets};
+use sock_diag_any::{AnyNla, Sockets};
 use sock_diag_families::vsock::VsockResponseHeader;
 
 const _: () = prove!(std::mem::size_of::<VsockResponseHeader>() == 32);

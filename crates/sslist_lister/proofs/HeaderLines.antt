@@ -1,8 +1,8 @@
 -- The lines of replies about netlink and XDP sockets.
 use Rattle.std.proofs.Common.{◌≡◌, ℕ, List, Option, refl}
-use Rattle.sock_diag_extras.specs.declared.any.header.AnyHeader.{AnyHeader}
-use Rattle.sock_diag_extras.specs.declared.any.header.AnyHeader.TheVariants as reply
-use Rattle.sock_diag_extras.specs.declared.any.nla.Sockets.TheVariants as about
+use Rattle.sock_diag_any.specs.declared.header.AnyHeader.{AnyHeader}
+use Rattle.sock_diag_any.specs.declared.header.AnyHeader.TheVariants as reply
+use Rattle.sock_diag_any.specs.declared.nla.Sockets.TheVariants as about
 use Rattle.sock_diag_families.specs.declared.netlink.response.NetlinkResponseHeader.{
   NetlinkResponseHeader,
 }

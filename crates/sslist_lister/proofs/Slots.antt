@@ -14,11 +14,11 @@ use Rattle.netlink_core.specs.Attribute.{Attribute, attribute_kind}
 use Rattle.netlink_core.specs.declared.error.DecodeError.{DecodeError}
 use Rattle.sslist_lister.specs.Collected.{first_valid, other_in_item, slot_value}
 use Rattle.sslist_lister.specs.Collected.{Summary, summary_of}
-use Rattle.sock_diag_extras.specs.AnyItems.{Item, item_by, items_in}
-use Rattle.sock_diag_extras.specs.AnyNla.{AnyValue, read_any}
-use Rattle.sock_diag_extras.specs.Pieces.{AttributeOrError, framing_error_of, pieces_in}
-use Rattle.sock_diag_extras.specs.declared.any.nla.AnyNla.{AnyNla}
-use Rattle.sock_diag_extras.specs.declared.any.nla.Sockets.{Sockets}
+use Rattle.sock_diag_any.specs.AnyItems.{Item, item_by, items_in}
+use Rattle.sock_diag_any.specs.AnyNla.{AnyValue, read_any}
+use Rattle.sock_diag_any.specs.Pieces.{AttributeOrError, framing_error_of, pieces_in}
+use Rattle.sock_diag_any.specs.declared.nla.AnyNla.{AnyNla}
+use Rattle.sock_diag_any.specs.declared.nla.Sockets.{Sockets}
 use Rattle.sslist_lister.specs.JsonAttributes.{attributes_members, other_item, valid_members}
 use Rattle.sslist_lister.specs.JsonAttributes.{attribute_members, item_members}
 use Rattle.sslist_texts.proofs.Adding.{appended_texts_concatenate}

@@ -13,11 +13,11 @@ use Rattle.sock_diag_records.specs.declared.constants.TheConstants.{UNIX_DIAG_ME
 use Rattle.sock_diag_families.specs.declared.netlink.TheConstants.{NETLINK_DIAG_MEMINFO}
 use Rattle.sock_diag_families.specs.declared.packet.TheConstants.{PACKET_DIAG_MEMINFO}
 use Rattle.sock_diag_families.specs.declared.xdp.TheConstants.{XDP_DIAG_MEMINFO}
-use Rattle.sock_diag_extras.specs.AnyNla as any
-use Rattle.sock_diag_extras.specs.AnyNla.{AnyValue}
-use Rattle.sock_diag_extras.specs.declared.any.nla.Sockets.{Sockets}
-use Rattle.sock_diag_extras.specs.declared.any.nla.Sockets.TheVariants.{Inet, Netlink, Packet}
-use Rattle.sock_diag_extras.specs.declared.any.nla.Sockets.TheVariants.{Unix, Vsock, Xdp}
+use Rattle.sock_diag_any.specs.AnyNla as any
+use Rattle.sock_diag_any.specs.AnyNla.{AnyValue}
+use Rattle.sock_diag_any.specs.declared.nla.Sockets.{Sockets}
+use Rattle.sock_diag_any.specs.declared.nla.Sockets.TheVariants.{Inet, Netlink, Packet}
+use Rattle.sock_diag_any.specs.declared.nla.Sockets.TheVariants.{Unix, Vsock, Xdp}
 use Rattle.sock_diag_extras.specs.declared.congestion.BbrInfo.{BbrInfo}
 use Rattle.sock_diag_extras.specs.declared.congestion.DctcpInfo.{DctcpInfo}
 use Rattle.sock_diag_extras.specs.declared.congestion.VegasInfo.{VegasInfo}

@@ -11,11 +11,11 @@ use Rattle.netlink_core.specs.Walk.{buffered_attribute}
 use Rattle.netlink_core.specs.declared.attribute.NlaBuffer.{NlaBuffer}
 use Rattle.netlink_core.specs.declared.error.DecodeError.{DecodeError}
 use Rattle.sslist_lister.specs.AttributeFacts.{value_status}
-use Rattle.sock_diag_extras.specs.AnyItems.{Item, items_in}
-use Rattle.sock_diag_extras.specs.AnyNla.{AnyValue, any_model}
-use Rattle.sock_diag_extras.specs.Pieces.{framing_error_of, pieces_in}
-use Rattle.sock_diag_extras.specs.declared.any.nla.AnyNla.{AnyNla}
-use Rattle.sock_diag_extras.specs.declared.any.nla.Sockets.{Sockets}
+use Rattle.sock_diag_any.specs.AnyItems.{Item, items_in}
+use Rattle.sock_diag_any.specs.AnyNla.{AnyValue, any_model}
+use Rattle.sock_diag_any.specs.Pieces.{framing_error_of, pieces_in}
+use Rattle.sock_diag_any.specs.declared.nla.AnyNla.{AnyNla}
+use Rattle.sock_diag_any.specs.declared.nla.Sockets.{Sockets}
 use Rattle.sslist_lister.specs.declared.collected.Attributes.{Attributes}
 use Rattle.sslist_lister.specs.declared.collected.TheConstants.{KINDS}
 

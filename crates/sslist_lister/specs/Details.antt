@@ -28,10 +28,10 @@ use Rattle.sock_diag_records.specs.declared.constants.TheConstants.{INET_DIAG_SK
 use Rattle.sock_diag_records.specs.declared.constants.TheConstants.{INET_DIAG_VEGASINFO}
 use Rattle.sslist_lister.specs.AttributeFacts.{any_facts, is_memory_kind}
 use Rattle.sslist_lister.specs.Collected.{Summary}
-use Rattle.sock_diag_extras.specs.AnyNla.{AnyValue}
-use Rattle.sock_diag_extras.specs.declared.any.header.RawTimer.{RawTimer}
-use Rattle.sock_diag_extras.specs.declared.any.nla.Sockets.{Sockets}
-use Rattle.sock_diag_extras.specs.declared.any.nla.Sockets.TheVariants.{Inet}
+use Rattle.sock_diag_any.specs.AnyNla.{AnyValue}
+use Rattle.sock_diag_any.specs.declared.header.RawTimer.{RawTimer}
+use Rattle.sock_diag_any.specs.declared.nla.Sockets.{Sockets}
+use Rattle.sock_diag_any.specs.declared.nla.Sockets.TheVariants.{Inet}
 
 -- ---- invalid values
 

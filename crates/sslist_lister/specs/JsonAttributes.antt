@@ -11,8 +11,8 @@ use Rattle.sslist_lister.specs.Details.{error_reason}
 use Rattle.sslist_texts.specs.JsonData.{JsonMember, array_member, number_members, object_of}
 use Rattle.sslist_texts.specs.JsonData.{json_text, optional_member, text_member}
 use Rattle.sslist_lister.specs.AttributeFacts.{any_facts}
-use Rattle.sock_diag_extras.specs.AnyNla.{AnyValue}
-use Rattle.sock_diag_extras.specs.declared.any.nla.Sockets.{Sockets}
+use Rattle.sock_diag_any.specs.AnyNla.{AnyValue}
+use Rattle.sock_diag_any.specs.declared.nla.Sockets.{Sockets}
 
 -- ---- attributes without members of their own
 

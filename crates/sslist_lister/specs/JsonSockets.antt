@@ -5,7 +5,7 @@ use Rattle.std.specs.Prelude.{List, [], ◌∷◌, ◌++◌, codes}
 use Rattle.sock_diag_records.specs.declared.inet.response.InetResponseHeader.{InetResponseHeader}
 use Rattle.sock_diag_records.specs.declared.unix.response.UnixResponseHeader.{UnixResponseHeader}
 use Rattle.sock_diag_records.specs.declared.constants.TheConstants.{AF_UNIX}
-use Rattle.sock_diag_extras.specs.declared.any.header.RawTimer.{RawTimer}
+use Rattle.sock_diag_any.specs.declared.header.RawTimer.{RawTimer}
 use Rattle.sslist_texts.specs.Cells.{state_name}
 use Rattle.sslist_texts.specs.JsonData.{JsonMember, address_member, cookie_member}
 use Rattle.sslist_texts.specs.JsonData.{number_members, text_member}

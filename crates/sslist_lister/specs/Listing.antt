@@ -23,15 +23,15 @@ use Rattle.netlink_core.specs.declared.message.TheConstants.{NLMSG_OVERRUN}
 use Rattle.sock_diag_extras.specs.declared.constants.TheConstants.{DCCPDIAG_GETSOCK}
 use Rattle.sock_diag_extras.specs.declared.constants.TheConstants.{TCPDIAG_GETSOCK}
 use Rattle.sslist_lister.specs.Collected.{summary_of}
-use Rattle.sock_diag_extras.specs.AnyHeader.{any_header, header_size, timer_at}
-use Rattle.sock_diag_extras.specs.Pieces.{framing_error_of, pieces_in}
+use Rattle.sock_diag_any.specs.AnyHeader.{any_header, header_size, timer_at}
+use Rattle.sock_diag_any.specs.Pieces.{framing_error_of, pieces_in}
 use Rattle.sslist_lister.specs.Protocol.{protocol_in}
 use Rattle.sslist_lister.specs.Sctp.{is_association}
 use Rattle.sslist_lister.specs.Table.{inet_sockets}
-use Rattle.sock_diag_extras.specs.declared.any.header.AnyHeader.{AnyHeader}
-use Rattle.sock_diag_extras.specs.declared.any.header.AnyHeader.TheVariants as reply
-use Rattle.sock_diag_extras.specs.declared.any.header.RawTimer.{RawTimer}
-use Rattle.sock_diag_extras.specs.declared.any.nla.Sockets.TheVariants as about
+use Rattle.sock_diag_any.specs.declared.header.AnyHeader.{AnyHeader}
+use Rattle.sock_diag_any.specs.declared.header.AnyHeader.TheVariants as reply
+use Rattle.sock_diag_any.specs.declared.header.RawTimer.{RawTimer}
+use Rattle.sock_diag_any.specs.declared.nla.Sockets.TheVariants as about
 use Rattle.sslist_lister.specs.Headings.{list_heading}
 use Rattle.sslist_lister.specs.Lists.{is_repetition}
 use Rattle.sslist_lister.specs.RequestLine.{request_line_if_selected}

@@ -20,7 +20,7 @@ use Rattle.sock_diag_families.specs.declared.vsock.response.VsockResponseHeader.
 }
 use Rattle.sock_diag_families.specs.declared.xdp.response.XdpResponseHeader.{XdpResponseHeader}
 use Rattle.sock_diag_values.specs.declared.inet.mem_info.MemInfo.{MemInfo}
-use Rattle.sock_diag_extras.specs.AnyParts.{memory_of, owner_of, packet_info_of, xdp_info_of}
+use Rattle.sock_diag_any.specs.AnyParts.{memory_of, owner_of, packet_info_of, xdp_info_of}
 use Rattle.sock_diag_records.specs.declared.constants.TheConstants.{SOCK_DGRAM, SOCK_RAW}
 use Rattle.sock_diag_records.specs.declared.constants.TheConstants.{SOCK_SEQPACKET, SOCK_STREAM}
 use Rattle.sock_diag_records.specs.declared.constants.TheConstants.{TCP_CLOSE}

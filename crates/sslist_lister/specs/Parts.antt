@@ -4,7 +4,7 @@ use Rattle.std.specs.Prelude.{ℕ, ◌==◌, if◌then◌else◌, List, [], ◌�
 use Rattle.std.specs.Prelude.{bit_and}
 use Rattle.std.specs.Fmt.{digits}
 use Rattle.byteorder.specs.Endian.{little_number}
-use Rattle.sock_diag_extras.specs.declared.any.header.RawTimer.{RawTimer}
+use Rattle.sock_diag_any.specs.declared.header.RawTimer.{RawTimer}
 use Rattle.sslist_command_line.specs.Options.{shows_detail}
 use Rattle.sslist_command_line.specs.declared.options.Detail.TheVariants.{Timer, Extended}
 use Rattle.sslist_command_line.specs.declared.options.Options.{Options}
@@ -29,8 +29,9 @@ directions state =
     32 ∷ (if bit_and state RCV_SHUTDOWN == 0 then 60 else 45) ∷ 45
     ∷ (if bit_and state SEND_SHUTDOWN == 0 then 62 else 45) ∷ []
 
--- the name of a kind of timer (`idiag_timer`, sock_diag(7)), as ss(8) prints 1 to 4; 5 is the timer
--- of a delayed acknowledgement (IDIAG_TIMER_DELACK) of Linux 7.2 and later
+-- the name of a kind of timer (`idiag_timer`, sock_diag(7)), as ss(8) prints 1 to 4 for a TCP
+-- socket; 5 is the timer of a delayed acknowledgement (IDIAG_TIMER_DELACK) of Linux 7.2 and later.
+-- The timer of an SCTP association has the same name, while ss(8) prints T3_RTX for it.
 abbrev pub timer_name : ℕ → List ℕ
 timer_name kind =
     if kind == 1 then codes "on" else if kind == 2 then codes "keepalive"

@@ -1,7 +1,7 @@
 -- The protocol of an IPv4 or IPv6 socket. `s` is what a reply has in its attributes.
 use Rattle.std.specs.Prelude.{ℕ, ◌==◌, if◌then◌else◌, Bool, false, Option, option_and_then}
 use Rattle.std.specs.Option.{option_map_or, option_or}
-use Rattle.sock_diag_extras.specs.AnyParts.{socket_protocol_of}
+use Rattle.sock_diag_any.specs.AnyParts.{socket_protocol_of}
 use Rattle.sock_diag_records.specs.declared.constants.TheConstants.{INET_DIAG_PROTOCOL}
 use Rattle.sock_diag_records.specs.declared.constants.TheConstants.{IPPROTO_RAW}
 use Rattle.sslist_lister.specs.Collected.{Summary, value_in}

@@ -13,7 +13,7 @@ use Rattle.sock_diag_records.specs.declared.unix.request.TheConstants.{UNIX_REQU
 use Rattle.sslist_lister.specs.Lists.{ComparedContent, first_request, first_with}
 use Rattle.sslist_lister.specs.Lists.{is_repetition}
 use Rattle.sslist_lister.specs.Messages.{MessageParts}
-use Rattle.sock_diag_extras.specs.Pieces.{last_of_kind, pieces_in}
+use Rattle.sock_diag_any.specs.Pieces.{last_of_kind, pieces_in}
 use Rattle.sock_diag_families.specs.declared.vsock.TheConstants.{AF_VSOCK}
 use Rattle.sock_diag_families.specs.declared.xdp.TheConstants.{AF_XDP}
 use Rattle.sslist_command_line.specs.declared.options.Family.{Family}

@@ -1,6 +1,6 @@
--- The addresses of an SCTP association, INET_DIAG_LOCALS and INET_DIAG_PEERS: arrays of `struct
--- sockaddr_storage`, 128 bytes. The texts are those of ss(8), and names in JSON are the kernel's
--- names without the prefixes `sin_` and `sin6_`.
+-- The addresses of an SCTP socket or association, INET_DIAG_LOCALS and INET_DIAG_PEERS: arrays of
+-- `struct sockaddr_storage`, 128 bytes. The texts are those of ss(8), and names in JSON are the
+-- kernel's names without the prefixes `sin_` and `sin6_`.
 use Rattle.std.specs.Prelude.{ℕ, List, [], ◌∷◌, ◌++◌, codes}
 use Rattle.sock_diag_extras.specs.StoredAddress.{ip_of, stored_address}
 use Rattle.sock_diag_extras.specs.declared.stored_address.StoredAddress.{StoredAddress}

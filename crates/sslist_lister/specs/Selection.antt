@@ -3,7 +3,7 @@
 use Rattle.std.specs.Prelude.{Bool, true, ◌&&◌, ◌==◌, None, option_and_then}
 use Rattle.std.specs.Option.{option_map_or}
 use Rattle.sock_diag_records.specs.declared.constants.TheConstants.{AF_INET6, INET_DIAG_MARK}
-use Rattle.sock_diag_extras.specs.AnyParts.{cgroup_id_of, mark_of}
+use Rattle.sock_diag_any.specs.AnyParts.{cgroup_id_of, mark_of}
 use Rattle.sock_diag_extras.specs.declared.constants.TheConstants.{INET_DIAG_CGROUP_ID}
 use Rattle.sock_diag_filters.specs.Postfix.{are_met}
 use Rattle.sock_diag_filters.specs.SocketFacts.{facts_meet}
@@ -14,8 +14,8 @@ use Rattle.sslist_command_line.specs.Options.{lists_protocol, lists_state, lists
 use Rattle.sslist_command_line.specs.declared.options.Options.{Options}
 use Rattle.sslist_lister.specs.declared.line.InetSocket.{InetSocket}
 
--- `socket_facts socket s`: what a filter compares of a socket. No reply says whether the kernel
--- chose the local port.
+-- `socket_facts socket s`: what a filter compares of a socket. No reply says whether the socket was
+-- bound to its local port.
 abbrev pub socket_facts : InetSocket → Summary → SocketFacts
 socket_facts socket s =
     let id = socket.header.socket_id in

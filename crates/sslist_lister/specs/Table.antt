@@ -25,15 +25,15 @@ use Rattle.sslist_lister.specs.Details.{details}
 use Rattle.sslist_lister.specs.Sctp.{inet_state_name}
 use Rattle.sslist_lister.specs.declared.line.InetSocket.{InetSocket}
 use Rattle.sslist_lister.specs.declared.line.TheConstants.{LOCAL_WIDTH, NO_INTERFACE}
-use Rattle.sock_diag_extras.specs.declared.any.nla.Sockets.{Sockets}
-use Rattle.sock_diag_extras.specs.declared.any.nla.Sockets.TheVariants.{Inet}
-use Rattle.sock_diag_extras.specs.declared.any.nla.InfoFormat.{InfoFormat}
-use Rattle.sock_diag_extras.specs.declared.any.nla.InfoFormat.TheVariants.{Mptcp, Sctp, Tcp}
-use Rattle.sock_diag_extras.specs.declared.any.nla.InfoFormat.TheVariants.{Unknown}
-use Rattle.sock_diag_extras.specs.AnyNla.{AnyValue}
-use Rattle.sock_diag_extras.specs.AnyNla as any
-use Rattle.sock_diag_extras.specs.AnyParts.{owner_of, peer_of, queue_lengths_of}
-use Rattle.sock_diag_extras.specs.AnyParts.{socket_name_of}
+use Rattle.sock_diag_any.specs.declared.nla.Sockets.{Sockets}
+use Rattle.sock_diag_any.specs.declared.nla.Sockets.TheVariants.{Inet}
+use Rattle.sock_diag_any.specs.declared.nla.InfoFormat.{InfoFormat}
+use Rattle.sock_diag_any.specs.declared.nla.InfoFormat.TheVariants.{Mptcp, Sctp, Tcp}
+use Rattle.sock_diag_any.specs.declared.nla.InfoFormat.TheVariants.{Unknown}
+use Rattle.sock_diag_any.specs.AnyNla.{AnyValue}
+use Rattle.sock_diag_any.specs.AnyNla as any
+use Rattle.sock_diag_any.specs.AnyParts.{owner_of, peer_of, queue_lengths_of}
+use Rattle.sock_diag_any.specs.AnyParts.{socket_name_of}
 use Rattle.sslist_lister.specs.Collected.{Summary, value_in}
 use Rattle.sock_diag_extras.specs.declared.constants.TheConstants.{UNIX_DIAG_UID}
 

@@ -22,7 +22,7 @@ use Rattle.sock_diag_extras.specs.declared.constants.TheConstants.{TLS_INFO_ZC_R
 use Rattle.sock_diag_filters.specs.Rows.{Text, text_of}
 use Rattle.sslist_lister.specs.Facts.{Facts, both, facts_of_each, flag_facts, json_group}
 use Rattle.sslist_lister.specs.Facts.{no_facts, number_facts, text_facts}
-use Rattle.sock_diag_extras.specs.Pieces.{first_of_kind, pieces_in}
+use Rattle.sock_diag_any.specs.Pieces.{first_of_kind, pieces_in}
 use Rattle.sslist_lister.specs.declared.facts.Shown.{Shown}
 use Rattle.sslist_lister.specs.declared.facts.Shown.TheVariants.{Bits}
 use Rattle.sslist_lister.specs.declared.ulp_info.TheConstants.{FLAG_ROWS, SUBFLOW_ROWS, TLS_ROWS}

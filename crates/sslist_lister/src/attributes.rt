@@ -8,7 +8,7 @@
 
 ghost use Rattle.std.specs.Prelude.{◌≡◌, IfOk, OnOk, Some, codes};
 ghost use Rattle.sock_diag_attributes.specs.NumbersModel.{numbers_view_model};
-ghost use Rattle.sock_diag_extras.specs.AnyNla.{any_model};
+ghost use Rattle.sock_diag_any.specs.AnyNla.{any_model};
 ghost use Rattle.sslist_lister.specs.AttributeFacts.{any_facts, bbr_facts, value_status};
 ghost use Rattle.sslist_lister.specs.AttributeFacts.{dctcp_facts};
 ghost use Rattle.sslist_lister.specs.AttributeFacts.{legacy_memory_facts, memory_facts};
@@ -28,8 +28,8 @@ use crate::family_facts::{
 };
 use crate::tcp::{show_mptcp_info, show_tcp_info};
 use crate::ulp_info::{show_ulp, status_of_ulp};
+use sock_diag_any::{AnyNla, Sockets};
 use sock_diag_attributes::unix::nlas::NumbersView;
-use sock_diag_extras::any::{AnyNla, Sockets};
 use sock_diag_extras::{
     BbrInfo, DctcpInfo, FilterInstruction, Md5Signature, PacketMembership, StoredAddress, VegasInfo,
 };

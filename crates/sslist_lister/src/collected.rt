@@ -14,14 +14,14 @@ ghost use Rattle.sslist_lister.specs.Collected.{HasNone, collected, value_in};
 ghost use Rattle.sslist_lister.specs.Collected.{first_valid, is_valid, other_in_item};
 ghost use Rattle.sslist_lister.specs.Collected.{other_model, slot_value, summary_of};
 ghost use Rattle.sslist_lister.specs.Collected.{with_element};
-ghost use Rattle.sock_diag_extras.specs.AnyItems.{Item};
-ghost use Rattle.sock_diag_extras.specs.AnyNla.{any_model};
-ghost use Rattle.sock_diag_extras.specs.Pieces.{framing_error_of, pieces_in};
+ghost use Rattle.sock_diag_any.specs.AnyItems.{Item};
+ghost use Rattle.sock_diag_any.specs.AnyNla.{any_model};
+ghost use Rattle.sock_diag_any.specs.Pieces.{framing_error_of, pieces_in};
 
 use crate::attributes::status_of;
 use crate::facts::Status;
 use netlink_core::{DecodeError, NlaBuffer};
-use sock_diag_extras::any::{AnyNla, AnyNlas, Rejected, Sockets};
+use sock_diag_any::{AnyNla, AnyNlas, Rejected, Sockets};
 use sock_diag_extras::constants::INET_DIAG_SOCKOPT;
 use std::alloc::{AllocError, Global};
 

@@ -8,7 +8,7 @@ ghost use Rattle.sslist_lister.specs.Parts.{separator, details_after_separator};
 ghost use Rattle.netlink_core.specs.Walk.{buffered_attribute};
 ghost use Rattle.sslist_lister.specs.Collected.{collected, other_model, slot_value};
 ghost use Rattle.sslist_lister.specs.Details.{detail_group, details, invalid_attribute_text};
-ghost use Rattle.sock_diag_extras.specs.AnyNla.{any_model};
+ghost use Rattle.sock_diag_any.specs.AnyNla.{any_model};
 ghost use Rattle.sslist_lister.specs.Details.{other_detail, status_text};
 ghost use Rattle.sslist_lister.specs.Details.{unknown_attribute_text, valid_detail};
 
@@ -18,7 +18,7 @@ use crate::facts::Status;
 use crate::kinds::reason_of;
 use crate::parts::{push_pair, push_shown_cookie, push_shown_timer, separator};
 use netlink_core::{DecodeError, NlaBuffer};
-use sock_diag_extras::any::{AnyNla, RawTimer, Sockets};
+use sock_diag_any::{AnyNla, RawTimer, Sockets};
 use sock_diag_extras::constants::INET_DIAG_ULP_INFO;
 use sock_diag_records::constants::{
     INET_DIAG_BBRINFO, INET_DIAG_CONG, INET_DIAG_DCTCPINFO, INET_DIAG_INFO, INET_DIAG_LOCALS,

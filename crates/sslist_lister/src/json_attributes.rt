@@ -26,7 +26,7 @@ use crate::facts::Status;
 use crate::kinds::reason_of;
 use json::Writer;
 use netlink_core::NlaBuffer;
-use sock_diag_extras::any::Sockets;
+use sock_diag_any::Sockets;
 use sslist_texts::json_writing::{write_numbers, write_optional, write_text};
 use std::alloc::{AllocError, Global};
 

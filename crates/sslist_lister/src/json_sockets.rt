@@ -12,7 +12,7 @@ use crate::kinds::{name_of_inet_kind, name_of_unix_kind};
 use crate::line::InetSocket;
 use crate::sctp::name_of_inet_state;
 use json::Writer;
-use sock_diag_extras::any::RawTimer;
+use sock_diag_any::RawTimer;
 use sock_diag_records::constants::AF_UNIX;
 use sock_diag_records::inet::InetResponseHeader;
 use sock_diag_records::unix::UnixResponseHeader;

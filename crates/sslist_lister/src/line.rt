@@ -9,11 +9,11 @@
 ghost use Rattle.std.specs.Prelude.{◌≡◌, ◌≤◌, ◌++◌, IfOk, OnOk, if◌then◌else◌, length};
 ghost use Rattle.std.specs.Prelude.{◌↔◌, IsTrue, option_and_then, option_map};
 ghost use Rattle.sock_diag_attributes.specs.NameModel.{name_view_model};
-ghost use Rattle.sock_diag_extras.specs.AnyHeader.{any_header, header_size};
-ghost use Rattle.sock_diag_extras.specs.AnyParts.{owner_of, peer_of, queue_lengths_of};
-ghost use Rattle.sock_diag_extras.specs.AnyParts.{socket_name_of};
-ghost use Rattle.sock_diag_extras.specs.Pieces.{framing_error_of, pieces_in};
-ghost use Rattle.sock_diag_extras.specs.declared.any.nla.Sockets.TheVariants.{Unix};
+ghost use Rattle.sock_diag_any.specs.AnyHeader.{any_header, header_size};
+ghost use Rattle.sock_diag_any.specs.AnyParts.{owner_of, peer_of, queue_lengths_of};
+ghost use Rattle.sock_diag_any.specs.AnyParts.{socket_name_of};
+ghost use Rattle.sock_diag_any.specs.Pieces.{framing_error_of, pieces_in};
+ghost use Rattle.sock_diag_any.specs.declared.nla.Sockets.TheVariants.{Unix};
 ghost use Rattle.sslist_lister.specs.Collected.{collected, summary_of, value_in};
 ghost use Rattle.sslist_lister.specs.JsonAttributes.{socket_json};
 ghost use Rattle.sslist_lister.specs.JsonListing.{inet_output, unix_output};
@@ -37,8 +37,8 @@ use crate::protocol::protocol_in;
 use crate::sctp::{is_association, name_of_inet_state};
 use crate::selection::lists_inet;
 use netlink_core::DecodeError;
+use sock_diag_any::{AnyHeader, AnyNla, InfoFormat, RawTimer, Sockets};
 use sock_diag_attributes::unix::nlas::NameView;
-use sock_diag_extras::any::{AnyHeader, AnyNla, InfoFormat, RawTimer, Sockets};
 use sock_diag_extras::constants::UNIX_DIAG_UID;
 use sock_diag_records::constants::{
     INET_DIAG_SKV6ONLY, IPPROTO_SCTP, UNIX_DIAG_NAME, UNIX_DIAG_PEER, UNIX_DIAG_RQLEN,

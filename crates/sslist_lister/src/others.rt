@@ -17,9 +17,9 @@ ghost use Rattle.sslist_lister.specs.Others.{other_columns, other_first_columns}
 ghost use Rattle.sslist_lister.specs.Others.{other_lines, packet_socket, none_if_equal};
 ghost use Rattle.sslist_lister.specs.Others.{user_in, user_kind, vsock_socket};
 ghost use Rattle.sslist_lister.specs.Others.{xdp_address, xdp_socket};
-ghost use Rattle.sock_diag_extras.specs.Pieces.{framing_error_of, pieces_in};
-ghost use Rattle.sock_diag_extras.specs.declared.any.nla.Sockets.{Sockets as SocketsRead};
-ghost use Rattle.sock_diag_extras.specs.declared.any.nla.Sockets.TheVariants as about;
+ghost use Rattle.sock_diag_any.specs.Pieces.{framing_error_of, pieces_in};
+ghost use Rattle.sock_diag_any.specs.declared.nla.Sockets.{Sockets as SocketsRead};
+ghost use Rattle.sock_diag_any.specs.declared.nla.Sockets.TheVariants as about;
 ghost use Rattle.sslist_lister.specs.declared.others.OtherSocket.{OtherSocket as SocketShown};
 
 use crate::attributes::memory_kind;
@@ -31,7 +31,7 @@ use crate::line::LOCAL_WIDTH;
 use crate::parts::NO_TIMER;
 use byteorder::{ByteOrder, LittleEndian};
 use netlink_core::DecodeError;
-use sock_diag_extras::any::{AnyNla, Sockets};
+use sock_diag_any::{AnyNla, Sockets};
 use sock_diag_families::netlink::NetlinkResponseHeader;
 use sock_diag_families::packet::{PACKET_DIAG_INFO, PACKET_DIAG_UID, PacketResponseHeader};
 use sock_diag_families::vsock::VsockResponseHeader;

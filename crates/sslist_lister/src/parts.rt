@@ -7,7 +7,7 @@ ghost use Rattle.sslist_lister.specs.Parts.{pair_detail, separator, timer_if_sho
 ghost use Rattle.sslist_lister.specs.Parts.{timer_name, timer_text};
 
 use byteorder::{ByteOrder, LittleEndian};
-use sock_diag_extras::any::RawTimer;
+use sock_diag_any::RawTimer;
 use sslist_command_line::{Detail, Options};
 use sslist_texts::cells::{push_after, push_hex};
 use std::alloc::AllocError;

@@ -3,14 +3,14 @@
 
 ghost use Rattle.std.specs.Prelude.{◌≡◌, option_map};
 ghost use Rattle.netlink_core.specs.Walk.{buffered_attribute};
-ghost use Rattle.sock_diag_extras.specs.Pieces.{YieldsFirstPiece, first_of_kind, pieces_in};
-ghost use Rattle.sock_diag_extras.specs.Pieces.{last_of_kind};
+ghost use Rattle.sock_diag_any.specs.Pieces.{YieldsFirstPiece, first_of_kind, pieces_in};
+ghost use Rattle.sock_diag_any.specs.Pieces.{last_of_kind};
 
 use netlink_core::{DecodeError, NlaBuffer, NlasIterator};
 
 /// Returns the next attribute, or the error of the remaining bytes. Returns `None` at the end, and
 /// after an error.
-#[tactic(auto, using(sock_diag_extras::proofs::PieceWalk::iterator_step_rules))]
+#[tactic(auto, using(sock_diag_any::proofs::PieceWalk::iterator_step_rules))]
 fn next_piece<'a>(walk: &mut NlasIterator<'a>) -> Option<Result<NlaBuffer<'a>, DecodeError>>
     ensures { YieldsFirstPiece walk.old result walk.new }
 {

@@ -2,12 +2,12 @@
 //! attributes in `found` say.
 
 ghost use Rattle.std.specs.Prelude.{◌≡◌, option_and_then};
-ghost use Rattle.sock_diag_extras.specs.AnyParts.{socket_protocol_of};
+ghost use Rattle.sock_diag_any.specs.AnyParts.{socket_protocol_of};
 ghost use Rattle.sslist_lister.specs.Collected.{collected, value_in};
 ghost use Rattle.sslist_lister.specs.Protocol.{is_for_raw, protocol_in};
 
 use crate::collected::Attributes;
-use sock_diag_extras::any::AnyNla;
+use sock_diag_any::AnyNla;
 use sock_diag_records::constants::{INET_DIAG_PROTOCOL, IPPROTO_RAW};
 
 /// Returns the protocol of the socket that a reply with the attributes `found` is about: that of

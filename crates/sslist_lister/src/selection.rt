@@ -2,14 +2,14 @@
 //! is what the attributes in `found` say.
 
 ghost use Rattle.std.specs.Prelude.{◌≡◌, option_and_then};
-ghost use Rattle.sock_diag_extras.specs.AnyParts.{cgroup_id_of, mark_of};
+ghost use Rattle.sock_diag_any.specs.AnyParts.{cgroup_id_of, mark_of};
 ghost use Rattle.sslist_lister.specs.Collected.{collected, value_in};
 ghost use Rattle.sslist_lister.specs.Selection.{lists_inet, meets_filter, socket_facts};
 
 use crate::collected::Attributes;
 use crate::line::InetSocket;
 use crate::sctp::tcp_state_of;
-use sock_diag_extras::any::AnyNla;
+use sock_diag_any::AnyNla;
 use sock_diag_extras::constants::INET_DIAG_CGROUP_ID;
 use sock_diag_filters::SocketFacts;
 use sock_diag_records::constants::{AF_INET6, INET_DIAG_MARK};

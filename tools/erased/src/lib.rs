@@ -121,6 +121,7 @@ mod netlink_core;
 mod netlink_packet_sock_diag;
 #[cfg(feature = "std")]
 mod program_streams;
+mod sock_diag_any;
 mod sock_diag_attributes;
 mod sock_diag_extras;
 mod sock_diag_families;
@@ -158,7 +159,7 @@ pub use sock_diag_attributes::unix::nlas::{SocketName, UnixNla};
 
 /// Replies about sockets of any family, with everything in them that is known.
 pub mod any {
-    pub use crate::sock_diag_extras::any::*;
+    pub use crate::sock_diag_any::*;
 }
 
 /// What the port leaves raw: all of `struct tcp_info`, more attributes, and constants.

@@ -4,7 +4,7 @@
 
 use super::{assert_debug, assert_text, items};
 use netlink_core::{Emitable, write_new};
-use sock_diag_extras::any::{AnyNlas, AnyReply, InfoFormat};
+use sock_diag_any::{AnyNlas, AnyReply, InfoFormat};
 use sock_diag_families::netlink::NetlinkRequest;
 use sock_diag_families::vsock::VsockRequest;
 use std::alloc::Global;

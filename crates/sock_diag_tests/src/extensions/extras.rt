@@ -4,7 +4,7 @@
 
 use super::{assert_debug, items};
 use netlink_core::{DecodeError, NlaBuffer, NlasIterator};
-use sock_diag_extras::any::{AnyReply, InfoFormat};
+use sock_diag_any::{AnyReply, InfoFormat};
 use sock_diag_extras::{
     AckAttributes, AckView, AttributeRecord, AttributeRecords, BbrInfo, BpfStorage, DctcpInfo,
     FilterInstruction, Md5Signature, MptcpField, MptcpInfoBytes, NestedNlas, PacketMembership,

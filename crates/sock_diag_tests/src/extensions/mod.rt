@@ -2,7 +2,7 @@
 
 use crate::port::{assert_debug, assert_text};
 use netlink_core::NlaBuffer;
-use sock_diag_extras::any::{AnyNla, AnyNlas, Rejected};
+use sock_diag_any::{AnyNla, AnyNlas, Rejected};
 use std::alloc::{AllocError, Global};
 use std::process::Abort;
 

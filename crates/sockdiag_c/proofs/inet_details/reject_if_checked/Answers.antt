@@ -1,7 +1,7 @@
 use Rattle.netlink_core.specs.Walk.{buffered_attribute}
 use Rattle.sock_diag_attributes.specs.InetAttributes.{inet_attribute_set}
-use Rattle.sock_diag_extras.specs.declared.any.nla.InfoFormat.TheVariants.{Unknown}
-use Rattle.sock_diag_extras.specs.declared.any.nla.Sockets.TheVariants.{Inet}
+use Rattle.sock_diag_any.specs.declared.nla.InfoFormat.TheVariants.{Unknown}
+use Rattle.sock_diag_any.specs.declared.nla.Sockets.TheVariants.{Inet}
 use Rattle.sockdiag_c.proofs.CheckedKinds.{rejected, unchecked}
 use Rattle.sockdiag_c.proofs.inet_details.reject_if_checked.Goals as goal
 

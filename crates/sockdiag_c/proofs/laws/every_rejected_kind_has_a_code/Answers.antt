@@ -1,9 +1,9 @@
 use Rattle.std.proofs.Common.{◌∙◌, arith, sym}
 use Rattle.sock_diag_attributes.specs.InetAttributes.{inet_attribute_set}
 use Rattle.sock_diag_attributes.specs.UnixAttributes.{unix_attribute_set}
-use Rattle.sock_diag_extras.specs.AnyNla.{netlink_rows, packet_rows, xdp_rows}
-use Rattle.sock_diag_extras.specs.declared.any.nla.InfoFormat.TheVariants.{Unknown}
-use Rattle.sock_diag_extras.specs.declared.any.nla.Sockets.TheVariants.{Inet, Unix}
+use Rattle.sock_diag_any.specs.AnyNla.{netlink_rows, packet_rows, xdp_rows}
+use Rattle.sock_diag_any.specs.declared.nla.InfoFormat.TheVariants.{Unknown}
+use Rattle.sock_diag_any.specs.declared.nla.Sockets.TheVariants.{Inet, Unix}
 use Rattle.sockdiag_c.proofs.CheckedKinds.{error_is}
 use Rattle.sockdiag_c.proofs.RejectedKinds.{rejected_kind_is_below, rejected_row_is_below}
 use Rattle.sockdiag_c.proofs.laws.every_rejected_kind_has_a_code.Goals as goal

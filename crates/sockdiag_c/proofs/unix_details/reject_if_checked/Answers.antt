@@ -1,6 +1,6 @@
 use Rattle.netlink_core.specs.Walk.{buffered_attribute}
 use Rattle.sock_diag_attributes.specs.UnixAttributes.{unix_attribute_set}
-use Rattle.sock_diag_extras.specs.declared.any.nla.Sockets.TheVariants.{Unix}
+use Rattle.sock_diag_any.specs.declared.nla.Sockets.TheVariants.{Unix}
 use Rattle.sockdiag_c.proofs.CheckedKinds.{rejected, unchecked}
 use Rattle.sockdiag_c.proofs.unix_details.reject_if_checked.Goals as goal
 

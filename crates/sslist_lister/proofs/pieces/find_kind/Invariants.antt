@@ -1,6 +1,6 @@
 use Rattle.std.proofs.Common.{◌≡◌, length}
-use Rattle.sock_diag_extras.specs.Pieces.{first_of_kind, attributes_or_error}
-use Rattle.sock_diag_extras.specs.Pieces.{pieces_left}
+use Rattle.sock_diag_any.specs.Pieces.{first_of_kind, attributes_or_error}
+use Rattle.sock_diag_any.specs.Pieces.{pieces_left}
 use Rattle.sslist_lister.proofs.pieces.find_kind.Given as goal
 
 -- the first match among the remaining pieces is the first match among all pieces

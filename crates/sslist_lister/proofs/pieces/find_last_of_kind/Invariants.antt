@@ -1,7 +1,7 @@
 use Rattle.std.proofs.Common.{◌≡◌, length, option_map}
 use Rattle.netlink_core.specs.Walk.{buffered_attribute}
-use Rattle.sock_diag_extras.specs.Pieces.{attributes_or_error, last_after, last_of_kind}
-use Rattle.sock_diag_extras.specs.Pieces.{pieces_left}
+use Rattle.sock_diag_any.specs.Pieces.{attributes_or_error, last_after, last_of_kind}
+use Rattle.sock_diag_any.specs.Pieces.{pieces_left}
 use Rattle.sslist_lister.proofs.pieces.find_last_of_kind.Given as goal
 
 -- the last match so far, or a later one among the remaining pieces, is the last match among all

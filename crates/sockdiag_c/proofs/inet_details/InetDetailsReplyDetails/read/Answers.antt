@@ -1,9 +1,9 @@
 use Rattle.std.proofs.Common.{sym}
 use Rattle.netlink_core.specs.Walk.{buffered_attribute}
 use Rattle.sock_diag_attributes.specs.InetAttributes.{inet_attribute_set}
-use Rattle.sock_diag_extras.specs.declared.any.nla.InfoFormat.TheVariants.{Unknown}
-use Rattle.sock_diag_extras.specs.declared.any.nla.Sockets.TheVariants.{Inet}
-use Rattle.sock_diag_extras.proofs.AnyAgreement.{inet_errors}
+use Rattle.sock_diag_any.specs.declared.nla.InfoFormat.TheVariants.{Unknown}
+use Rattle.sock_diag_any.specs.declared.nla.Sockets.TheVariants.{Inet}
+use Rattle.sock_diag_any.proofs.AnyAgreement.{inet_errors}
 use Rattle.sockdiag_c.proofs.CheckedKinds.{valid}
 use Rattle.sockdiag_c.proofs.inet_details.InetDetailsReplyDetails.read.Goals as goal
 

@@ -2,9 +2,9 @@ use Rattle.std.proofs.Common.{◌≡◌, ℕ, List, Bool, refl}
 use Rattle.std.specs.Borrow.{Bor}
 use Rattle.sock_diag_values.specs.declared.inet.legacy_mem_info.LegacyMemInfo.{LegacyMemInfo}
 use Rattle.sock_diag_values.specs.declared.inet.mem_info.MemInfo.{MemInfo}
-use Rattle.sock_diag_extras.specs.AnyNla.{any_model}
-use Rattle.sock_diag_extras.specs.declared.any.nla.AnyNla.{AnyNla}
-use Rattle.sock_diag_extras.specs.declared.any.nla.AnyNla.TheVariants as nla
+use Rattle.sock_diag_any.specs.AnyNla.{any_model}
+use Rattle.sock_diag_any.specs.declared.nla.AnyNla.{AnyNla}
+use Rattle.sock_diag_any.specs.declared.nla.AnyNla.TheVariants as nla
 use Rattle.sock_diag_extras.specs.declared.options.SocketOptions.{SocketOptions}
 use Rattle.sockdiag_c.specs.InetDetails.{inet_family}
 use Rattle.sockdiag_c.specs.declared.inet_details.InetDetails.{InetDetails}

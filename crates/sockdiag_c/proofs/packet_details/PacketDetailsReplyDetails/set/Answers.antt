@@ -3,9 +3,9 @@ use Rattle.std.specs.Borrow.{Bor}
 use Rattle.sock_diag_values.specs.declared.inet.mem_info.MemInfo.{MemInfo}
 use Rattle.sock_diag_families.specs.declared.packet.attributes.PacketInfo.{PacketInfo}
 use Rattle.sock_diag_families.specs.declared.packet.attributes.PacketRing.{PacketRing}
-use Rattle.sock_diag_extras.specs.AnyNla.{any_model}
-use Rattle.sock_diag_extras.specs.declared.any.nla.AnyNla.{AnyNla}
-use Rattle.sock_diag_extras.specs.declared.any.nla.AnyNla.TheVariants as nla
+use Rattle.sock_diag_any.specs.AnyNla.{any_model}
+use Rattle.sock_diag_any.specs.declared.nla.AnyNla.{AnyNla}
+use Rattle.sock_diag_any.specs.declared.nla.AnyNla.TheVariants as nla
 use Rattle.sockdiag_c.specs.PacketDetails.{packet_family}
 use Rattle.sockdiag_c.specs.declared.packet_details.PacketDetails.{PacketDetails}
 use Rattle.sockdiag_c.specs.private.Rows.{AddsParts}

@@ -1,8 +1,8 @@
 use Rattle.std.proofs.Common.{sym}
 use Rattle.netlink_core.specs.Walk.{buffered_attribute}
 use Rattle.sock_diag_attributes.specs.UnixAttributes.{unix_attribute_set}
-use Rattle.sock_diag_extras.specs.declared.any.nla.Sockets.TheVariants.{Unix}
-use Rattle.sock_diag_extras.proofs.AnyAgreement.{unix_errors}
+use Rattle.sock_diag_any.specs.declared.nla.Sockets.TheVariants.{Unix}
+use Rattle.sock_diag_any.proofs.AnyAgreement.{unix_errors}
 use Rattle.sockdiag_c.proofs.CheckedKinds.{valid}
 use Rattle.sockdiag_c.proofs.unix_details.UnixDetailsReplyDetails.read.Goals as goal
 

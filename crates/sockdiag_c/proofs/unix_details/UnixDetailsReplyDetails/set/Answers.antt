@@ -3,9 +3,9 @@ use Rattle.std.specs.Borrow.{Bor}
 use Rattle.sock_diag_values.specs.declared.inet.mem_info.MemInfo.{MemInfo}
 use Rattle.sock_diag_values.specs.declared.unix.vfs.Vfs.{Vfs}
 use Rattle.sock_diag_attributes.specs.declared.unix.name.SocketName.{SocketName}
-use Rattle.sock_diag_extras.specs.AnyNla.{any_model}
-use Rattle.sock_diag_extras.specs.declared.any.nla.AnyNla.{AnyNla}
-use Rattle.sock_diag_extras.specs.declared.any.nla.AnyNla.TheVariants as nla
+use Rattle.sock_diag_any.specs.AnyNla.{any_model}
+use Rattle.sock_diag_any.specs.declared.nla.AnyNla.{AnyNla}
+use Rattle.sock_diag_any.specs.declared.nla.AnyNla.TheVariants as nla
 use Rattle.sockdiag_c.specs.UnixDetails.{unix_family}
 use Rattle.sockdiag_c.specs.declared.unix_details.UnixDetails.{UnixDetails}
 use Rattle.sockdiag_c.specs.private.Rows.{AddsParts}

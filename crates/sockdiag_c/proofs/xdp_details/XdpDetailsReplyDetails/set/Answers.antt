@@ -3,9 +3,9 @@ use Rattle.sock_diag_values.specs.declared.inet.mem_info.MemInfo.{MemInfo}
 use Rattle.sock_diag_families.specs.declared.xdp.attributes.XdpInfo.{XdpInfo}
 use Rattle.sock_diag_families.specs.declared.xdp.attributes.XdpStatistics.{XdpStatistics}
 use Rattle.sock_diag_families.specs.declared.xdp.attributes.XdpUmem.{XdpUmem}
-use Rattle.sock_diag_extras.specs.AnyNla.{any_model}
-use Rattle.sock_diag_extras.specs.declared.any.nla.AnyNla.{AnyNla}
-use Rattle.sock_diag_extras.specs.declared.any.nla.AnyNla.TheVariants as nla
+use Rattle.sock_diag_any.specs.AnyNla.{any_model}
+use Rattle.sock_diag_any.specs.declared.nla.AnyNla.{AnyNla}
+use Rattle.sock_diag_any.specs.declared.nla.AnyNla.TheVariants as nla
 use Rattle.sockdiag_c.specs.XdpDetails.{xdp_family}
 use Rattle.sockdiag_c.specs.declared.xdp_details.XdpDetails.{XdpDetails}
 use Rattle.sockdiag_c.specs.private.Rows.{AddsParts}

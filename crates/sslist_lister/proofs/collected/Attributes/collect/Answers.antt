@@ -1,5 +1,5 @@
 use Rattle.std.proofs.Common.{map}
-use Rattle.sock_diag_extras.specs.AnyItems.{items_left}
+use Rattle.sock_diag_any.specs.AnyItems.{items_left}
 use Rattle.sslist_lister.specs.Collected.{other_model}
 use Rattle.sslist_lister.proofs.Slots.{all_is_found, error_is_found}
 use Rattle.sslist_lister.proofs.collected.Attributes.collect.Goals as goal

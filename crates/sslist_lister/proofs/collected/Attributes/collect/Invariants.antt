@@ -1,6 +1,6 @@
 use Rattle.std.proofs.Common.{◌≡◌, ◌++◌, ◌<◌, ℕ, None, flat_map, length, map, slice_index_or}
 use Rattle.std.specs.Option.{option_or}
-use Rattle.sock_diag_extras.specs.AnyItems.{items_in, items_left}
+use Rattle.sock_diag_any.specs.AnyItems.{items_in, items_left}
 use Rattle.sslist_lister.specs.Collected.{first_valid, other_in_item, other_model}
 use Rattle.sslist_lister.specs.Collected.{slot_value}
 use Rattle.sslist_lister.proofs.Slots.{framing_in}

@@ -1,0 +1,5 @@
+mod FirstErrors
+mod Framing
+mod PortKinds
+pub mod AnyAgreement
+pub mod PieceWalk
