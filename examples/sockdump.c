@@ -636,7 +636,9 @@ static int read_argument(const char *argument, struct selection *selection) {
         return selection->name_space = text, 0;
     if (select_kinds(argument, selection) > 0)
         return 0;
-    fputs("sockdump: unknown kind, or a filter without -- before it: ", stderr);
+    fputs(*argument == '-' ? "sockdump: unknown option, or one without its value: "
+                           : "sockdump: unknown kind, or a filter without -- before it: ",
+          stderr);
     return reject(argument, strlen(argument));
 }
 

@@ -280,7 +280,7 @@ static int read_long(struct options *options, const char *argument, const char *
         return select_kinds(options, protocols) == 0 ? 1 : -1;
     }
     if (!is_among(argument, of_lister))
-        return reject_word("unknown option", argument), -1;
+        return reject_word("unknown option, or one without its value", argument), -1;
     options->is_json |= strcmp(argument, "--json") == 0;
     append(&options->lister, argument);
     return 1;

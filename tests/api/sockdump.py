@@ -61,6 +61,7 @@ SECONDS = "sockdump: --every=SECONDS needs a whole number from 1 to 86400\n"
 EVENTS = "sockdump: --events takes tcp, udp or tcp,udp\n"
 NO_KIND = "sockdump: --events takes no KIND, no --every and no FILTER\n"
 UNKNOWN = "sockdump: unknown kind, or a filter without -- before it: {}; try sockdump -h\n"
+NO_VALUE = "sockdump: unknown option, or one without its value: {}; try sockdump -h\n"
 # Arguments, variables of the kernel, the exit status, and standard error.
 FAILURES = [
     (["every"], {}, 2, UNKNOWN.format("every")),
@@ -79,7 +80,7 @@ FAILURES = [
      "sockdump: filter: the filter is not complete at byte 15; try sockdump -h\n"),
     (["--", 257 * "! "], {}, 2, "sockdump: filter: more than 256 conditions, operators and groups "
      "at byte 512: !; try sockdump -h\n"),
-    (["--eventsx"], {}, 2, UNKNOWN.format("--eventsx")),
+    *(([it], {}, 2, NO_VALUE.format(it)) for it in ("--eventsx", "--netns", "-x")),
     (["--netns=/none", "tcp"], {}, 1, "sockdump: /none: No such file or directory\n"),
     *(([f"--netns={it}", "tcp"], {}, 1, f"sockdump: {it}: Invalid argument\n")
       for it in ("/dev/null", "/proc/self/ns/uts")),

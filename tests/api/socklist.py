@@ -204,10 +204,12 @@ REJECTED = [
         (["-Aal"], "al"), (["-A", "inet6"], "inet6"), (["--events="], ""),
         (["--events=none"], "none"), (["-A", "tc"], "tc"), (["-A", "tcpx"], "tcpx"))),
     *((it, f"unknown option: {option}") for it, option in (
+        (["-F", "file"], "-F"), (["-tqh"], "-q"), (["-E=tcp"], "-="),
+        (["--"[:1] + "\x1b"], r"-\x1b"))),
+    *((it, f"unknown option, or one without its value: {option}") for it, option in (
         (["--nope", "--help"], "--nope"), (["-K", "dport = 1", "--nope"], "--nope"),
-        (["-F", "file"], "-F"), (["-tqh"], "-q"), (["-E=tcp"], "-="), (["--every", "1"], "--every"),
-        (["--netns"], "--netns"), (["--tc"], "--tc"), (["--tcpx"], "--tcpx"),
-        (["--utf8=1"], "--utf8=1"), (["--"[:1] + "\x1b"], r"-\x1b"))),
+        (["--every", "1"], "--every"), (["--netns"], "--netns"), (["--tc"], "--tc"),
+        (["--tcpx"], "--tcpx"), (["--utf8=1"], "--utf8=1"))),
     (["-E", "--every=1"], "-E takes no --every"),
     *((it, f"unknown family; families are inet, inet6, unix, link, netlink, vsock and xdp: {name}")
       for it, name in ((["-f", "tipc"], "tipc"), (["-ftcp"], "tcp"), (["--family=x"], "x"))),

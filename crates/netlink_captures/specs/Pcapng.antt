@@ -241,8 +241,9 @@ units_in_second Microseconds = 1000000
 units_in_second Nanoseconds = 1000000000
 
 -- `timed_packet block unit timestamp`: the packet in an enhanced packet block, or its error. The
--- timestamp is the number of units since 1970 (UTC). Its seconds have to fit 32 bits. The captured
--- length is at 20, the original length at 24, and the packet from 28 on.
+-- timestamp is read as the number of units since 1970 (UTC): an offset of the interface, in seconds
+-- (option if_tsoffset), is ignored. Its seconds have to fit 32 bits. The captured length is at 20,
+-- the original length at 24, and the packet from 28 on.
 abbrev pub timed_packet : Block → TimeUnit → ℕ → Result Content CaptureError
 timed_packet block unit timestamp =
     if nat_lt (timestamp / units_in_second unit) (2 ^ 32)

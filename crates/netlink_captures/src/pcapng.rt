@@ -86,7 +86,7 @@ const SIMPLE_PACKET_START: usize = 12;
 /// Offset of the packet in an enhanced or obsolete packet block.
 const ENHANCED_PACKET_START: usize = 28;
 
-/// Greatest length of a block in bytes. It is that of Wireshark.
+/// Greatest length of a block in bytes that is read.
 const MAX_BLOCK_LEN: u32 = 16_777_216;
 
 /// Greatest number of interfaces in a section.

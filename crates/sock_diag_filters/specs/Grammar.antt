@@ -1,5 +1,6 @@
 -- The grammar of a filter's text, which is that of ss(8) (`ssfilter.y` of iproute2), without the
--- names of hosts, services, interfaces and control groups. A word is a list of bytes.
+-- names of hosts, services, interfaces and control groups, families before an address, addresses in
+-- fewer than four numbers, numbers in octal, and backslashes. A word is a list of bytes.
 use Rattle.std.specs.Prelude.{◌≡◌, ℕ, ⊤, List, [], ◌∷◌, ◌++◌, Option, None, Some, bit_or, bit_and}
 use Rattle.std.specs.Prelude.{Bool, true, false, unwrap_or, bit_xor, IsTrue}
 use Rattle.std.specs.Borrow.{Bor}

@@ -39,7 +39,9 @@ pub record Socket : Type 0 where
   pub mark : ℕ
   -- `cgroup_id`
   pub cgroup : ℕ
-  -- `userlocks` lacks SOCK_BINDPORT_LOCK: the kernel chose the local port
+  -- `userlocks` lacks SOCK_BINDPORT_LOCK: the socket itself was not bound to its local port by
+  -- bind(2). The kernel chose the port, or a listening socket accepted the socket. A socket in
+  -- TIME_WAIT counts as such a socket, whatever its port.
   pub is_auto_bound : Bool
 
 -- `have_equal_prefix bits octets others`: the first `bits` bits of `octets` and `others` are equal,
@@ -171,8 +173,8 @@ meets_host host end =
     has_port host.port end.port && address_has_optional_prefix host.prefix end
 
 -- `meets s condition`: the socket `s` meets the condition. `Mark mark mask`: the bits of the
--- socket's mark that are in `mask` are equal to `mark`. `AutoBound`: the kernel chose the socket's
--- local port.
+-- socket's mark that are in `mask` are equal to `mark`. `AutoBound`: the member `is_auto_bound` of
+-- the socket.
 abbrev pub meets : Socket → Condition → Bool
 meets s (conditions.SourcePort comparison port) = compares comparison s.source.port port
 meets s (conditions.DestinationPort comparison port) = compares comparison s.destination.port port

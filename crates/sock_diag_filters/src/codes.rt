@@ -21,7 +21,7 @@ pub(crate) const INET_DIAG_BC_D_GE: u8 = 4;
 /// `INET_DIAG_BC_D_LE`: the remote port is at most the given port.
 pub(crate) const INET_DIAG_BC_D_LE: u8 = 5;
 
-/// `INET_DIAG_BC_AUTO`: the kernel chose the local port.
+/// `INET_DIAG_BC_AUTO`: the socket itself was not bound to its local port.
 pub(crate) const INET_DIAG_BC_AUTO: u8 = 6;
 
 /// `INET_DIAG_BC_S_COND`: the local address and port.

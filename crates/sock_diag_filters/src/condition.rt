@@ -91,7 +91,9 @@ pub enum Condition {
     /// The id of the socket's control group: `INET_DIAG_BC_CGROUP_COND`. A kernel without control
     /// groups rejects it.
     Cgroup(u64),
-    /// The kernel chose the local port: `INET_DIAG_BC_AUTO`.
+    /// The socket itself was not bound to its local port by bind(2): `INET_DIAG_BC_AUTO`. The
+    /// kernel chose the port, or a listening socket accepted the socket. Each socket in TIME_WAIT
+    /// meets the condition too.
     AutoBound,
 }
 

@@ -1,5 +1,5 @@
--- The timer of an IPv4 or IPv6 socket. Its class is the kernel's `idiag_timer`: 0 no timer, 1
--- retransmit, 2 keepalive, 3 time-wait, 4 zero-window probe.
+-- The timer of an IPv4 or IPv6 socket. Its class is the kernel's `idiag_timer`, with the names that
+-- it has for TCP: 0 no timer, 1 retransmit, 2 keepalive, 3 time-wait, 4 zero-window probe.
 use Rattle.std.specs.Prelude.{◌≡◌, ℕ, ◌*◌, ◌/◌, ◌%◌, ◌^◌, nat_lt, if◌then◌else◌, Option, Some, None}
 use Rattle.std.specs.Duration.{as_nanos}
 use Rattle.std.specs.declared.time.Duration.{Duration}

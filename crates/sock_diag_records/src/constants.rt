@@ -269,7 +269,7 @@ pub const INET_DIAG_SKV6ONLY: u16 = 11;
 /// Local addresses of an SCTP socket.
 pub const INET_DIAG_LOCALS: u16 = 12;
 
-/// Remote addresses of an SCTP socket.
+/// Remote addresses of an SCTP association.
 pub const INET_DIAG_PEERS: u16 = 13;
 
 /// Padding.

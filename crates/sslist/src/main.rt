@@ -83,7 +83,7 @@ fn filter_in(rt: &HostRuntime, arguments: &[String]) -> Result<ParsedFilter, Exi
     }
 }
 
-/// Returns whether one of the parts of a filter tests whether the kernel chose the local port.
+/// Returns whether one of the parts of a filter tests whether the socket was bound to its port.
 fn has_auto_bound(parts: &[Part]) -> bool {
     for part in parts {
         if matches!(part, Part::Condition(Condition::AutoBound)) {

@@ -28,8 +28,8 @@ pub pcapng_lengths : (pcapng.MIN_BLOCK_LEN ≡ 12) × (pcapng.MIN_SECTION_HEADER
     × (pcapng.ENHANCED_PACKET_START ≡ 28)
 pcapng_lengths = (refl, refl, refl, refl, refl, refl, refl)
 
--- limits of the reader: that of tcpdump(1) for a packet, that of Wireshark for a block, and its own
--- for the interfaces of a section
+-- limits of the reader: that of tcpdump(1) for a packet, and its own for a block and for the
+-- interfaces of a section
 pub limits : (pcap.MAX_PACKET_LEN ≡ 262144) × (pcapng.MAX_BLOCK_LEN ≡ 16777216)
     × (pcapng.MAX_INTERFACES ≡ 4096)
 limits = (refl, refl, refl)

@@ -28,7 +28,7 @@ pub struct SocketFacts {
     pub mark: Option<u32>,
     /// The id of the control group, if it is known.
     pub cgroup: Option<u64>,
-    /// Whether the kernel chose the local port, if it is known. No reply says so.
+    /// Whether the socket meets [`Condition::AutoBound`], if it is known. No reply says so.
     pub is_auto_bound: Option<bool>,
 }
 

@@ -62,7 +62,7 @@ pub(crate) enum Keyword {
     Not,
     /// The start of a condition that compares this field.
     Field(Field),
-    /// The kernel chose the local port.
+    /// The socket itself was not bound to its local port.
     AutoBound,
     /// The operator of a condition.
     Operator(Operator),

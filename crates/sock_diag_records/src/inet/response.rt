@@ -60,13 +60,14 @@ pub struct InetResponseHeader {
     /// number of pending connections; for other TCP sockets, the bytes that are not yet read; for
     /// UDP and raw sockets, other MPTCP sockets and SCTP associations, the memory in use by the
     /// receive queue in bytes, which exceeds the data (`idiag_rqueue`), little-endian, at offset
-    /// 56.
+    /// 56. A FIN of TCP counts as one byte.
     pub recv_queue: u32,
     /// For a listening TCP or MPTCP socket, and for an SCTP socket that is no association, the
     /// backlog limit; for other TCP sockets, the bytes that are not yet acknowledged; for UDP and
     /// raw sockets, other MPTCP sockets and SCTP associations, the memory in use by packets that
-    /// are being sent, in bytes (`idiag_wqueue`), little-endian, at offset 60. sock_diag(7)
-    /// describes the memory available for sending, which is not what the kernel writes.
+    /// are being sent, in bytes (`idiag_wqueue`), little-endian, at offset 60. A SYN and a FIN of
+    /// TCP count as one byte each. sock_diag(7) describes the memory available for sending, which
+    /// is not what the kernel writes.
     pub send_queue: u32,
     /// User id of the socket's owner (`idiag_uid`), little-endian, at offset 64.
     pub uid: u32,

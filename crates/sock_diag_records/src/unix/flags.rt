@@ -14,7 +14,7 @@ use std::ops::BitOr;
 /// The requested states (`udiag_states` of sock_diag(7)): a set of two bits. The bit of a state is
 /// `1 << state`, with the states `TCP_ESTABLISHED` (1) and `TCP_LISTEN` (10). A parser masks off
 /// all other bits, also the bit of `TCP_CLOSE` (7), the state of sockets that neither listen nor
-/// were ever connected.
+/// were connected, by themselves or by another socket.
 #[derive(Clone, Debug, Drop, PartialEq, Eq)]
 pub struct StateFlags(u32);
 

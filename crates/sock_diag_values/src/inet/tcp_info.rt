@@ -110,9 +110,11 @@ pub struct TcpInfo {
     pub pacing_rate: u64,
     /// Limit on the pacing rate in bytes per second (`tcpi_max_pacing_rate`), at offset 112.
     pub max_pacing_rate: u64,
-    /// Number of acknowledged bytes (`tcpi_bytes_acked`), at offset 120.
+    /// Number of acknowledged bytes (`tcpi_bytes_acked`), at offset 120. A FIN counts as one byte,
+    /// and so does the SYN of the socket that called connect(2).
     pub bytes_acked: u64,
-    /// Number of bytes that were received in order (`tcpi_bytes_received`), at offset 128.
+    /// Number of bytes that were received in order (`tcpi_bytes_received`), at offset 128. A FIN
+    /// counts as one byte.
     pub bytes_received: u64,
     /// Number of sent segments (`tcpi_segs_out`), at offset 136.
     pub segs_out: u32,
