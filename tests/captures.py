@@ -728,12 +728,17 @@ def states_without_a_name():
 
 @table
 def timers():
-    """Each kind of timer has a name, and one above 5 is unknown. Linux 7.2 has the kind 5. The
-    timers expire in 36 milliseconds."""
+    """Each kind of timer has a name, and one above 5 is unknown. Linux 7.2 has the kind 5. SCTP has
+    one timer. The timers expire in 36 milliseconds."""
     names = ("on", "keepalive", "timewait", "persist", "delack", "unknown")
+    of_sctp = association(3, *ASSOCIATION_ATTRIBUTES)
     for kind, name in enumerate(names, 1):
-        reply = f"{INET4[:36]}{kind:02x}{INET4[38:136]}24000000{INET4[144:]}"
-        yield listed(reply), "-oO", [columns("inet", INET4_LINE), f" timer:({name},36ms,0)\n"]
+        for reply, shown, name in (
+            (INET4, columns("inet", INET4_LINE), name),
+            (of_sctp, association_columns("inet", "ESTAB"), "T3_RTX"),
+        ):
+            reply = f"{reply[:36]}{kind:02x}{reply[38:136]}24000000{reply[144:]}"
+            yield listed(reply), "-oO", [shown, f" timer:({name},36ms,0)\n"]
 
 
 @table

@@ -99,5 +99,5 @@ other_detail o sockets other =
 -- order of the kinds, and the unknown and the invalid attributes in the order of the bytes.
 abbrev pub details : Options → RawTimer → List ℕ → Summary → List ℕ
 details o timer cookie s =
-    timer_if_shown o timer ++ cookie_if_shown o cookie
+    timer_if_shown o s.sockets timer ++ cookie_if_shown o cookie
     ++ (flat_map (valid_detail o s.sockets) s.first ++ flat_map (other_detail o s.sockets) s.others)

@@ -5,6 +5,9 @@ use Rattle.std.specs.Prelude.{bit_and}
 use Rattle.std.specs.Fmt.{digits}
 use Rattle.byteorder.specs.Endian.{little_number}
 use Rattle.sock_diag_any.specs.declared.header.RawTimer.{RawTimer}
+use Rattle.sock_diag_any.specs.declared.nla.InfoFormat.TheVariants.{Sctp}
+use Rattle.sock_diag_any.specs.declared.nla.Sockets.{Sockets}
+use Rattle.sock_diag_any.specs.declared.nla.Sockets.TheVariants.{Inet}
 use Rattle.sslist_command_line.specs.Options.{shows_detail}
 use Rattle.sslist_command_line.specs.declared.options.Detail.TheVariants.{Timer, Extended}
 use Rattle.sslist_command_line.specs.declared.options.Options.{Options}
@@ -29,31 +32,34 @@ directions state =
     32 ∷ (if bit_and state RCV_SHUTDOWN == 0 then 60 else 45) ∷ 45
     ∷ (if bit_and state SEND_SHUTDOWN == 0 then 62 else 45) ∷ []
 
--- the name of a kind of timer (`idiag_timer`, sock_diag(7)), as ss(8) prints 1 to 4 for a TCP
--- socket; 5 is the timer of a delayed acknowledgement (IDIAG_TIMER_DELACK) of Linux 7.2 and later.
--- The timer of an SCTP association has the same name, while ss(8) prints T3_RTX for it.
-abbrev pub timer_name : ℕ → List ℕ
-timer_name kind =
+-- `timer_name sockets kind`: the name of a kind of timer (`idiag_timer`, sock_diag(7)) in a reply
+-- about these sockets, as ss(8) prints 1 to 4. 5 is the timer of a delayed acknowledgement
+-- (IDIAG_TIMER_DELACK) of Linux 7.2 and later. SCTP has one timer, that of a retransmission.
+abbrev pub timer_name : Sockets → ℕ → List ℕ
+timer_name (Inet Sctp) kind = codes "T3_RTX"
+timer_name other kind =
     if kind == 1 then codes "on" else if kind == 2 then codes "keepalive"
     else if kind == 3 then codes "timewait" else if kind == 4 then codes "persist"
     else if kind == 5 then codes "delack" else codes "unknown"
 
--- The timer: its kind, the time until it expires, in milliseconds, and the number of retransmits.
--- Nothing if no timer runs. Example: ` timer:(on,200ms,3)`. 44 is the first comma, 41 the closing
--- parenthesis.
-abbrev pub timer_text : RawTimer → List ℕ
-timer_text timer =
+-- `timer_text sockets timer`: the timer in a reply about these sockets: its kind, the time until it
+-- expires, in milliseconds, and the number of retransmits. Nothing if no timer runs. Example:
+-- ` timer:(on,200ms,3)`. 44 is the first comma, 41 the closing parenthesis.
+abbrev pub timer_text : Sockets → RawTimer → List ℕ
+timer_text sockets timer =
     if timer.kind == 0 then []
-    else codes " timer:(" ++ timer_name timer.kind ++ 44 ∷ decimal timer.expires ++ codes "ms,"
-    ++ decimal timer.retransmits ++ 41 ∷ []
+    else codes " timer:(" ++ timer_name sockets timer.kind ++ 44 ∷ decimal timer.expires
+    ++ codes "ms," ++ decimal timer.retransmits ++ 41 ∷ []
 
 -- the timer of a socket that has none
 abbrev pub no_timer : RawTimer
 no_timer = record { kind = 0; retransmits = 0; expires = 0 }
 
--- `timer_if_shown options timer`: the timer, if its group of details is shown, or else nothing
-abbrev pub timer_if_shown : Options → RawTimer → List ℕ
-timer_if_shown options timer = if shows_detail options Timer then timer_text timer else []
+-- `timer_if_shown options sockets timer`: the timer in a reply about these sockets, if its group of
+-- details is shown, or else nothing
+abbrev pub timer_if_shown : Options → Sockets → RawTimer → List ℕ
+timer_if_shown options sockets timer =
+    if shows_detail options Timer then timer_text sockets timer else []
 
 -- `cookie_if_shown options cookie`: ` sk:` and the cookie as a little-endian number of eight bytes,
 -- in hexadecimal digits, lowercase (`false`), if the group of details of `-e` is shown, or else

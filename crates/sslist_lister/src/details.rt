@@ -65,7 +65,7 @@ fn push_selected(
     ensures { OnOk result (text.new.items ≡ text.old.items
         ++ details options.entry timer.now cookie.now (collected found.now)) }
 {
-    push_shown_timer(text, options, timer)?;
+    push_shown_timer(text, options, found.sockets, timer)?;
     push_shown_cookie(text, options, cookie)?;
     push_valid(text, options, found.sockets, &found.first.slots)?;
     push_others(text, options, found.sockets, found.others.as_slice())

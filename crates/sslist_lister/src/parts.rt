@@ -7,7 +7,7 @@ ghost use Rattle.sslist_lister.specs.Parts.{pair_detail, separator, timer_if_sho
 ghost use Rattle.sslist_lister.specs.Parts.{timer_name, timer_text};
 
 use byteorder::{ByteOrder, LittleEndian};
-use sock_diag_any::RawTimer;
+use sock_diag_any::{InfoFormat, RawTimer, Sockets};
 use sslist_command_line::{Detail, Options};
 use sslist_texts::cells::{push_after, push_hex};
 use std::alloc::AllocError;
@@ -33,49 +33,52 @@ pub(crate) fn separator(options: Options<'_>) -> &'static [u8]
     if options.one_line { b"" } else { b"\n\t" }
 }
 
-/// Appends the timer if one runs and the group of details `Timer` is shown: a space and
-/// `timer:(on,200ms,3)`, for a timer of the kind `on`, 200 milliseconds until it expires and 3
-/// retransmits.
+/// Appends the timer in a reply about these sockets, if one runs and the group of details `Timer`
+/// is shown: a space and `timer:(on,200ms,3)`, for a timer of the kind `on`, 200 milliseconds until
+/// it expires and 3 retransmits.
 pub(crate) fn push_shown_timer(
     text: &mut Vec<u8>,
     options: Options<'_>,
+    sockets: Sockets,
     timer: &RawTimer,
 ) -> Result<(), AllocError>
     ensures { OnOk result (text.new.items
-        ≡ text.old.items ++ timer_if_shown options.entry timer.now) }
+        ≡ text.old.items ++ timer_if_shown options.entry sockets timer.now) }
 {
     if !options.shows(Detail::Timer) {
         return Ok(());
     }
-    push_timer(text, timer)
+    push_timer(text, sockets, timer)
 }
 
 /// Appends the kind of the timer, the time until it expires, and the number of retransmits. Appends
 /// nothing if no timer runs.
-fn push_timer(text: &mut Vec<u8>, timer: &RawTimer) -> Result<(), AllocError>
-    ensures { OnOk result (text.new.items ≡ text.old.items ++ timer_text timer.now) }
+fn push_timer(text: &mut Vec<u8>, sockets: Sockets, timer: &RawTimer) -> Result<(), AllocError>
+    ensures { OnOk result (text.new.items ≡ text.old.items ++ timer_text sockets timer.now) }
 {
     if timer.kind == 0 {
         return Ok(());
     }
     text.extend_from_slice(b" timer:(")?;
-    text.extend_from_slice(name_of_timer(timer.kind))?;
+    text.extend_from_slice(name_of_timer(sockets, timer.kind))?;
     push_after(text, b",", timer.expires.into())?;
     push_after(text, b"ms,", timer.retransmits.into())?;
     Ok(text.push(b')')?)
 }
 
-/// Returns the name of a kind of timer (`idiag_timer`, sock_diag(7)), as ss(8) prints 1 to 4. 5 is
-/// the timer of a delayed acknowledgement (`IDIAG_TIMER_DELACK`) of Linux 7.2 and later.
-fn name_of_timer(kind: u8) -> &'static [u8]
-    ensures { result.now ≡ timer_name kind }
+/// Returns the name of a kind of timer (`idiag_timer`, sock_diag(7)) in a reply about these
+/// sockets, as ss(8) prints 1 to 4. 5 is the timer of a delayed acknowledgement
+/// (`IDIAG_TIMER_DELACK`) of Linux 7.2 and later. SCTP has one timer, that of a retransmission.
+fn name_of_timer(sockets: Sockets, kind: u8) -> &'static [u8]
+    ensures { result.now ≡ timer_name sockets kind }
 {
-    match kind {
-        1 => b"on",
-        2 => b"keepalive",
-        3 => b"timewait",
-        4 => b"persist",
-        5 => b"delack",
+    match (sockets, kind) {
+        (Sockets::Inet(InfoFormat::Sctp), _) => b"T3_RTX",
+        (_, 1) => b"on",
+        (_, 2) => b"keepalive",
+        (_, 3) => b"timewait",
+        (_, 4) => b"persist",
+        (_, 5) => b"delack",
         _ => b"unknown",
     }
 }
