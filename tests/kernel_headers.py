@@ -297,7 +297,10 @@ def about_comments():
 
 def about_numbers():
     """Yields the questions about constants and sizes of structs in the comments of the C header,
-    each with the number that the comment has."""
+    and about the sizes of `tcp_info` in KERNELS.md, each with the number that is there."""
+    page = (CRATES.parent / "docs/KERNELS.md").read_text(encoding="utf-8")
+    yield from ((f"END(tcp_info, {member})", int(size))
+                for size, member in re.findall(r"(?m)^\| (\d+) \| `(tcpi_\w+)`", page))
     text = HEADER.read_text(encoding="utf-8")
     sizes = re.findall(r"(\d+) +/\* Size of struct (\w+) in bytes", text)
     yield from ((f"SIZE({struct})", int(size)) for size, struct in sizes)
@@ -328,7 +331,7 @@ def comment_errors():
     grown = re.findall(r"in Linux (\d+)\.(\d+)\. Later versions of this header append", text)
     if [tuple(map(int, it)) for it in grown] != [KNOWN, KNOWN]:
         wrong.append(f"the structs that grow are those of {grown} in comments of the C header")
-    wrong += [f"{one}: {found[one]} in the headers, {ours} in a comment of the C header"
+    wrong += [f"{one}: {found[one]} in the headers, {ours} in a comment or in KERNELS.md"
               for one, ours in asked if found.get(one, ours) != ours]
     return len(found), wrong
 

@@ -136,6 +136,8 @@ def test_sslist(program):
     no_family = b"sslist: -f without a family; try sslist --help\n"
     no_text = rb"sslist: argument %s is not valid UTF-8; rename the file, or write sslist <FILE\n"
     captioned = caption(CAPTURE) + table
+    page = (TOP / "man/sslist.1").read_text(encoding="utf-8")
+    assert f".Ql {caption('FILE').decode().strip()} " in page, "the caption in sslist.1"
     for arguments, status, printed, errors in [
         ([], 1, b"", b"sslist: .*\n"), ([b"\xff"], 2, b"", no_text % rb"\\xff"),
         ([b"a" * 4999 + b"\xff"], 2, b"", no_text % (b"a" * 4999 + rb"\\xff")),

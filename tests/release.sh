@@ -114,6 +114,9 @@ fi
 mkdir unpacked staged prefix packages
 tar -xzf "first/$users.tar.gz" -C unpacked
 unpacked=$work/unpacked/$users
+for file in "$unpacked"/bin/*; do
+    [ -z "$(nm "$file" 2>/dev/null)" ] || fail "$file is not stripped"
+done
 SHARED=no LIBDIR=lib64 DESTDIR=$work/staged "$unpacked/tools/install" /usr >/dev/null
 "$unpacked/tools/install" "$work/prefix" >/dev/null
 
@@ -303,6 +306,23 @@ mv missing one/crates.txt
 if release 12 1 refused; then fail "it releases with an edit that is not rejected"; fi
 [ ! -e refused ] || fail "it packs a release that it refuses"
 release 12 0 released
+# For arm64, by stand-ins of cargo, which has to link statically, and of the compiler.
+mkdir one/out/arm64 for_arm64
+cp one/crates/sockdiag_c/out/libsockdiag_c.a one/out/arm64
+cat >for_arm64/cargo <<END
+#!/bin/sh
+[ "\$RUSTFLAGS" = '-C target-feature=+crt-static' ] || exit 1
+built=\$CARGO_TARGET_DIR/aarch64-unknown-linux-gnu/release
+mkdir -p "\$built" && cp $work/one/out/static/* "\$built"
+END
+printf '#!/bin/sh\necho /\n' >for_arm64/rustc
+for tool in gcc:cc strip:strip; do
+    printf '#!/bin/sh\nexec %s "$@"\n' "${tool#*:}" >"for_arm64/aarch64-linux-gnu-${tool%:*}"
+done
+chmod +x for_arm64/*
+(PATH=$work/for_arm64:$PATH && release 12 0 both) || fail "a release for arm64"
+[ -e "both/sockdiag-$version-aarch64-linux.tar.gz" ] || fail "no archive for arm64"
+rm -r one/out/arm64
 CFLAGS='-w -O2' LDFLAGS='-lc -w' release 12 0 with_flags
 diff "released/$users.tar.gz" "with_flags/$users.tar.gz" || fail "-w or -lc changes the archive"
 for file in bin/sockdiag bin/sslist lib/libsockdiag.a; do

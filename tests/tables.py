@@ -196,6 +196,12 @@ def json_errors(sslist):
         found, within = members_of(manual_section(page, heading))
         yield from differences(page, found, members[family])
         yield from differences(page, within, inner.get(family, {}))
+    source = "".join(it.read_text("utf-8") for it in TOP.glob("crates/sslist*/src/**/*.rt"))
+    others = {*re.findall(r"(?m)^\.Cm (\w+)", text)} - {"true", "false"}
+    yield from ((page, f"no source has {it}") for it in others if f'"{it}"' not in source)
+    form = r"(?m)^\.It Cm (\w+info)$\n(?:.*\n)?\.Pq Dv \w+_DIAG_(\w+)"
+    yield from ((page, f"{it} is not of {name}") for it, name in re.findall(form, text)
+                if it.upper() != name)
 
 
 def diagnostic_errors(program):
@@ -239,6 +245,8 @@ def option_errors(program):
         yield from ((f"man/{program}.1", f"no source has the option {it}") for it in names - read
                     if it[1] == "-")
     yield from ((f"man/{program}.1", f"the option {it} is missing") for it in shown - known)
+    yield from ((f"man/{program}.1", f"no source has the option -{it}")
+                for it in re.findall(r"(?m)^\.Fl (-\w+)", page) if f"-{it}" not in read)
 
 
 def line_errors():
@@ -247,6 +255,13 @@ def line_errors():
     names = re.findall(r"(?!and\b)\b\w+", usage.partition("Names: ")[2].partition(", which")[0])
     names_shown = [spans(row[0]) for row in rows(section(page, "Lines and answers"), "name ")]
     yield from differences(page, [it for found in names_shown for it in found], names)
+    manual = (TOP / "man/sockdiag.1").read_text(encoding="utf-8")
+    listed = re.findall(r"(?m)^\.It (.*)$", manual.partition("names are:")[2].partition(".El")[0])
+    yield from differences("man/sockdiag.1", " , ".join(listed).split(" , "), names)
+    positions = [spot for row in rows(section(page, "Lines and answers"), "position")[2:]
+                 for spot in row[0].split(", ")]
+    if positions != [str(number) for number in range(1, len(positions) + 1)]:
+        yield page, f"positions: {positions}"
     stored = (TOP / "crates/sockdiag/stdin").read_text(encoding="utf-8").splitlines()
     yield from (("tests/help/sockdiag", f"not in crates/sockdiag/stdin: {line}")
                 for line in re.findall(r"(?m)^    (\w+ .*)$", usage) if line not in stored)

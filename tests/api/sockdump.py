@@ -220,6 +220,7 @@ def test_usage(runs, files):
     page = (TOP / "man/sockdump.1").read_text("utf-8")
     used, known = ({*re.findall(r"\w+", it.lower())} for it in (usage.decode(), page))
     compare("words of the usage that the manual page lacks", used - known - {"usage"}, set())
+    compare("link type", re.findall(r"link type (\d+)", page), [str(FILE_HEADER[20])])
     kinds = sorted({name for name, *_ in REQUESTS})
     for found in (re.findall(r"(?m)^\.It Cm (\w+)$", page),
                   re.findall(r"[a-z]+", usage.decode().partition("KIND is")[2].split(".")[0])):
