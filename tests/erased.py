@@ -258,7 +258,7 @@ def differences(name, crate, source, erased, counts):
     changes = CHANGES
     if crate in PROGRAMS:
         changes = CHANGES + CHANGES_OF_PROGRAMS
-    elif crate == eraser.TESTS:
+    elif crate in eraser.TESTS:
         changes = ALL_CHANGES
     changes = [tuple(it.replace("OWN", crate) for it in change) for change in changes]
     i = j = 0

@@ -1,7 +1,5 @@
-//! The tests of the libraries of sock_diag(7): the port and its extensions.
+//! The tests of the port.
 #![tactic(auto)]
 
-#[cfg(test)]
-mod extensions;
 #[cfg(test)]
 mod port;

@@ -115,6 +115,9 @@ mod owned;
 
 mod attribute_lists;
 mod exact_values;
+#[cfg(all(test, feature = "alloc"))]
+#[allow(unused)]
+mod extension_tests;
 #[cfg(feature = "std")]
 mod netlink_captures;
 mod netlink_core;

@@ -70,7 +70,7 @@ fn cells<'a>(rt: &impl Abort, alloc: Global, front: &str, row: &'a str) -> (Vec<
 }
 
 /// Asserts that two texts are equal.
-pub(crate) fn assert_text(rt: &impl Abort, shown: &str, text: &str) {
+fn assert_text(rt: &impl Abort, shown: &str, text: &str) {
     assert!(rt; shown == text, "{shown}");
 }
 
@@ -110,7 +110,7 @@ fn debug_text<T: Debug>(rt: &impl Abort, alloc: Global, value: &T) -> String {
 }
 
 /// Asserts that `Debug` prints the value as this text.
-pub(crate) fn assert_debug<T: Debug>(rt: &impl Abort, alloc: Global, value: &T, text: &str) {
+fn assert_debug<T: Debug>(rt: &impl Abort, alloc: Global, value: &T, text: &str) {
     assert_text(rt, debug_text(rt, alloc, value).as_str(), text);
 }
 

@@ -1,14 +1,25 @@
 //! The tests of the extensions: replies of any family, newer attributes and filters.
 
-use crate::port::{assert_debug, assert_text};
 use netlink_core::NlaBuffer;
 use sock_diag_any::{AnyNla, AnyNlas, Rejected};
 use std::alloc::{AllocError, Global};
+use std::fmt::Debug;
 use std::process::Abort;
 
 mod any;
 mod extras;
 mod filters;
+
+/// Asserts that two texts are equal.
+fn assert_text(rt: &impl Abort, shown: &str, text: &str) {
+    assert!(rt; shown == text, "{shown}");
+}
+
+/// Asserts that `Debug` prints the value as this text.
+fn assert_debug<T: Debug>(rt: &impl Abort, alloc: Global, value: &T, text: &str) {
+    let shown = format!(in alloc; "{value:?}").expect(rt, "memory");
+    assert_text(rt, shown.as_str(), text);
+}
 
 /// Returns the `Debug` output of what each attribute says, or the kind and the error of a rejected
 /// one.

@@ -1,0 +1,5 @@
+//! The tests of the extension crates.
+#![tactic(auto)]
+
+#[cfg(test)]
+mod extensions;
