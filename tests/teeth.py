@@ -429,7 +429,9 @@ ROWS = [
         (("crates/netlink_core/src/lib.rt", "", "\n#[must_use]\npub fn planted() {}\n"),)),
     *(Row(ERASED, (f"planted: {it.split(' *')[0]}",), (LIBRARY, *ERASER), it, "ar")
       for it in ("cargo build *", "cargo test --offline --no-default-features",
-                 "cargo test --offline --features c", "cargo doc *", "cargo clippy --offline *",
+                 "cargo test --offline --features c", "cargo doc *",
+                 "cargo clippy --offline --features c *",
+                 "cargo clippy --offline --no-default-features *",
                  "captures.py *", "programs.py *", "kernels.py *", "c_api.sh")),
     *(Row(COMPARISON, (reported,), BUILT, fails) for reported, fails in (
         ("the answers to many lines differ", "sockdiag"),

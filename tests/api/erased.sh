@@ -43,6 +43,7 @@ quiet env RUSTDOCFLAGS='-D warnings' cargo doc --offline --no-deps
 # clippy also reports functions of Rust's library that are newer than the package's `rust-version`.
 if cargo clippy --version >/dev/null 2>&1; then
     quiet cargo clippy --offline --features c -- -D warnings
+    quiet cargo clippy --offline --no-default-features -- -D warnings
 else
     echo "erased: skipped: the minimal version of Rust: no cargo clippy"
 fi

@@ -90,6 +90,8 @@
 #![allow(dead_code, unused_imports, unused_labels, private_bounds)]
 // The sources have the forms that the prover reads best.
 #![allow(clippy::style, clippy::complexity, clippy::manual_unwrap_or_default)]
+// Without a heap nothing has to be dropped.
+#![cfg_attr(not(feature = "alloc"), allow(clippy::drop_non_drop, clippy::forget_non_drop))]
 
 #[cfg(feature = "alloc")]
 extern crate alloc;
