@@ -9,8 +9,9 @@ use Rattle.json.proofs.Printed.Trees.{document-print}
 use Rattle.sock_diag_attributes.specs.declared.unix.name.SocketName.{SocketName}
 use Rattle.sock_diag_attributes.specs.declared.unix.name.SocketName.TheVariants.{Abstract, Pathname}
 use Rattle.sslist_texts.specs.JsonData.{bytes_member, json_text}
-use Rattle.sslist_lister.specs.JsonNames.{name_members}
 use Rattle.sslist_texts.specs.JsonData.{text_member}
+use Rattle.sslist_facts.specs.Facts.{bytes_facts}
+use Rattle.sslist_lister.specs.AttributeFacts.{name_bytes}
 use Rattle.sslist_lister.specs.private.JsonNames.{HaveSameText, bytes_of_name}
 
 -- the object with one member, a string
@@ -74,8 +75,8 @@ path_is_not_abstract : (p a : List ℕ) → slice_index p 0 ≡ 112 → slice_in
 path_is_not_abstract p a first other = other_first p a (λ same. omega (arith, first, other, same))
 
 names_differ : (b c : List ℕ)
-    → HaveSameText (name_members (Pathname b)) (name_members (Abstract c)) → ⊥
-unfolding bytes_member
+    → HaveSameText (name_bytes (Pathname b)).members (name_bytes (Abstract c)).members → ⊥
+unfolding bytes_member bytes_facts
 names_differ b c =
     other_kind (codes "path") (codes "path_hex") (codes "abstract") (codes "abstract_hex") b c
     (path_is_not_abstract _ _ refl refl) (path_is_not_abstract _ _ refl refl)
@@ -85,8 +86,8 @@ names_differ b c =
 -- Names with the same text are equal.
 pub names_with_same_text : (n m : SocketName (List ℕ)) → IsBytes (bytes_of_name n)
     → IsBytes (bytes_of_name m)
-    → HaveSameText (name_members n) (name_members m) → n ≡ m
-unfolding bytes_member
+    → HaveSameText (name_bytes n).members (name_bytes m).members → n ≡ m
+unfolding bytes_member bytes_facts
 names_with_same_text (Pathname b) (Pathname c) low_b low_c e =
     ap Pathname (same_kind (codes "path") (codes "path_hex") b c path_is_not_hex low_b low_c
     (is_utf8 b) (is_utf8 c) e)

@@ -5,9 +5,6 @@ pub mod Packets
 pub mod Progress
 pub mod Failing
 pub mod Slots
-pub mod FactItems
 pub mod HeaderLines
-pub mod Rows
 pub mod CellWidths
-pub mod RecordLists
 pub mod JsonNames

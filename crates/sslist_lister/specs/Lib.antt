@@ -7,19 +7,8 @@ pub mod Protocol
 pub mod Sctp
 pub mod Selection
 pub mod Table
-pub mod RecordFacts
-pub mod Md5Keys
-pub mod SctpAddresses
-pub mod FilterProgram
-pub mod Memberships
 pub mod UlpInfo
-pub mod Rows
-pub mod Facts
-pub mod Tcp
-pub mod TcpRows
-pub mod FamilyFacts
 pub mod AttributeFacts
-pub mod NumberNames
 pub mod Collected
 pub mod Details
 pub mod RequestLine
@@ -29,7 +18,6 @@ pub mod Explanation
 pub mod Diagnostics
 pub mod Run
 pub mod Headings
-pub mod JsonNames
 pub mod JsonAttributes
 pub mod JsonSockets
 pub mod JsonOthers

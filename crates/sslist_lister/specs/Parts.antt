@@ -1,7 +1,6 @@
 -- Details of a line. Texts are lists of ASCII codes: 32 is a space, 44 a comma, 41 a closing
 -- parenthesis.
 use Rattle.std.specs.Prelude.{ℕ, ◌==◌, if◌then◌else◌, List, [], ◌∷◌, ◌++◌, false, codes, decimal}
-use Rattle.std.specs.Prelude.{bit_and}
 use Rattle.std.specs.Fmt.{digits}
 use Rattle.byteorder.specs.Endian.{little_number}
 use Rattle.sock_diag_any.specs.declared.header.RawTimer.{RawTimer}
@@ -11,7 +10,6 @@ use Rattle.sock_diag_any.specs.declared.nla.Sockets.TheVariants.{Inet}
 use Rattle.sslist_command_line.specs.Options.{shows_detail}
 use Rattle.sslist_command_line.specs.declared.options.Detail.TheVariants.{Timer, Extended}
 use Rattle.sslist_command_line.specs.declared.options.Options.{Options}
-use Rattle.sslist_lister.specs.declared.parts.TheConstants.{RCV_SHUTDOWN, SEND_SHUTDOWN}
 
 -- `hex_detail name number`: a space, the name, a colon, `0x` and a number in hexadecimal digits
 -- (`digits 16 false`: in lowercase, without leading zeros)
@@ -23,14 +21,6 @@ hex_detail name number = 32 ∷ name ++ codes ":0x" ++ digits 16 false number
 abbrev pub pair_detail : List ℕ → ℕ → ℕ → List ℕ
 pair_detail name first second =
     32 ∷ name ++ codes ":(" ++ decimal first ++ 44 ∷ decimal second ++ 41 ∷ []
-
--- `directions state`: a space, and the directions that are not shut down, by the bits of the state
--- (`sk_shutdown` of the kernel): `<->` if none is. Instead of `<` (60) it has `-` (45) if receiving
--- is shut down, and instead of `>` (62) if sending is.
-abbrev pub directions : ℕ → List ℕ
-directions state =
-    32 ∷ (if bit_and state RCV_SHUTDOWN == 0 then 60 else 45) ∷ 45
-    ∷ (if bit_and state SEND_SHUTDOWN == 0 then 62 else 45) ∷ []
 
 -- `timer_name sockets kind`: the name of a kind of timer (`idiag_timer`, sock_diag(7)) in a reply
 -- about these sockets, as ss(8) prints 1 to 4. 5 is the timer of a delayed acknowledgement

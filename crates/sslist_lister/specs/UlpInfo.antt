@@ -19,12 +19,12 @@ use Rattle.sock_diag_extras.specs.declared.constants.TheConstants.{INET_ULP_INFO
 use Rattle.sock_diag_extras.specs.declared.constants.TheConstants.{INET_ULP_INFO_TLS}
 use Rattle.sock_diag_extras.specs.declared.constants.TheConstants.{TLS_INFO_RX_NO_PAD}
 use Rattle.sock_diag_extras.specs.declared.constants.TheConstants.{TLS_INFO_ZC_RO_TX}
-use Rattle.sock_diag_filters.specs.Rows.{Text, text_of}
-use Rattle.sslist_lister.specs.Facts.{Facts, both, facts_of_each, flag_facts, json_group}
-use Rattle.sslist_lister.specs.Facts.{no_facts, number_facts, text_facts}
+use Rattle.sslist_facts.specs.Rows.{Text, text_of}
+use Rattle.sslist_facts.specs.Facts.{Facts, both, facts_of_each, flag_facts, json_group}
+use Rattle.sslist_facts.specs.Facts.{no_facts, number_facts, text_facts}
 use Rattle.sock_diag_any.specs.Pieces.{first_of_kind, pieces_in}
-use Rattle.sslist_lister.specs.declared.facts.Shown.{Shown}
-use Rattle.sslist_lister.specs.declared.facts.Shown.TheVariants.{Bits}
+use Rattle.sslist_facts.specs.declared.facts.Shown.{Shown}
+use Rattle.sslist_facts.specs.declared.facts.Shown.TheVariants.{Bits}
 use Rattle.sslist_lister.specs.declared.ulp_info.TheConstants.{FLAG_ROWS, SUBFLOW_ROWS, TLS_ROWS}
 use Rattle.sslist_lister.specs.declared.ulp_info.TheConstants.{TOKEN_ROWS}
 use Rattle.sslist_lister.specs.declared.ulp_info.UlpField.{UlpField}

@@ -1,3 +1,2 @@
 -- Lemmas about the definitions.
-pub mod FactTokens
 pub mod Constants

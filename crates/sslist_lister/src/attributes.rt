@@ -1,44 +1,41 @@
-//! The facts of the attributes of a reply. Those of larger values are in modules of their own, such
-//! as `tcp` and `family_facts`. A function of this module that appends to a sink may fail: then an
-//! allocation failed, and the content of the sink is not specified.
+//! The facts of the attributes of a reply, by the kinds of their values ([`sslist_facts`]). A
+//! function of this module that appends to a sink may fail: then an allocation failed, and the
+//! content of the sink is not specified.
 //!
 //! In the contracts, `AddsFacts old new facts` states that the sink shows these facts after what it
 //! showed before. `S.content sink.old` and `S.content sink.new` are what the sink shows before and
 //! after the call. `any_model value.now` is what an attribute says.
 
 ghost use Rattle.std.specs.Prelude.{◌≡◌, IfOk, OnOk, Some, codes};
+ghost use Rattle.sock_diag_attributes.specs.NameModel.{name_view_model};
 ghost use Rattle.sock_diag_attributes.specs.NumbersModel.{numbers_view_model};
 ghost use Rattle.sock_diag_any.specs.AnyNla.{any_model};
-ghost use Rattle.sslist_lister.specs.AttributeFacts.{any_facts, bbr_facts, value_status};
-ghost use Rattle.sslist_lister.specs.AttributeFacts.{dctcp_facts};
-ghost use Rattle.sslist_lister.specs.AttributeFacts.{legacy_memory_facts, memory_facts};
-ghost use Rattle.sslist_lister.specs.AttributeFacts.{memory_group, memory_kind, memory_member};
-ghost use Rattle.sslist_lister.specs.AttributeFacts.{option_bits, owner_facts};
-ghost use Rattle.sslist_lister.specs.AttributeFacts.{queue_facts, vegas_facts, vfs_facts};
-ghost use Rattle.sslist_lister.specs.Facts.{AddsFacts, list_facts, number_facts};
-ghost use Rattle.sslist_lister.specs.declared.facts.Shown.TheVariants.{Hex};
+ghost use Rattle.sslist_facts.specs.Facts.{AddsFacts, list_facts, number_facts};
+ghost use Rattle.sslist_facts.specs.declared.facts.Shown.TheVariants.{Hex};
+ghost use Rattle.sslist_lister.specs.AttributeFacts.{any_facts, memory_kind, memory_member};
+ghost use Rattle.sslist_lister.specs.AttributeFacts.{name_bytes, name_facts, owner_facts};
+ghost use Rattle.sslist_lister.specs.AttributeFacts.{value_status};
 
-use crate::facts::{
-    FactSink, NumberRow, Shown, Status, flag, hidden, show_group, show_json_group, show_numbers,
-    shown,
-};
-use crate::family_facts::{
-    show_fanout, show_groups, show_netlink_flags, show_packet, show_packet_ring, show_umem,
-    show_xdp, show_xdp_ring, show_xdp_statistics,
-};
-use crate::tcp::{show_mptcp_info, show_tcp_info};
 use crate::ulp_info::{show_ulp, status_of_ulp};
+use netlink_core::DecodeError;
 use sock_diag_any::{AnyNla, Sockets};
-use sock_diag_attributes::unix::nlas::NumbersView;
-use sock_diag_extras::{
-    BbrInfo, DctcpInfo, FilterInstruction, Md5Signature, PacketMembership, StoredAddress, VegasInfo,
-};
+use sock_diag_attributes::unix::nlas::{NameView, NumbersView};
+use sock_diag_extras::{FilterInstruction, Md5Signature, PacketMembership, StoredAddress};
 use sock_diag_families::netlink::NETLINK_DIAG_MEMINFO;
 use sock_diag_families::packet::PACKET_DIAG_MEMINFO;
 use sock_diag_families::xdp::XDP_DIAG_MEMINFO;
 use sock_diag_records::constants::{INET_DIAG_SKMEMINFO, UNIX_DIAG_MEMINFO};
-use sock_diag_values::inet::{LegacyMemInfo, MemInfo};
+use sslist_facts::{
+    FactSink, Shown, show_bbr, show_dctcp, show_fanout, show_groups, show_legacy_memory,
+    show_memory, show_mptcp_info, show_netlink_flags, show_option_bits, show_packet,
+    show_packet_ring, show_queues, show_tcp_info, show_umem, show_vegas, show_vfs, show_xdp,
+    show_xdp_ring, show_xdp_statistics,
+};
 use std::alloc::{AllocError, Global};
+
+/// The status of an attribute: `Ok(true)` if it has facts, `Ok(false)` if its type is unknown or
+/// `INET_DIAG_SK_BPF_STORAGES`, or the error of its value.
+pub(crate) type Status = Result<bool, DecodeError>;
 
 /// Shows the facts of an attribute that says this, in a reply about these sockets. Shows nothing if
 /// its kind is unknown or `INET_DIAG_SK_BPF_STORAGES`. Only JSON has the name of a UNIX socket, its
@@ -55,7 +52,7 @@ pub(crate) fn show_any<S: FactSink>(
         (any_facts utf8 sockets (any_model value.now))) }
 {
     match value {
-        AnyNla::Name(name) => sink.socket_name(alloc, *name),
+        AnyNla::Name(name) => show_name(sink, alloc, *name),
         AnyNla::Vfs(file) => show_vfs(sink, file.inode(), file.device()),
         AnyNla::Peer(inode) => sink.number(Shown::Never, b"", Some("peer"), *inode as u64),
         AnyNla::PendingConnections(inodes) => show_pending(sink, alloc, inodes),
@@ -133,17 +130,31 @@ pub(crate) fn status_of(value: &AnyNla<'_>) -> Status
     }
 }
 
-/// Shows the inode and the device of the file of a UNIX socket.
-fn show_vfs<S: FactSink>(sink: &mut S, inode: u32, device: u32) -> Result<(), AllocError>
+/// Shows the name of a UNIX socket, as a group. Only JSON has it here, since the table has a column
+/// for it.
+fn show_name<S: FactSink>(sink: &mut S, alloc: Global, name: NameView<'_>) -> Result<(), AllocError>
     ensures { OnOk result (AddsFacts (S.content sink.old) (S.content sink.new)
-        (vfs_facts inode device)) }
+        (name_facts (name_view_model name.entry))) }
 {
-    // The table has ` vfs:(INODE,DEVICE)`.
-    let rows: [NumberRow<'_>; 2] = [
-        shown!(b" vfs:(", "ino", inode),
-        (Shown::Closed, b",", Some("dev"), Some(device as u64)),
-    ];
-    show_json_group(sink, "vfs", &rows)
+    sink.begin(b"", "name")?;
+    show_name_bytes(sink, alloc, name)?;
+    sink.end(b"")
+}
+
+/// Shows the bytes of the name of a UNIX socket, under `path` or `abstract`, or, if they are not
+/// valid UTF-8, under `path_hex` or `abstract_hex`.
+fn show_name_bytes<S: FactSink>(
+    sink: &mut S,
+    alloc: Global,
+    name: NameView<'_>,
+) -> Result<(), AllocError>
+    ensures { OnOk result (AddsFacts (S.content sink.old) (S.content sink.new)
+        (name_bytes (name_view_model name.entry))) }
+{
+    match name {
+        NameView::Pathname(path) => sink.bytes(alloc, "path", "path_hex", path),
+        NameView::Abstract(address) => sink.bytes(alloc, "abstract", "abstract_hex", address),
+    }
 }
 
 /// Shows the inodes of connections that wait to be accepted (`UNIX_DIAG_ICONS`).
@@ -171,16 +182,6 @@ fn numbers_in(alloc: Global, view: &NumbersView<'_>) -> Result<Vec<u64>, AllocEr
     Ok(numbers)
 }
 
-/// Shows the lengths of the queues of a UNIX socket: `first` of the receive queue, `second` of the
-/// send queue.
-fn show_queues<S: FactSink>(sink: &mut S, first: u32, second: u32) -> Result<(), AllocError>
-    ensures { OnOk result (AddsFacts (S.content sink.old) (S.content sink.new)
-        (queue_facts first second)) }
-{
-    let rows: [NumberRow<'_>; 2] = [hidden!("rqueue", first), hidden!("wqueue", second)];
-    show_json_group(sink, "rqlen", &rows)
-}
-
 /// Shows the user id of the owner of a socket. Only JSON has that of a UNIX socket here.
 fn show_owner<S: FactSink>(sink: &mut S, sockets: Sockets, user: u32) -> Result<(), AllocError>
     ensures { OnOk result (AddsFacts (S.content sink.old) (S.content sink.new)
@@ -206,91 +207,6 @@ fn show_hex<S: FactSink>(
     sink.number(Shown::Hex, text, Some(member), number)
 }
 
-/// Shows the memory of a socket, in bytes, in the format of old kernels (`INET_DIAG_MEMINFO`).
-#[tactic(auto, unfolding(crate::specs::AttributeFacts::legacy_memory_facts))]
-fn show_legacy_memory<S: FactSink>(sink: &mut S, memory: &LegacyMemInfo) -> Result<(), AllocError>
-    ensures { OnOk result (AddsFacts (S.content sink.old) (S.content sink.new)
-        (legacy_memory_facts memory.now)) }
-{
-    let rows: [NumberRow<'_>; 4] = [
-        shown!(b"r", "rmem", memory.receive_queue),
-        shown!(b",w", "wmem", memory.bottom_send_queue),
-        shown!(b",f", "fmem", memory.cache),
-        shown!(b",t", "tmem", memory.send_queue),
-    ];
-    show_group(sink, b" mem:(", b")", "meminfo", &rows)
-}
-
-/// Shows the options of a socket (`INET_DIAG_SOCKOPT`) by their bits: as a number in JSON, and the
-/// name of each in the table.
-#[tactic(auto, unfolding(crate::specs::AttributeFacts::option_bits))]
-fn show_option_bits<S: FactSink>(sink: &mut S, bits: u16) -> Result<(), AllocError>
-    ensures { OnOk result (AddsFacts (S.content sink.old) (S.content sink.new) (option_bits bits)) }
-{
-    // The bits are in the order of the fields of `struct inet_diag_sockopt`.
-    let rows: [NumberRow<'_>; 12] = [
-        hidden!("sockopt", bits),
-        flag!(1, b" recverr", bits),
-        flag!(2, b" is_icsk", bits),
-        flag!(4, b" freebind", bits),
-        flag!(8, b" hdrincl", bits),
-        flag!(16, b" mc_loop", bits),
-        flag!(32, b" transparent", bits),
-        flag!(64, b" mc_all", bits),
-        flag!(128, b" nodefrag", bits),
-        flag!(256, b" bind_address_no_port", bits),
-        flag!(512, b" recverr_rfc4884", bits),
-        flag!(1024, b" defer_connect", bits),
-    ];
-    show_numbers(sink, &rows)
-}
-
-/// Shows the measurements of TCP Vegas (`INET_DIAG_VEGASINFO`), as a group.
-#[tactic(auto, unfolding(crate::specs::AttributeFacts::vegas_facts))]
-fn show_vegas<S: FactSink>(sink: &mut S, info: &VegasInfo) -> Result<(), AllocError>
-    ensures { OnOk result (AddsFacts (S.content sink.old) (S.content sink.new)
-        (vegas_facts info.now)) }
-{
-    let rows: [NumberRow<'_>; 4] = [
-        shown!(b"enabled:", "enabled", info.enabled),
-        shown!(b",rttcnt:", "rttcnt", info.rtt_count),
-        shown!(b",rtt:", "rtt", info.rtt),
-        shown!(b",minrtt:", "minrtt", info.min_rtt),
-    ];
-    show_group(sink, b" vegas:(", b")", "vegasinfo", &rows)
-}
-
-/// Shows the measurements of DCTCP (`INET_DIAG_DCTCPINFO`), as a group.
-#[tactic(auto, unfolding(crate::specs::AttributeFacts::dctcp_facts))]
-fn show_dctcp<S: FactSink>(sink: &mut S, info: &DctcpInfo) -> Result<(), AllocError>
-    ensures { OnOk result (AddsFacts (S.content sink.old) (S.content sink.new)
-        (dctcp_facts info.now)) }
-{
-    let rows: [NumberRow<'_>; 5] = [
-        shown!(b"enabled:", "enabled", info.enabled),
-        shown!(b",ce_state:", "ce_state", info.ce_state),
-        shown!(b",alpha:", "alpha", info.alpha),
-        shown!(b",ab_ecn:", "ab_ecn", info.marked_bytes),
-        shown!(b",ab_tot:", "ab_tot", info.acked_bytes),
-    ];
-    show_group(sink, b" dctcp:(", b")", "dctcpinfo", &rows)
-}
-
-/// Shows the measurements of BBR (`INET_DIAG_BBRINFO`), as a group.
-#[tactic(auto, unfolding(crate::specs::AttributeFacts::bbr_facts))]
-fn show_bbr<S: FactSink>(sink: &mut S, info: &BbrInfo) -> Result<(), AllocError>
-    ensures { OnOk result (AddsFacts (S.content sink.old) (S.content sink.new)
-        (bbr_facts info.now)) }
-{
-    let rows: [NumberRow<'_>; 4] = [
-        shown!(b"bw:", "bw", info.bandwidth),
-        shown!(b",mrtt:", "min_rtt", info.min_rtt),
-        shown!(b",pacing_gain:", "pacing_gain", info.pacing_gain),
-        shown!(b",cwnd_gain:", "cwnd_gain", info.window_gain),
-    ];
-    show_group(sink, b" bbr:(", b")", "bbrinfo", &rows)
-}
-
 /// Returns the kind of the attribute with the memory of a socket, an array of the words
 /// `SK_MEMINFO_..`. Returns `None` for vsock sockets, which have none.
 pub(crate) fn memory_kind(sockets: Sockets) -> Option<u16>
@@ -313,53 +229,5 @@ fn memory_member(sockets: Sockets) -> &'static str
     match sockets {
         Sockets::Inet(_) => "skmeminfo",
         _ => "meminfo",
-    }
-}
-
-/// Shows the memory of a socket, in bytes, as ss(8) does, and as the object `member` in JSON. The
-/// backlog and the drops are shown only if the value has them.
-fn show_memory<S: FactSink>(sink: &mut S, member: &str, memory: &MemInfo) -> Result<(), AllocError>
-    ensures { OnOk result (AddsFacts (S.content sink.old) (S.content sink.new)
-        (memory_facts member.now memory.now)) }
-{
-    let (backlog, drops) = (memory.backlog_queue_length, memory.drops);
-    show_memory_group(sink, member, memory, widened(backlog), widened(drops))
-}
-
-/// Shows the memory of a socket, with its backlog and its drops as `u64`, as the object `member` in
-/// JSON. A `None` is not shown. The rows are in the order of the constants `SK_MEMINFO_..`.
-#[tactic(auto, unfolding(crate::specs::AttributeFacts::memory_group))]
-fn show_memory_group<S: FactSink>(
-    sink: &mut S,
-    member: &str,
-    memory: &MemInfo,
-    backlog: Option<u64>,
-    drops: Option<u64>,
-) -> Result<(), AllocError>
-    ensures { OnOk result (AddsFacts (S.content sink.old) (S.content sink.new)
-        (memory_group member.now memory.now backlog drops)) }
-{
-    let rows: [NumberRow<'_>; 9] = [
-        shown!(b"r", "rmem_alloc", memory.receive_queue),
-        shown!(b",rb", "rcvbuf", memory.receive_queue_max),
-        shown!(b",t", "wmem_alloc", memory.bottom_send_queues),
-        shown!(b",tb", "sndbuf", memory.send_queue_max),
-        shown!(b",f", "fwd_alloc", memory.cache),
-        shown!(b",w", "wmem_queued", memory.send_queue),
-        shown!(b",o", "optmem", memory.options),
-        (Shown::Always, b",bl", Some("backlog"), backlog),
-        (Shown::Always, b",d", Some("drops"), drops),
-    ];
-    show_group(sink, b" skmem:(", b")", member, &rows)
-}
-
-/// Returns the same number as a `u64`, or `None` for `None`.
-fn widened(number: Option<u32>) -> Option<u64>
-    // In a contract numbers have no width.
-    ensures { result ≡ number }
-{
-    match number {
-        Some(number) => Some(number.into()),
-        None => None,
     }
 }

@@ -18,8 +18,7 @@ ghost use Rattle.sock_diag_any.specs.AnyItems.{Item};
 ghost use Rattle.sock_diag_any.specs.AnyNla.{any_model};
 ghost use Rattle.sock_diag_any.specs.Pieces.{framing_error_of, pieces_in};
 
-use crate::attributes::status_of;
-use crate::facts::Status;
+use crate::attributes::{Status, status_of};
 use netlink_core::{DecodeError, NlaBuffer};
 use sock_diag_any::{AnyNla, AnyNlas, Rejected, Sockets};
 use sock_diag_extras::constants::INET_DIAG_SOCKOPT;

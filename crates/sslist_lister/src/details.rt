@@ -12,9 +12,8 @@ ghost use Rattle.sock_diag_any.specs.AnyNla.{any_model};
 ghost use Rattle.sslist_lister.specs.Details.{other_detail, status_text};
 ghost use Rattle.sslist_lister.specs.Details.{unknown_attribute_text, valid_detail};
 
-use crate::attributes::{memory_kind, show_any};
+use crate::attributes::{Status, memory_kind, show_any};
 use crate::collected::{Attributes, Valid};
-use crate::facts::Status;
 use crate::kinds::reason_of;
 use crate::parts::{push_pair, push_shown_cookie, push_shown_timer, separator};
 use netlink_core::{DecodeError, NlaBuffer};

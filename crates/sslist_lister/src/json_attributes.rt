@@ -20,9 +20,8 @@ ghost use Rattle.sslist_texts.specs.JsonData.{JsonMember, array_member, json_tex
 ghost use Rattle.sslist_texts.specs.JsonData.{object_of};
 ghost use Rattle.sslist_texts.specs.JsonWriting.{KeepsPrefix, members_tokens};
 
-use crate::attributes::show_any;
+use crate::attributes::{Status, show_any};
 use crate::collected::{Attributes, Valid};
-use crate::facts::Status;
 use crate::kinds::reason_of;
 use json::Writer;
 use netlink_core::NlaBuffer;

@@ -2,7 +2,7 @@
 //! text. If it fails, an allocation failed, and the content of the text is not specified.
 
 ghost use Rattle.std.specs.Prelude.{◌≡◌, ◌++◌, OnOk};
-ghost use Rattle.sslist_lister.specs.Parts.{cookie_if_shown, directions, hex_detail};
+ghost use Rattle.sslist_lister.specs.Parts.{cookie_if_shown, hex_detail};
 ghost use Rattle.sslist_lister.specs.Parts.{pair_detail, separator, timer_if_shown};
 ghost use Rattle.sslist_lister.specs.Parts.{timer_name, timer_text};
 
@@ -11,12 +11,6 @@ use sock_diag_any::{InfoFormat, RawTimer, Sockets};
 use sslist_command_line::{Detail, Options};
 use sslist_texts::cells::{push_after, push_hex};
 use std::alloc::AllocError;
-
-/// Bit of a shutdown state (`sk_shutdown` of the kernel): receiving is shut down.
-const RCV_SHUTDOWN: u64 = 1;
-
-/// Bit of a shutdown state: sending is shut down.
-const SEND_SHUTDOWN: u64 = 2;
 
 /// The timer of a socket that has none.
 pub(crate) const NO_TIMER: RawTimer = RawTimer {
@@ -98,26 +92,6 @@ pub(crate) fn push_shown_cookie(
     }
     text.extend_from_slice(b" sk:")?;
     push_hex(text, LittleEndian::read_u64(cookie))
-}
-
-/// Appends a space and the directions that are not shut down, as ss(8) does: `<->` if none is shut
-/// down. `<` is `-` if `state` has the bit [`RCV_SHUTDOWN`], and `>` is `-` if it has the bit
-/// [`SEND_SHUTDOWN`].
-pub(crate) fn push_directions(text: &mut Vec<u8>, state: u64) -> Result<(), AllocError>
-    ensures { OnOk result (text.new.items ≡ text.old.items ++ directions state) }
-{
-    text.push(b' ')?;
-    text.push(if state & RCV_SHUTDOWN == 0 {
-        b'<'
-    } else {
-        b'-'
-    })?;
-    text.push(b'-')?;
-    Ok(text.push(if state & SEND_SHUTDOWN == 0 {
-        b'>'
-    } else {
-        b'-'
-    })?)
 }
 
 /// Appends a space, a name, a colon and two numbers in decimal, in parentheses and separated by a

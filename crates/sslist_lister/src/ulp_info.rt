@@ -8,15 +8,15 @@
 
 ghost use Rattle.std.specs.Prelude.{◌≡◌, ◌≤◌, OnOk, codes, flat_map, map, option_map, true};
 ghost use Rattle.netlink_core.specs.Errors.{map_ok};
-ghost use Rattle.sock_diag_filters.specs.Rows.{text_of};
-ghost use Rattle.sslist_lister.specs.Facts.{AddsFacts, AddsItems, json_group};
+ghost use Rattle.sslist_facts.specs.Rows.{text_of};
+ghost use Rattle.sslist_facts.specs.Facts.{AddsFacts, AddsItems, json_group};
 ghost use Rattle.sslist_lister.specs.UlpInfo.{has_fields, nested_group, nested_number};
 ghost use Rattle.sslist_lister.specs.UlpInfo.{nested_value, presence_facts, subflow_facts};
 ghost use Rattle.sslist_lister.specs.UlpInfo.{tls_facts, token_facts, ulp_name, ulp_number};
 ghost use Rattle.sslist_lister.specs.UlpInfo.{ulp_facts, ulp_parts, ulp_row, ulp_row_of};
 ghost use Rattle.sslist_lister.specs.UlpInfo.{ulp_rows};
 
-use crate::facts::{FactSink, Shown, Status};
+use crate::attributes::Status;
 use crate::pieces::find_kind;
 use byteorder::{ByteOrder, LittleEndian};
 use netlink_core::{DecodeError, parse_str};
@@ -25,6 +25,7 @@ use sock_diag_extras::constants::{
     TLS_INFO_ZC_RO_TX,
 };
 use sock_diag_extras::{SubflowField, TlsField};
+use sslist_facts::{FactSink, Shown};
 use std::alloc::AllocError;
 
 /// A number in the nested attributes.
@@ -275,7 +276,7 @@ fn show_rows<S: FactSink>(sink: &mut S, bytes: &[u8], rows: &[UlpRow]) -> Result
 
 /// Shows a number, if the nested attributes `bytes` have its field. The table shows it by `format`,
 /// after `text`. JSON has it under `member`, or not at all for `None`.
-#[tactic(auto, using(crate::proofs::Rows::same_bytes), unfolding(crate::specs::UlpInfo::ulp_row))]
+#[tactic(auto, using(sslist_facts::proofs::Rows::kept), unfolding(crate::specs::UlpInfo::ulp_row))]
 fn show_row<S: FactSink>(
     sink: &mut S,
     bytes: &[u8],

@@ -8,7 +8,7 @@ ghost use Rattle.std.specs.Fmt.{digits};
 ghost use Rattle.json.specs.Token.{begin_object, key, number};
 ghost use Rattle.sslist_texts.specs.JsonData.{address_member, bytes_member, cookie_member};
 ghost use Rattle.sslist_texts.specs.JsonData.{flag_member, hex_member};
-ghost use Rattle.sslist_texts.specs.JsonData.{number_members};
+ghost use Rattle.sslist_texts.specs.JsonData.{number_members, numbers_member};
 ghost use Rattle.sslist_texts.specs.JsonData.{optional_member, text_member};
 ghost use Rattle.sslist_texts.specs.JsonWriting.{KeepsPrefix, members_tokens};
 
@@ -56,6 +56,30 @@ fn write_rows(writer: &mut Writer, rows: &[(&str, u64)]) -> Result<(), AllocErro
     for &(name, value) in rows {
         writer.key(name)?;
         writer.u64(value)?;
+    }
+    Ok(())
+}
+
+/// Writes a member whose value is an array of numbers.
+pub fn write_list(writer: &mut Writer, name: &str, numbers: &[u64]) -> Result<(), AllocError>
+    ensures prefix { KeepsPrefix result writer.old writer.new }
+    ensures members { OnOk result (writer.new.tokens ≡ writer.old.tokens
+        ++ members_tokens (numbers_member name.now numbers.now)) }
+{
+    writer.key(name)?;
+    writer.begin_array()?;
+    write_items(writer, numbers)?;
+    writer.end_array()
+}
+
+/// Writes each number of a list, as an item of an array.
+fn write_items(writer: &mut Writer, numbers: &[u64]) -> Result<(), AllocError>
+    ensures prefix { KeepsPrefix result writer.old writer.new }
+    ensures tokens { OnOk result (writer.new.tokens ≡ writer.old.tokens
+        ++ flat_map (λ n. number (decimal n) ∷ []) numbers.now) }
+{
+    for value in numbers {
+        writer.u64(*value)?;
     }
     Ok(())
 }

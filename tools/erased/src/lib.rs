@@ -149,6 +149,8 @@ mod sslist;
 #[cfg(feature = "std")]
 mod sslist_command_line;
 #[cfg(feature = "std")]
+mod sslist_facts;
+#[cfg(feature = "std")]
 mod sslist_lister;
 #[cfg(feature = "std")]
 mod sslist_texts;

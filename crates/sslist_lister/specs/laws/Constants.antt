@@ -1,33 +1,21 @@
 -- The numbers of the constants that definitions name.
-use Rattle.std.proofs.Common.{◌≡◌, ◌+◌, ◌^◌, [], ◌∷◌, refl}
+use Rattle.std.proofs.Common.{◌≡◌, ◌+◌, refl}
 use Rattle.sock_diag_extras.specs.declared.constants.TheConstants.{INET_DIAG_SOCKOPT}
 use Rattle.sslist_lister.specs.declared.collected.TheConstants.{KINDS}
-use Rattle.sslist_lister.specs.declared.family_facts.TheConstants.{GROUP_BITS, MAX_MASK_LENGTH}
 use Rattle.sslist_lister.specs.declared.line.TheConstants.{LOCAL_WIDTH, NO_INTERFACE}
 use Rattle.sslist_lister.specs.declared.list.TheConstants.{EINVAL, ENOENT}
 use Rattle.sslist_lister.specs.declared.others.TheConstants.{ANY, NETLINK_CONNECTED}
 use Rattle.sslist_lister.specs.declared.requests.TheConstants.{MAX_OLDER_REQUESTS}
 use Rattle.sslist_lister.specs.declared.sctp.TheConstants.{NO_TCP_STATE}
-use Rattle.sslist_lister.specs.declared.parts.TheConstants as parts
 
 -- numbers of errno(3)
 pub error_numbers : (ENOENT ≡ 2) × (EINVAL ≡ 22)
 error_numbers = (refl, refl)
 
 -- numbers of the kernel: the state of a connected netlink socket, VMADDR_CID_ANY and
--- VMADDR_PORT_ANY, the index that is no interface, and the bits of `sk_shutdown`
+-- VMADDR_PORT_ANY, and the index that is no interface
 pub kernel_numbers : (NETLINK_CONNECTED ≡ 1) × (ANY ≡ 0xffffffff) × (NO_INTERFACE ≡ 0)
-    × (parts.RCV_SHUTDOWN ≡ 1) × (parts.SEND_SHUTDOWN ≡ 2)
-kernel_numbers = (refl, refl, refl, refl, refl)
-
--- the bits of a byte, each with its index
-pub group_bits : GROUP_BITS ≡ (1, 0) ∷ (2, 1) ∷ (4, 2) ∷ (8, 3) ∷ (16, 4) ∷ (32, 5) ∷ (64, 6)
-    ∷ (128, 7) ∷ []
-group_bits = refl
-
--- a number of bytes that no attribute has
-pub longest_mask : MAX_MASK_LENGTH ≡ 2 ^ 16
-longest_mask = refl
+kernel_numbers = (refl, refl, refl)
 
 -- a number above those of the states with a bit of their own in a set of states
 pub no_tcp_state : NO_TCP_STATE ≡ 255

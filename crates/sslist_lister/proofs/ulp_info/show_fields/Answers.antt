@@ -1,5 +1,5 @@
 use Rattle.sslist_lister.specs.UlpInfo.{ulp_row, ulp_row_of, ulp_rows}
-use Rattle.sslist_lister.proofs.FactItems.{items_of_mapped}
+use Rattle.sslist_facts.proofs.FactItems.{items_of_mapped}
 use Rattle.sslist_lister.proofs.ulp_info.show_fields.Goals as goal
 
 pub returns : goal.returns

@@ -1,7 +1,7 @@
 use Rattle.std.proofs.Common.{[], codes}
 use Rattle.std.proofs.lemmas.Result.{on_ok_weaker}
 use Rattle.sslist_lister.specs.UlpInfo.{tls_facts}
-use Rattle.sslist_lister.proofs.FactItems.{shown_group}
+use Rattle.sslist_facts.proofs.FactItems.{shown_group}
 use Rattle.sslist_lister.proofs.ulp_info.show_tls_info.Goals as goal
 
 pub returns : goal.returns

@@ -1,5 +1,5 @@
 use Rattle.std.proofs.lemmas.Result.{on_ok_weaker}
-use Rattle.sslist_lister.proofs.FactItems.{shown_three}
+use Rattle.sslist_facts.proofs.FactItems.{shown_three}
 use Rattle.sslist_lister.proofs.ulp_info.show_ulp_parts.Goals as goal
 
 pub returns : goal.returns

@@ -1,0 +1,3 @@
+pub mod FactItems
+pub mod Rows
+pub mod RecordLists

@@ -1,0 +1,13 @@
+pub mod Rows
+pub mod NumberNames
+pub mod Facts
+pub mod RecordFacts
+pub mod Md5Keys
+pub mod SctpAddresses
+pub mod FilterProgram
+pub mod Memberships
+pub mod SocketFacts
+pub mod FamilyFacts
+pub mod Tcp
+pub mod TcpRows
+pub mod laws

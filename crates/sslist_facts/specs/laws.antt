@@ -1,0 +1,3 @@
+-- Lemmas about the definitions.
+pub mod FactTokens
+pub mod Constants
