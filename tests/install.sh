@@ -43,7 +43,7 @@ installed() {
 # A release: its functions return 0. The header declares all of them but one.
 cp VERSION "$tree"
 cp -R examples include man "$tree"
-cp tools/install tools/libsockdiag.map "$tree/tools"
+cp tools/install tools/libsockdiag.map tools/is-current tools/libraries "$tree/tools"
 for program in sockdiag sslist sockdump socklist; do
     echo '#!/bin/sh' >"$tree/bin/$program"
 done
@@ -243,7 +243,9 @@ done
 
 # In the sources, which have no folder bin, they are compiled. Without a compiler they are left out.
 mv "$tree/bin" "$tree/lib" "$work/commands"
-mkdir -p "$tree/crates/sockdiag_c/out"
+mkdir -p "$tree/crates/sockdiag_c/out" "$tree/crates/netlink_core/src" \
+    "$tree/crates/netlink_core/specs"
+cp crates.txt "$tree"
 cp "$work/commands/lib/libsockdiag.a" "$tree/crates/sockdiag_c/out/libsockdiag_c.a"
 "$install" "$work/sources" >"$work/out" || fail "the sources"
 for program in sockdump socklist; do
@@ -261,23 +263,26 @@ for program in sockdump socklist; do
     [ -x "$work/flags/bin/$program" ] || fail "$program is compiled without CFLAGS or LDFLAGS"
 done
 # What is older than a source is not installed: the library is built again, which needs rt.
-mkdir -p "$tree/crates/sslist/out" "$tree/crates/sslist/specs"
+mkdir -p "$tree/crates/sslist/out"
 cp "$work/commands/bin/sslist" "$tree/crates/sslist/out"
 printf '#!/bin/sh\n[ "$1" = lib ] && touch -d "3 hours" out/libsockdiag_c.a\n' >"$work/commands/rt"
 chmod +x "$work/commands/rt"
 "$install" "$work/current" >"$work/out"
 [ -x "$work/current/bin/sslist" ] || fail "a program that is built: $(cat "$work/out")"
-for source in lib.rt specs/Sockets.antt; do
-    touch -d '1 hour' "$tree/crates/sslist/$source"
+for source in src/lib.rt specs/Codec.antt; do
+    touch -d '1 hour' "$tree/crates/netlink_core/$source"
     fails 1 "without rt" env PATH=/usr/bin:/bin "$install" "$work/none"
     grep -q 'rt not found' "$work/out" || fail "without rt: $(cat "$work/out")"
     fails 1 "an old library in BUILT" env BUILT="$work/cargo" "$install" "$work/none"
     PATH="$work/commands:$PATH" "$install" "$work/again" >"$work/out" 2>&1 ||
         fail "an old library: $(cat "$work/out")"
     [ ! -e "$work/again/bin/sslist" ] || fail "an old program is installed"
-    rm "$tree/crates/sslist/$source"
-    touch "$tree/crates/sockdiag_c/out/libsockdiag_c.a"
+    rm "$tree/crates/netlink_core/$source"
+    touch -d '1 minute ago' "$tree/crates/sockdiag_c/out/libsockdiag_c.a"
 done
+touch -d '1 hour' "$tree/tools/erase"
+fails 1 "a library that is older than tools/erase" env BUILT="$work/cargo" "$install" "$work/none"
+rm "$tree/tools/erase"
 mv "$work/commands/bin" "$work/commands/lib" "$tree"
 rm -r "$tree/crates"
 

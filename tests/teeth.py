@@ -77,7 +77,7 @@ case $1 in --version) echo 'rustc 1.95.0' ;; *) echo "${0%/*}" ;; esac
 [ "$FAILS" != panics ] || yes 'call <panic>' | head -n 1000
 """,
     "lib/rustlib/src/rust/library/vendor/empty": "",
-    "nm": '#!/bin/sh\necho "$FAILS"\n', "groff": '#!/bin/sh\necho "$FAILS" >&2\n',
+    "nm": '#!/bin/sh\n[ "$FAILS" != nm ] || exit 1\necho "$FAILS"\n', "groff": '#!/bin/sh\necho "$FAILS" >&2\n',
     # Programs under valgrind have to run with these options, except those that are measured.
     "valgrind": """#!/bin/sh
 for option in --leak-check=full --error-exitcode=1; do
@@ -94,9 +94,13 @@ exec "$@"
 if [ "$(head -c 1000 | wc -c)" -lt 1000 ]; then echo '{"info": {}}'; exit; fi
 printf '{"family": %s}\\n' 1 2 10 16 17 40 44
 """,
-    # Tests of failed allocations, of which one fails, and a program that reports no error.
+    # Tests of failed allocations, one that fails and one that passes, and a program that reports no
+    # error.
     "allocations": """#!/bin/sh
 [ "$1" = --list ] && echo 'a::out_of_memory::b: test'
+""",
+    "passing": """#!/bin/sh
+[ "$1" != --list ] || echo 'a::out_of_memory::b: test'
 """,
     "unreported": "#!/bin/sh\necho refused >&2\n",
     "sleeper": "#!/bin/sh\nexec sleep 5\n",
@@ -401,9 +405,11 @@ ROWS = [
         (("tests/over_gate.sh", None, PROGRAM),), ""),
     Row(f"{MEMORY} $STAND_INS/allocations $STAND_INS/program $STAND_INS/program",
         ("a::out_of_memory::b: allocations 1 to 1 fail: the test failed",), (), ""),
-    Row(f"{MEMORY} $STAND_INS/program $STAND_INS/unreported $STAND_INS/program",
-        ("unreported: allocations 1 to 1 fail: no error",), (), ""),
     Row(f"{MEMORY} $STAND_INS/program $STAND_INS/program $STAND_INS/program",
+        ("program lists no such test",), (), ""),
+    Row(f"{MEMORY} $STAND_INS/passing $STAND_INS/unreported $STAND_INS/program",
+        ("unreported: allocations 1 to 1 fail: no error",), (), ""),
+    Row(f"{MEMORY} $STAND_INS/passing $STAND_INS/program $STAND_INS/program",
         ("planted: valgrind without --leak-check=full",),
         ((MEMORY, "valgrind -q --leak-check=full", "valgrind -q"),), ""),
     Row("tests/api/library.sh --of-gate", ("planted: rt lib", "library.sh: failed"), (),
@@ -415,6 +421,7 @@ ROWS = [
     Row(C_API, ("planted: valgrind without --error-exitcode=1",),
         (LIBRARY, (C_API, " --error-exitcode=1", "")), ""),
     Row(C_API, ("the library calls these functions", "planted"), (LIBRARY,), " U planted"),
+    Row(C_API, (f"{C_API}: failed",), (LIBRARY,), "nm"),
     Row(C_API, ("planted: alone",), (LIBRARY,), "alone"),
     Row(C_API, ("planted: reply_reader.py make 100000 1",), (LIBRARY, COMPARED), "reply_reader.py"),
     Row("tests/api/compare_replies.sh 1", ("the reader's lines (<) and those of the library (>)",),
@@ -435,6 +442,7 @@ ROWS = [
                  "captures.py *", "programs.py *", "kernels.py *", "c_api.sh")),
     *(Row(COMPARISON, (reported,), BUILT, fails) for reported, fails in (
         ("the answers to many lines differ", "sockdiag"),
+        ("planted: reply_reader.py make 100000 1", "reply_reader.py *"),
         ("planted: compare_listers.py", "compare_listers.py *"),
         ("planted: compare_libraries.py", "compare_libraries.py *"))),
     *(Row(ERASED, (reported,), ERASER, fails, "ar")

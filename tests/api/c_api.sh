@@ -25,7 +25,8 @@ else
 fi
 
 # The library does not allocate, and needs no more of the C library than its header says.
-if nm -u "$library" | sed -n 's/^ *U //p' | grep -vxE "$calls"; then
+nm -u "$library" >"$work/names"
+if sed -n 's/^ *U //p' "$work/names" | grep -vxE "$calls"; then
     echo "c_api: the library calls these functions" >&2
     exit 1
 fi

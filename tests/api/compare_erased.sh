@@ -8,9 +8,10 @@ work=$(mktemp -d)
 trap '[ $? = 0 ] || echo "$0: failed" >&2; rm -rf "$work"' EXIT
 built=$top/out/erased/target/release
 
-"$top/tests/api/reply_reader.py" make 100000 1 | sed -n '
+"$top/tests/api/reply_reader.py" make 100000 1 >"$work/replies"
+sed -n '
     /^unix /{ p; s/^unix /unixview /p; s/^unixview /message /p; }
-    /^inet /{ p; s/^inet /message /p; }' >"$work/lines"
+    /^inet /{ p; s/^inet /message /p; }' "$work/replies" >"$work/lines"
 "$top/crates/sockdiag/out/sockdiag" <"$work/lines" >"$work/proved"
 "$built/sockdiag" <"$work/lines" >"$work/erased"
 cmp "$work/proved" "$work/erased" ||

@@ -7,7 +7,9 @@
 set -eu
 top=$(CDPATH='' cd -- "$(dirname -- "$0")/../.." && pwd)
 work=$(mktemp -d)
-trap '[ $? = 0 ] || echo "$0: failed" >&2; rm -rf "$work"' EXIT
+# The tests of the C library run in the background, and write to this folder.
+trap '[ $? = 0 ] || echo "$0: failed" >&2; wait; rm -rf "$work"' EXIT
+trap 'exit 130' INT TERM HUP
 
 # Runs a command, and prints its output only if it fails.
 quiet() {

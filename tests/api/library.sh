@@ -12,11 +12,6 @@ CDPATH='' cd -- "$(dirname -- "$0")/../.."
 crate=crates/sockdiag_c
 library=$crate/out/libsockdiag_c.a
 
-is_current() {
-    [ -f "$library" ] && [ -z "$(find crates -name out -prune -o \
-        \( -name '*.rt' -o -name '*.antt' \) -newer "$library" -print | head -n 1)" ]
-}
-
 # Returns whether the libraries are those that `rt ci` leaves: the others have a stamp.
 are_of_gate() {
     for name in $(tools/libraries sockdiag_c); do
@@ -26,7 +21,7 @@ are_of_gate() {
     done
 }
 
-if is_current; then exit 0; fi
+if tools/is-current "$library" sockdiag_c; then exit 0; fi
 if [ "${1-}" != --of-gate ] || ! are_of_gate; then
     cd "$crate"
     rt lib --cpu x86-64

@@ -56,7 +56,9 @@ sweep() {
 
 : >"$work/in"
 look() { [ "$status" -eq 0 ] || fail "the test failed"; }
-for what in $("$tests" --list | sed -n 's/^\(.*::out_of_memory::.*\): test$/\1/p'); do
+listed=$("$tests" --list | sed -n 's/^\(.*::out_of_memory::.*\): test$/\1/p')
+[ -n "$listed" ] || { echo "out_of_memory: $tests lists no such test" >&2; exit 1; }
+for what in $listed; do
     sweep "$tests" "$what"
 done
 
