@@ -1,7 +1,7 @@
 /*
- * kernel.h: what sockdump.c and socklist.c share: opens a socket of the kernel, in a network
- * namespace. The functions return -1 after they have reported an error, as a line that begins with
- * PROGRAM, the name of the program. It is valid C99 and C++.
+ * kernel.h: what sockdump.c and socklist.c share. It opens a socket of the kernel, in a network
+ * namespace. Functions that return an int return -1 after they have reported an error, as a line
+ * that begins with PROGRAM, the name of the program. It is valid C99 and C++.
  */
 #ifndef KERNEL_H
 #define KERNEL_H
@@ -10,10 +10,26 @@
 #include <fcntl.h>
 #include <linux/netlink.h>
 #include <sched.h>
+#include <stdint.h>
 #include <stdio.h>
 #include <string.h>
 #include <sys/socket.h>
+#include <time.h>
 #include <unistd.h>
+
+/* Returns the time of a clock that is never set, in milliseconds. */
+static inline int64_t milliseconds(void) {
+    struct timespec time;
+    clock_gettime(CLOCK_MONOTONIC, &time);
+    return (int64_t)time.tv_sec * 1000 + time.tv_nsec / 1000000;
+}
+
+/* Returns what follows the name of an option in an argument, or NULL if the argument is another
+ * one. */
+static inline const char *after_name(const char *argument, const char *name) {
+    const size_t length = strlen(name);
+    return strncmp(argument, name, length) == 0 ? argument + length : NULL;
+}
 
 /* Reports that a call failed, by the text of errno. */
 static inline int fail(const char *what) {

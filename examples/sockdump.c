@@ -391,13 +391,6 @@ static int dump_round(int kernel, const struct selection *selection) {
     return failed;
 }
 
-/* Returns the time of a clock that is never set, in milliseconds. */
-static int64_t milliseconds(void) {
-    struct timespec time;
-    clock_gettime(CLOCK_MONOTONIC, &time);
-    return (int64_t)time.tv_sec * 1000 + time.tv_nsec / 1000000;
-}
-
 /* Waits until a time. Returns 1, or 0 as soon as the readers of the pipe at standard output have
  * closed it, which poll(2) reports although no event is requested. */
 static int wait_until(int64_t time) {
@@ -617,13 +610,6 @@ static int read_events(const char *text, struct selection *selection) {
         text += length;
     } while (*text != '\0');
     return 0;
-}
-
-/* Returns what follows the name of an option in an argument, or NULL if the argument is another
- * one. */
-static const char *after_name(const char *argument, const char *name) {
-    const size_t length = strlen(name);
-    return strncmp(argument, name, length) == 0 ? argument + length : NULL;
 }
 
 static int read_argument(const char *argument, struct selection *selection) {

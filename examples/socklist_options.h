@@ -209,13 +209,6 @@ static int read_letters(struct options *options, char *argument, const char *nex
     return read_value(options, last, next) == 0 ? 2 : -1;
 }
 
-/* Returns what follows the name of an option in an argument, or NULL if the argument is another
- * one. */
-static const char *after_name(const char *argument, const char *name) {
-    const size_t length = strlen(name);
-    return strncmp(argument, name, length) == 0 ? argument + length : NULL;
-}
-
 /* Long options that are the same as a letter. */
 static const struct { const char *name; char letter; } names[] = {
     {"--processes", 'p'}, {"--numeric", 'n'}, {"--resolve", 'r'}, {"--summary", 's'},

@@ -12,7 +12,6 @@
 #include <fcntl.h>
 #include <stdint.h>
 #include <sys/types.h>
-#include <time.h>
 #include <unistd.h>
 
 /* For how long the processes that were found are shown, in milliseconds: shorter than the time
@@ -34,13 +33,6 @@ struct processes {
     int64_t stale_at;  /* The time from which they are found again, in milliseconds. */
     int failed;        /* -1 if some were not found, which is reported. */
 };
-
-/* Returns the time of a clock that is never set, in milliseconds. */
-static int64_t milliseconds(void) {
-    struct timespec time;
-    clock_gettime(CLOCK_MONOTONIC, &time);
-    return (int64_t)time.tv_sec * 1000 + time.tv_nsec / 1000000;
-}
 
 /* Returns whether errno is that of a process which has ended, or belongs to another user. */
 static int is_out_of_reach(void) {
