@@ -22,7 +22,7 @@ import tempfile
 from pathlib import Path
 
 # The crates whose public constants are the kernel's.
-NAMING = """netlink_core sock_diag_records sock_diag_families sock_diag_extras
+NAMING = """netlink_core sock_diag_records sock_diag_families sock_diag_extras sock_diag_filters
     sock_diag_examples""".split()
 CRATES = Path(__file__).resolve().parent.parent / "crates"
 HEADER = CRATES.parent / "include/sockdiag.h"
@@ -268,10 +268,6 @@ def questions(version):
     for option, bit in re.findall(r"^bit_of option\.(\w+) = (\d+)", options, re.M):
         (member,) = (it for it in OPTIONS if it.replace("_", "") == option.lower())
         yield f"BIT(inet_diag_sockopt, {member})", int(bit)
-    # The definitions of filters cite these codes, which no other crate can name.
-    codes = (CRATES / "sock_diag_filters/src/codes.rt").read_text(encoding="utf-8")
-    for name, value in re.findall(r"const (INET_DIAG_BC_\w+): u8 = (\d+);", codes):
-        yield name, int(value)
     for path in (path for crate in NAMING for path in CRATES.glob(f"{crate}/src/**/*.rt")):
         for name, value in CONSTANT.findall(path.read_text(encoding="utf-8")):
             yield c_name(name), int(value, 0)

@@ -137,53 +137,6 @@ pub const MPTCP_INFO_FLAG_FALLBACK: u32 = 1;
 /// The key of the peer was received.
 pub const MPTCP_INFO_FLAG_REMOTE_KEY_RECEIVED: u32 = 2;
 
-// ---- codes of the operations of a filter (`code` of `struct inet_diag_bc_op`)
-
-/// Does not test anything.
-pub const INET_DIAG_BC_NOP: u8 = 0;
-
-/// Jumps unconditionally.
-pub const INET_DIAG_BC_JMP: u8 = 1;
-
-/// Tests that the source port is at least a given port.
-pub const INET_DIAG_BC_S_GE: u8 = 2;
-
-/// Tests that the source port is at most a given port.
-pub const INET_DIAG_BC_S_LE: u8 = 3;
-
-/// Tests that the destination port is at least a given port.
-pub const INET_DIAG_BC_D_GE: u8 = 4;
-
-/// Tests that the destination port is at most a given port.
-pub const INET_DIAG_BC_D_LE: u8 = 5;
-
-/// Tests that the socket itself was not bound to its source port: the kernel chose the port, or a
-/// listening socket accepted the socket. Each socket in TIME_WAIT passes too.
-pub const INET_DIAG_BC_AUTO: u8 = 6;
-
-/// Tests the source address by a prefix, and optionally the source port:
-/// `struct inet_diag_hostcond`.
-pub const INET_DIAG_BC_S_COND: u8 = 7;
-
-/// Tests the destination address by a prefix, and optionally the destination port:
-/// `struct inet_diag_hostcond`.
-pub const INET_DIAG_BC_D_COND: u8 = 8;
-
-/// Tests that the socket is bound to a given interface.
-pub const INET_DIAG_BC_DEV_COND: u8 = 9;
-
-/// Tests that the socket's mark, under a mask, has a given value: `struct inet_diag_markcond`.
-pub const INET_DIAG_BC_MARK_COND: u8 = 10;
-
-/// Tests that the source port is a given port.
-pub const INET_DIAG_BC_S_EQ: u8 = 11;
-
-/// Tests that the destination port is a given port.
-pub const INET_DIAG_BC_D_EQ: u8 = 12;
-
-/// Tests that the socket's control group has a given id.
-pub const INET_DIAG_BC_CGROUP_COND: u8 = 13;
-
 // ---- indices of the `u32` fields in INET_DIAG_SKMEMINFO and in the MEMINFO of other families
 
 /// Memory allocated for received data (`sk_rmem_alloc`), in bytes.
@@ -331,12 +284,6 @@ pub fn extra_constants_have_their_values()
     ensures request_attributes { PairsAreEqual ((INET_DIAG_REQ_NONE, 0) ∷
         (INET_DIAG_REQ_BYTECODE, 1) ∷ (INET_DIAG_REQ_SK_BPF_STORAGES, 2) ∷
         (INET_DIAG_REQ_PROTOCOL, 3) ∷ []) }
-    ensures filters { PairsAreEqual ((INET_DIAG_BC_NOP, 0) ∷ (INET_DIAG_BC_JMP, 1) ∷
-        (INET_DIAG_BC_S_GE, 2) ∷ (INET_DIAG_BC_S_LE, 3) ∷ (INET_DIAG_BC_D_GE, 4) ∷
-        (INET_DIAG_BC_D_LE, 5) ∷ (INET_DIAG_BC_AUTO, 6) ∷ (INET_DIAG_BC_S_COND, 7) ∷
-        (INET_DIAG_BC_D_COND, 8) ∷ (INET_DIAG_BC_DEV_COND, 9) ∷ (INET_DIAG_BC_MARK_COND, 10)
-        ∷ (INET_DIAG_BC_S_EQ, 11) ∷ (INET_DIAG_BC_D_EQ, 12) ∷ (INET_DIAG_BC_CGROUP_COND, 13)
-        ∷ []) }
     ensures memory_words { PairsAreEqual ((SK_MEMINFO_RMEM_ALLOC, 0) ∷ (SK_MEMINFO_RCVBUF, 1) ∷
         (SK_MEMINFO_WMEM_ALLOC, 2) ∷ (SK_MEMINFO_SNDBUF, 3) ∷ (SK_MEMINFO_FWD_ALLOC, 4) ∷
         (SK_MEMINFO_WMEM_QUEUED, 5) ∷ (SK_MEMINFO_OPTMEM, 6) ∷ (SK_MEMINFO_BACKLOG, 7) ∷

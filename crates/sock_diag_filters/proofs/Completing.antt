@@ -197,15 +197,6 @@ value_ending field operator st p out place is =
     o) v.is)
     (operator_after_condition (is_negated operator) v.condition st place p out)
 
-start_ending : (st : Option ℕ) → Ending (state places.Start st [] [])
-start_ending st = record {
-  words = [];
-  state = state places.Start st [] [];
-  is_read = refl;
-  complete
-      = refl;
-}
-
 ending_at : (place : Place) (st : Option ℕ) (p : List Pending) (out : List Part) (words : Words)
     → ReachedAt place words (state place st p out) → Ending (state place st p out)
 ending_at places.Start st p out words r =

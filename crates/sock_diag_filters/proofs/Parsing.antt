@@ -17,9 +17,6 @@ use Rattle.sock_diag_filters.specs.Words.{placed_words, without_offsets, words_o
 use Rattle.sock_diag_filters.proofs.Completing.{state_can_continue, text_is_complete}
 use Rattle.sock_diag_filters.proofs.ReadingTexts.{Words, read_words}
 
-Placed : Type 0
-Placed = List (ℕ × List ℕ)
-
 -- The outcome of a word and others, by the state after it.
 abbrev outcome_after : Option State → ℕ → List (ℕ × List ℕ) → Result State FilterTextError
 outcome_after o offset later = elim o [

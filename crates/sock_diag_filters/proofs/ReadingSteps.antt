@@ -31,11 +31,6 @@ size_after (pending.Not ∷ outer) = let h = size_after outer in omega (arith, h
 size_after (pending.And ∷ outer) = let h = size_after outer in omega (arith, h)
 size_after (pending.Or ∷ outer) = let h = size_after outer in omega (arith, h)
 
--- Completing operators keeps the number of parts.
-pub size_of_completed : (s : State) → size (completed s) ≡ size s
-size_of_completed s =
-    omega (arith, size_after s.pending, length-append s.parts (parts_after s.pending))
-
 -- The number of parts after a condition.
 pub size_with_condition : (negated : Bool) (condition : Condition) (s : State)
     → size s + 1 ≤ size (with_condition negated condition s)

@@ -12,10 +12,6 @@ use Rattle.byteorder.specs.Endian.{little_number}
 use Rattle.sock_diag_filters.specs.declared.codes.TheConstants as codes
 use Rattle.sock_diag_records.specs.declared.constants.TheConstants.{AF_INET, AF_INET6, AF_UNSPEC}
 
--- The code of INET_DIAG_BC_NOP, an operation whose condition is always met.
-abbrev pub nop_code : ℕ
-nop_code = 0
-
 -- `code_at left`: `code` of the operation at the start of `left`: INET_DIAG_BC_..
 abbrev pub code_at : List ℕ → ℕ
 code_at left = slice_index left 0
@@ -85,10 +81,10 @@ pub record IsOperationAudited (program left : List ℕ) : Type 0 where
   -- except for NOP, whose `no` is not checked: `no` is at least the minimum length, leads at most 4
   -- bytes past the end of the program, and is a multiple of 4; if it leads to a position before the
   -- end, that position is reachable
-  pub past_it : code_at left ≢ nop_code → least ≤ no_at left
-  pub within : code_at left ≢ nop_code → no_at left ≤ length left + 4
-  pub in_fours : code_at left ≢ nop_code → no_at left % 4 ≡ 0
-  pub lands : code_at left ≢ nop_code → no_at left < length left
+  pub past_it : code_at left ≢ codes.INET_DIAG_BC_NOP → least ≤ no_at left
+  pub within : code_at left ≢ codes.INET_DIAG_BC_NOP → no_at left ≤ length left + 4
+  pub in_fours : code_at left ≢ codes.INET_DIAG_BC_NOP → no_at left % 4 ≡ 0
+  pub lands : code_at left ≢ codes.INET_DIAG_BC_NOP → no_at left < length left
       → IsReachable program (length left - no_at left)
   -- `yes` is at least the minimum length, does not lead past the end, and is a multiple of 4
   pub steps_past : least ≤ yes_at left

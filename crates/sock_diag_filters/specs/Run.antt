@@ -3,8 +3,8 @@
 -- program.
 use Rattle.std.specs.Prelude.{◌≡◌, ℕ, ◌-◌, ◌<◌, ◌≤◌, ◌==◌, if◌then◌else◌, Bool, true, false, List}
 use Rattle.std.specs.Prelude.{length, take, drop}
-use Rattle.sock_diag_filters.specs.Audit.{code_at, nop_code, no_at, yes_at}
-use Rattle.sock_diag_filters.specs.declared.codes.TheConstants.{INET_DIAG_BC_JMP}
+use Rattle.sock_diag_filters.specs.Audit.{code_at, no_at, yes_at}
+use Rattle.sock_diag_filters.specs.declared.codes.TheConstants.{INET_DIAG_BC_JMP, INET_DIAG_BC_NOP}
 use Rattle.sock_diag_filters.specs.declared.codes.TheConstants.{OPERATION_HEADER_LEN}
 
 -- `arguments_at left`: the arguments of the operation at the start of `left`: the bytes after its
@@ -19,7 +19,7 @@ module _ (condition_met : ℕ → List ℕ → Bool) where
   -- `is_met condition_met left`: the condition of the operation at the start of `left` is met.
   abbrev pub is_met : List ℕ → Bool
   is_met left =
-      if code_at left == nop_code then true
+      if code_at left == INET_DIAG_BC_NOP then true
       else if code_at left == INET_DIAG_BC_JMP then false
       else condition_met (code_at left) (arguments_at left)
 

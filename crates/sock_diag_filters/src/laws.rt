@@ -43,6 +43,12 @@ ghost use Rattle.sock_diag_filters.specs.declared.view.RequestView.{RequestView}
 
 use crate::any::{AnyRequestView, RecordRequestView};
 use crate::assembly::{AssembleError, MAX_PROGRAM};
+use crate::codes::{
+    INET_DIAG_BC_AUTO, INET_DIAG_BC_CGROUP_COND, INET_DIAG_BC_DEV_COND, INET_DIAG_BC_D_COND,
+    INET_DIAG_BC_D_EQ, INET_DIAG_BC_D_GE, INET_DIAG_BC_D_LE, INET_DIAG_BC_JMP,
+    INET_DIAG_BC_MARK_COND, INET_DIAG_BC_NOP, INET_DIAG_BC_S_COND, INET_DIAG_BC_S_EQ,
+    INET_DIAG_BC_S_GE, INET_DIAG_BC_S_LE,
+};
 use crate::filter::Filter;
 use crate::request::{
     INET_DIAG_REQ_BYTECODE, INET_DIAG_REQ_PROTOCOL, REQUEST_FRONT, RequestAttribute,
@@ -256,6 +262,13 @@ pub fn equal_any_request_views(view: &AnyRequestView<'_>, other: &AnyRequestView
 /// States the numeric value of each public constant: `PairsAreEqual` states that both numbers of
 /// each pair are equal.
 pub fn filter_constants_have_their_values()
-    ensures { PairsAreEqual ((MAX_PROGRAM, 65531) ∷ (MAX_PARTS, 256) ∷ (MAX_PARSED_PROGRAM, 7168) ∷
-        (INET_DIAG_REQ_BYTECODE, 1) ∷ (INET_DIAG_REQ_PROTOCOL, 3) ∷ (REQUEST_FRONT, 72) ∷ []) }
+    ensures codes { PairsAreEqual ((INET_DIAG_BC_NOP, 0) ∷ (INET_DIAG_BC_JMP, 1) ∷
+        (INET_DIAG_BC_S_GE, 2) ∷ (INET_DIAG_BC_S_LE, 3) ∷ (INET_DIAG_BC_D_GE, 4) ∷
+        (INET_DIAG_BC_D_LE, 5) ∷ (INET_DIAG_BC_AUTO, 6) ∷ (INET_DIAG_BC_S_COND, 7) ∷
+        (INET_DIAG_BC_D_COND, 8) ∷ (INET_DIAG_BC_DEV_COND, 9) ∷ (INET_DIAG_BC_MARK_COND, 10)
+        ∷ (INET_DIAG_BC_S_EQ, 11) ∷ (INET_DIAG_BC_D_EQ, 12) ∷ (INET_DIAG_BC_CGROUP_COND, 13)
+        ∷ []) }
+    ensures others { PairsAreEqual ((MAX_PROGRAM, 65531) ∷ (MAX_PARTS, 256) ∷
+        (MAX_PARSED_PROGRAM, 7168) ∷ (INET_DIAG_REQ_BYTECODE, 1) ∷ (INET_DIAG_REQ_PROTOCOL, 3) ∷
+        (REQUEST_FRONT, 72) ∷ []) }
 {}

@@ -16,6 +16,12 @@ mod view;
 
 pub use crate::any::{AnyRequestView, RecordRequestView};
 pub use crate::assembly::{AssembleError, MAX_PROGRAM, assemble};
+pub use crate::codes::{
+    INET_DIAG_BC_AUTO, INET_DIAG_BC_CGROUP_COND, INET_DIAG_BC_DEV_COND, INET_DIAG_BC_D_COND,
+    INET_DIAG_BC_D_EQ, INET_DIAG_BC_D_GE, INET_DIAG_BC_D_LE, INET_DIAG_BC_JMP,
+    INET_DIAG_BC_MARK_COND, INET_DIAG_BC_NOP, INET_DIAG_BC_S_COND, INET_DIAG_BC_S_EQ,
+    INET_DIAG_BC_S_GE, INET_DIAG_BC_S_LE,
+};
 pub use crate::condition::{Comparison, Condition, Host, Prefix};
 pub use crate::filter::Filter;
 pub use crate::request::{
@@ -23,7 +29,7 @@ pub use crate::request::{
     RequestWithAttributes,
 };
 pub use crate::text::{
-    FilterTextError, MAX_PARSED_PROGRAM, MAX_PARTS, ParsedFilter, Part, SocketFacts, ip_in,
-    states_named,
+    FilterTextError, MAX_PARSED_PROGRAM, MAX_PARTS, ParsedFilter, Part, SocketFacts, index_of,
+    ip_in, states_named, value_of,
 };
 pub use crate::view::RequestView;

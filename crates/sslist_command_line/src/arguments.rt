@@ -1,7 +1,6 @@
 //! Arguments of the command line of a program that lists captures.
 
-ghost use Rattle.std.specs.Prelude.{◌≡◌, map};
-ghost use Rattle.sock_diag_filters.specs.Rows.{named_row, value_of};
+ghost use Rattle.std.specs.Prelude.{◌≡◌};
 ghost use Rattle.sslist_command_line.specs.Choice.{argument_at, ends_in_f};
 ghost use Rattle.sslist_command_line.specs.Choice.{family_argument, family_named};
 ghost use Rattle.sslist_command_line.specs.Choice.{first_rejected_letter};
@@ -16,7 +15,7 @@ ghost use Rattle.sslist_command_line.specs.Choice.{without_last_f};
 
 use crate::choice::Rejection;
 use crate::options::{AnyFamily, Options};
-use crate::text::index_of;
+use sock_diag_filters::{index_of, value_of};
 
 /// Letters that may be joined after a hyphen. Not in this list are `f`, which has to be the last
 /// one and needs the name of a family, and `h` and `V`, which have to be alone.
@@ -152,18 +151,6 @@ fn flag_argument(argument: &[u8]) -> Option<Argument>
     ensures { result ≡ flag_argument argument.now }
 {
     value_of(&FLAGS, argument)
-}
-
-/// Returns the value in the first row with this name, or `None` if there is none.
-fn value_of<T: Copy>(rows: &[(&str, T)], name: &[u8]) -> Option<T>
-    ensures { result ≡ value_of (map named_row rows.now) name.now }
-{
-    for &(other, value) in rows {
-        if name == other.as_bytes() {
-            return Some(value);
-        }
-    }
-    None
 }
 
 /// Parses an argument that begins with two hyphens and is not in `FLAGS`: an option with an equals

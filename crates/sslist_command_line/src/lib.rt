@@ -8,7 +8,6 @@ mod equality;
 mod files;
 pub mod laws;
 mod options;
-mod text;
 
 pub use choice::{Choice, Rejection, choose};
 pub use files::{ListCapture, filter_text, list_captures, names_several};

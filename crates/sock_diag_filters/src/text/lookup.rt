@@ -4,7 +4,7 @@ ghost use Rattle.std.specs.Prelude.{◌≡◌, map};
 ghost use Rattle.sock_diag_filters.specs.Rows.{is_name, named_row, value_named, value_of};
 
 /// Returns the value in the first row with this word, or `None` if there is none.
-pub(crate) fn value_of<T: Copy>(rows: &[(&str, T)], word: &[u8]) -> Option<T>
+pub fn value_of<T: Copy>(rows: &[(&str, T)], word: &[u8]) -> Option<T>
     ensures { result ≡ value_of (map named_row rows.now) word.now }
 {
     for &(other, value) in rows {

@@ -5,7 +5,7 @@ ghost use Rattle.sock_diag_filters.specs.Numbers.{digit_value, digits_in, index_
 ghost use Rattle.sock_diag_filters.specs.Numbers.{with_digit};
 
 /// Returns the index of the first byte that is equal to `byte`, or `None` if there is none.
-pub(crate) fn index_of(byte: u8, text: &[u8]) -> Option<usize>
+pub fn index_of(byte: u8, text: &[u8]) -> Option<usize>
     ensures value { result ≡ index_of byte text.now }
     // So the text can be split before and after this byte.
     ensures bound { IfSome result (λ index. index < length text.now) }
