@@ -710,7 +710,7 @@ struct sockdiag_inet_header {
                                         retransmission, 2 keepalive, 3 TIME_WAIT, 4 zero-window
                                         probe; 5 delayed acknowledgement, since Linux 7.2. Of an
                                         SCTP association: 0 none, or else its retransmission
-                                        timer (T3-rtx). */
+                                        timer. */
     uint8_t retransmits;             /* Number of retransmissions if the timer is 1, of probes if
                                         it is 2 or 4 (idiag_retrans, at 3). */
     uint32_t expires;                /* Milliseconds until the timer expires (idiag_expires, at
@@ -2035,8 +2035,9 @@ static inline uint32_t sockdiag_explain(uint32_t what, const uint8_t *bytes, siz
  *
  * A call writes a whole netlink message at the start of the buffer, stores its length, and leaves
  * the bytes after it unchanged. If the buffer is shorter, it returns SOCKDIAG_NO_SPACE, and stores
- * the length that it needs; SOCKDIAG_.._REQUEST_LENGTH bytes suffice. After other errors it stores
- * 0. Nothing is written then. All bits of flags and of bit sets are written unchanged.
+ * the length that it needs. SOCKDIAG_.._REQUEST_LENGTH bytes suffice without attributes of the
+ * caller. After other errors it stores 0. Nothing is written then. All bits of flags and of bit
+ * sets are written unchanged.
  */
 
 /*

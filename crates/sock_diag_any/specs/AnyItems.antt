@@ -19,7 +19,7 @@ pub record Rejection : Type 0 where
   pub attribute : Option Attribute
   pub error : DecodeError
 
--- the model of a rejection (`Rejected` of `src/any/nlas.rt`)
+-- the model of a rejection (`Rejected` of `src/nlas.rt`)
 abbrev pub rejection : Rejected → Rejection
 rejection (rejected.Attribute nla e) =
     record { attribute = Some (buffered_attribute nla); error = e }

@@ -97,7 +97,7 @@ pub data AnyValue : Type 0 where
   -- an attribute of any other kind
   unknown : Attribute → AnyValue
 
--- what a decoded attribute (`AnyNla` of `src/any/nla.rt`) says
+-- what a decoded attribute (`AnyNla` of `src/nla.rt`) says
 abbrev pub any_model : AnyNla → AnyValue
 any_model (nla.Name n) = name (name_view_model n)
 any_model (nla.Vfs file) = vfs file

@@ -42,7 +42,7 @@ pub enum AnyHeader {
 pub struct RawTimer {
     /// What the timer is for (`idiag_timer`). Of a TCP socket: 0 none, 1 retransmission, 2
     /// keepalive, 3 TIME_WAIT, 4 zero window probe, 5 delayed acknowledgement (since Linux 7.2). Of
-    /// an SCTP association: 0 none, or else its retransmission timer (T3-rtx).
+    /// an SCTP association: 0 none, or else its retransmission timer.
     pub kind: u8,
     /// Number of retransmissions, or of probes for keepalive and zero window probes
     /// (`idiag_retrans`).

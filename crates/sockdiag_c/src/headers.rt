@@ -44,7 +44,7 @@ pub struct InetHeader {
     pub state: u8,
     /// Timer (`idiag_timer`, at 2). Of a TCP socket: 0 none, 1 retransmission, 2 keepalive, 3
     /// TIME_WAIT, 4 zero-window probe; 5 delayed acknowledgement, since Linux 7.2. Of an SCTP
-    /// association: 0 none, or else its retransmission timer (T3-rtx).
+    /// association: 0 none, or else its retransmission timer.
     pub timer: u8,
     /// Number of retransmissions if the timer is 1, of probes if it is 2 or 4 (`idiag_retrans`, at
     /// 3).

@@ -1,4 +1,4 @@
--- Facts of a reply, and what they are shown as. Texts are lists of bytes: 41 is a closing
+-- Facts of a value, and what they are shown as. Texts are lists of bytes: 41 is a closing
 -- parenthesis and 44 a comma.
 use Rattle.std.specs.Prelude.{◌≡◌, ℕ, ◌==◌, ◌/◌, ◌%◌, ◌||◌, if◌then◌else◌, Bool, List, [], ◌∷◌}
 use Rattle.std.specs.Prelude.{◌++◌, bit_and, codes, decimal, false, flat_map}
@@ -20,7 +20,7 @@ use Rattle.sslist_facts.specs.declared.facts.Shown.TheVariants.{NonzeroExcept, N
 use Rattle.sslist_facts.specs.declared.facts.Shown.TheVariants.{Version}
 
 -- `Facts`: their text in the table, and their members in JSON. A definition says once which facts a
--- reply has. Some have no text in the table (`Never`), and some no member in JSON (None).
+-- value has. Some have no text in the table (`Never`), and some no member in JSON (None).
 pub record Facts : Type 0 where
   pub text : List ℕ
   pub members : List JsonMember

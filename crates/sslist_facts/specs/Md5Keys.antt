@@ -4,11 +4,10 @@
 -- equals sign.
 use Rattle.std.specs.Prelude.{ℕ, ◌==◌, if◌then◌else◌, List, [], ◌∷◌, ◌++◌, codes, decimal}
 use Rattle.std.specs.Prelude.{flat_map}
-use Rattle.hex.specs.Hex.{encode_lower}
 use Rattle.sock_diag_extras.specs.Md5Signature.{md5_signature, peer_ip, used_key}
 use Rattle.sock_diag_extras.specs.declared.md5_signature.Md5Signature.{Md5Signature}
 use Rattle.sslist_texts.specs.Escapes.{byte_digits, escaped_byte}
-use Rattle.sslist_texts.specs.JsonData.{JsonMember, number_members, text_member}
+use Rattle.sslist_texts.specs.JsonData.{JsonMember, digits_member, number_members}
 use Rattle.sslist_facts.specs.Facts.{Facts}
 use Rattle.sslist_facts.specs.RecordFacts.{ip_member, ip_or_star, records_facts, records_in}
 
@@ -27,7 +26,7 @@ unfoldable pub md5_key_members : Md5Signature → List JsonMember
 md5_key_members k =
     number_members ((codes "family", k.family) ∷ (codes "prefixlen", k.prefix_length)
     ∷ (codes "keylen", k.key_length) ∷ [])
-    ++ (ip_member (peer_ip k) ++ text_member (codes "key") (encode_lower (used_key k)))
+    ++ (ip_member (peer_ip k) ++ digits_member (codes "key") (used_key k))
 
 -- `md5_facts value`: the keys in the value of INET_DIAG_MD5SIG: ` md5keys:` and the keys in the
 -- table, or nothing if there are none; the array `md5sig` of their objects in JSON

@@ -1,10 +1,9 @@
 -- The memberships of a packet socket, PACKET_DIAG_MCLIST. Only JSON has them, since ss(8) does not
 -- show them. Names in JSON are the kernel's names without the prefix `pdmc_`.
 use Rattle.std.specs.Prelude.{ℕ, List, [], ◌∷◌, ◌++◌, codes}
-use Rattle.hex.specs.Hex.{encode_lower}
 use Rattle.sock_diag_extras.specs.PacketMembership.{packet_membership, used_address}
 use Rattle.sock_diag_extras.specs.declared.membership.PacketMembership.{PacketMembership}
-use Rattle.sslist_texts.specs.JsonData.{JsonMember, number_members, text_member}
+use Rattle.sslist_texts.specs.JsonData.{JsonMember, digits_member, number_members}
 use Rattle.sslist_facts.specs.Facts.{Facts}
 use Rattle.sslist_facts.specs.RecordFacts.{records_facts, records_in}
 
@@ -17,7 +16,7 @@ unfoldable pub membership_members : PacketMembership → List JsonMember
 membership_members m =
     number_members ((codes "index", m.interface) ∷ (codes "count", m.count) ∷
     (codes "type", m.kind) ∷ (codes "alen", m.address_length) ∷ [])
-    ++ text_member (codes "addr") (encode_lower (used_address m))
+    ++ digits_member (codes "addr") (used_address m)
 
 -- the array `mclist` of the memberships in the value of an attribute in JSON
 abbrev pub memberships_facts : List ℕ → Facts

@@ -62,11 +62,11 @@ queue_facts receive send =
 
 -- ---- IPv4 and IPv6 sockets
 
--- `option_bits bits`: the options of a socket, `struct inet_diag_sockopt`. `bits` are its two bytes
--- as a little-endian number. JSON has this number. The table has a name for each bit that is set,
--- in the order of the fields of the struct.
-unfoldable pub option_bits : ℕ → Facts
-option_bits bits = numbers (
+-- `option_facts bits`: the options of a socket, `struct inet_diag_sockopt`. `bits` are its two
+-- bytes as a little-endian number. JSON has this number. The table has a name for each bit that is
+-- set, in the order of the fields of the struct.
+unfoldable pub option_facts : ℕ → Facts
+option_facts bits = numbers (
     hidden_number (codes "sockopt") bits ∷
     flag_number 1 (codes " recverr") bits ∷ flag_number 2 (codes " is_icsk") bits ∷
     flag_number 4 (codes " freebind") bits ∷ flag_number 8 (codes " hdrincl") bits ∷

@@ -10,8 +10,7 @@ use Rattle.sock_diag_extras.specs.TcpFields.{tcp_span_of}
 use Rattle.sock_diag_extras.specs.declared.tcp_info.TcpField.TheVariants as field
 use Rattle.sock_diag_records.specs.declared.constants.TheConstants.{TCPI_OPT_WSCALE}
 use Rattle.sslist_facts.specs.Rows.{Text, text_of}
-use Rattle.sslist_facts.specs.Facts.{Facts, both, facts_of_each, json_group, no_facts}
-use Rattle.sslist_facts.specs.Facts.{number_facts}
+use Rattle.sslist_facts.specs.Facts.{Facts, both, facts_of_each, json_group, number_row_facts}
 use Rattle.sslist_facts.specs.declared.facts.Shown.{Shown}
 use Rattle.sslist_facts.specs.declared.tcp.FieldPart.{FieldPart}
 use Rattle.sslist_facts.specs.declared.tcp.FieldPart.TheVariants.{Eight, FirstBit, Four, HighFour}
@@ -81,25 +80,24 @@ number_in part offset bytes = option_map (part_bits part) (field_in 1 offset byt
 
 -- `row_facts bytes row`: the fact of a row; no fact if the bytes do not have its number
 unfoldable pub row_facts : List ℕ → FieldRow → Facts
-row_facts bytes row =
-    option_map_or (number_facts row.2 row.3.now (option_map (λ member. member.now) row.4))
-    (number_in row.1 row.0 bytes) no_facts
+row_facts bytes row = number_row_facts
+    (row.2, row.3.now, option_map (λ member. member.now) row.4, number_in row.1 row.0 bytes)
 
 -- `field_facts bytes rows`: the facts of those rows whose number the bytes have, in order
 unfoldable pub field_facts : List ℕ → List FieldRow → Facts
 field_facts bytes rows = facts_of_each (row_facts bytes) rows
 
 -- the fields of `struct tcp_info` that the bytes contain
-unfoldable pub tcp_fields : List ℕ → Facts
-tcp_fields bytes =
+unfoldable pub tcp_field_facts : List ℕ → Facts
+tcp_field_facts bytes =
     both (field_facts bytes TCP_STATE_ROWS)
     (both (field_facts bytes TCP_METRIC_ROWS) (field_facts bytes TCP_RATE_ROWS))
 
 -- the facts of INET_DIAG_INFO of a TCP socket: those fields, as the group `info`
-unfoldable pub tcp_info : List ℕ → Facts
-tcp_info bytes = json_group (codes "info") (tcp_fields bytes)
+unfoldable pub tcp_facts : List ℕ → Facts
+tcp_facts bytes = json_group (codes "info") (tcp_field_facts bytes)
 
 -- the facts of INET_DIAG_INFO of an MPTCP socket: the fields of `struct mptcp_info` that the bytes
 -- contain, as the group `info`
-unfoldable pub mptcp_info : List ℕ → Facts
-mptcp_info bytes = json_group (codes "info") (field_facts bytes MPTCP_ROWS)
+unfoldable pub mptcp_facts : List ℕ → Facts
+mptcp_facts bytes = json_group (codes "info") (field_facts bytes MPTCP_ROWS)

@@ -1,5 +1,5 @@
-//! The facts of a reply. A fact has a row: how the table shows it, and its name in JSON. Some are
-//! only in one of them. A function of this module appends to a sink. If it fails, an allocation
+//! Facts, and the two sinks that show them: the text of the table, and a line of JSON. Some facts
+//! are only in one of them. A function of this module appends to a sink. If it fails, an allocation
 //! failed, and the content of the sink is not specified.
 //!
 //! In the contracts, `AddsFacts old new facts` states that the sink shows these facts after what it

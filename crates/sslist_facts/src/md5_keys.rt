@@ -11,7 +11,7 @@ use crate::records::{ShownRecord, push_ip_or_star, write_ip};
 use json::Writer;
 use sock_diag_extras::Md5Signature;
 use sslist_texts::cells::{push_after, push_digits, push_escaped_byte};
-use sslist_texts::json_writing::{write_numbers, write_text};
+use sslist_texts::json_writing::{write_digits, write_numbers};
 use std::alloc::{AllocError, Global};
 
 impl ShownRecord for Md5Signature {
@@ -80,6 +80,5 @@ fn write_key_members(
     ];
     write_numbers(writer, &rows)?;
     write_ip(alloc, writer, key.ip())?;
-    let digits = hex::encode(alloc, key.used_key())?;
-    write_text(writer, "key", digits.as_str())
+    write_digits(alloc, writer, "key", key.used_key())
 }

@@ -9,7 +9,7 @@ ghost use Rattle.sslist_texts.specs.JsonWriting.{KeepsPrefix, members_tokens};
 use crate::records::ShownRecord;
 use json::Writer;
 use sock_diag_extras::PacketMembership;
-use sslist_texts::json_writing::{write_numbers, write_text};
+use sslist_texts::json_writing::{write_digits, write_numbers};
 use std::alloc::{AllocError, Global};
 
 impl ShownRecord for PacketMembership {
@@ -45,6 +45,5 @@ fn write_membership(
         ("alen", membership.address_length as u64),
     ];
     write_numbers(writer, &rows)?;
-    let digits = hex::encode(alloc, membership.used_address())?;
-    write_text(writer, "addr", digits.as_str())
+    write_digits(alloc, writer, "addr", membership.used_address())
 }

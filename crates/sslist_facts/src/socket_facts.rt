@@ -7,7 +7,7 @@
 ghost use Rattle.std.specs.Prelude.{◌≡◌, OnOk};
 ghost use Rattle.sslist_facts.specs.Facts.{AddsFacts};
 ghost use Rattle.sslist_facts.specs.SocketFacts.{bbr_facts, dctcp_facts, legacy_memory_facts};
-ghost use Rattle.sslist_facts.specs.SocketFacts.{memory_facts, memory_group, option_bits};
+ghost use Rattle.sslist_facts.specs.SocketFacts.{memory_facts, memory_group, option_facts};
 ghost use Rattle.sslist_facts.specs.SocketFacts.{queue_facts, vegas_facts, vfs_facts};
 
 use crate::facts::{
@@ -30,13 +30,12 @@ pub fn show_vfs<S: FactSink>(sink: &mut S, inode: u32, device: u32) -> Result<()
     show_json_group(sink, "vfs", &rows)
 }
 
-/// Shows the lengths of the queues of a UNIX socket: `first` of the receive queue, `second` of the
-/// send queue.
-pub fn show_queues<S: FactSink>(sink: &mut S, first: u32, second: u32) -> Result<(), AllocError>
+/// Shows the lengths of the queues of a UNIX socket.
+pub fn show_queues<S: FactSink>(sink: &mut S, receive: u32, send: u32) -> Result<(), AllocError>
     ensures { OnOk result (AddsFacts (S.content sink.old) (S.content sink.new)
-        (queue_facts first second)) }
+        (queue_facts receive send)) }
 {
-    let rows: [NumberRow<'_>; 2] = [hidden!("rqueue", first), hidden!("wqueue", second)];
+    let rows: [NumberRow<'_>; 2] = [hidden!("rqueue", receive), hidden!("wqueue", send)];
     show_json_group(sink, "rqlen", &rows)
 }
 
@@ -112,9 +111,10 @@ pub fn show_legacy_memory<S: FactSink>(
 
 /// Shows the options of a socket (`INET_DIAG_SOCKOPT`) by their bits: as a number in JSON, and the
 /// name of each in the table.
-#[tactic(auto, unfolding(crate::specs::SocketFacts::option_bits))]
+#[tactic(auto, unfolding(crate::specs::SocketFacts::option_facts))]
 pub fn show_option_bits<S: FactSink>(sink: &mut S, bits: u16) -> Result<(), AllocError>
-    ensures { OnOk result (AddsFacts (S.content sink.old) (S.content sink.new) (option_bits bits)) }
+    ensures { OnOk result (AddsFacts (S.content sink.old) (S.content sink.new)
+        (option_facts bits)) }
 {
     // The bits are in the order of the fields of `struct inet_diag_sockopt`.
     let rows: [NumberRow<'_>; 12] = [

@@ -10,8 +10,8 @@
 ghost use Rattle.std.specs.Prelude.{◌≡◌, OnOk, flat_map, map, option_map};
 ghost use Rattle.sslist_facts.specs.Facts.{AddsFacts, AddsItems};
 ghost use Rattle.sslist_facts.specs.Tcp.{bytes_from, field_facts, field_in, field_row_of};
-ghost use Rattle.sslist_facts.specs.Tcp.{has_round_trip, has_scales, mptcp_info, number_in};
-ghost use Rattle.sslist_facts.specs.Tcp.{part_bits, row_facts, tcp_fields, tcp_info};
+ghost use Rattle.sslist_facts.specs.Tcp.{has_round_trip, has_scales, mptcp_facts, number_in};
+ghost use Rattle.sslist_facts.specs.Tcp.{part_bits, row_facts, tcp_facts, tcp_field_facts};
 
 use crate::facts::{FactSink, Shown};
 use byteorder::{ByteOrder, LittleEndian};
@@ -24,7 +24,7 @@ use std::alloc::AllocError;
 
 /// The number of a row: a little-endian number at an offset, or some of its bits.
 #[derive(Clone, Copy)]
-pub(crate) enum FieldPart {
+enum FieldPart {
     /// A byte.
     Byte,
     /// A number of two bytes.
@@ -70,7 +70,7 @@ macro_rules! nonzero {
 }
 
 /// A number that the table does not show.
-macro_rules! hidden {
+macro_rules! json_only {
     ($offset:literal, $part:ident, $member:literal) => {
         row!($offset, $part, Shown::Never, b"", Some($member))
     };
@@ -84,7 +84,7 @@ macro_rules! hexadecimal {
 }
 
 /// A bit of a field of flags at an offset, which the table shows if it is set.
-macro_rules! flag {
+macro_rules! bit {
     ($offset:literal, $part:ident, $bit:ident, $text:literal) => {
         row!($offset, $part, Shown::Bits($bit as u64), $text, None)
     };
@@ -121,19 +121,19 @@ const NO_MIN_RTT: u64 = 0xffff_ffff;
 /// The facts of the first eight bytes of `struct tcp_info`: the state, the options and the window
 /// scales.
 static TCP_STATE_ROWS: [FieldRow; 16] = [
-    hidden!(0, Byte, "state"),
-    hidden!(1, Byte, "ca_state"),
-    hidden!(2, Byte, "retransmits"),
-    hidden!(3, Byte, "probes"),
+    json_only!(0, Byte, "state"),
+    json_only!(1, Byte, "ca_state"),
+    json_only!(2, Byte, "retransmits"),
+    json_only!(3, Byte, "probes"),
     nonzero!(4, Byte, b" backoff:", "backoff"),
-    hidden!(5, Byte, "options"),
-    flag!(5, Byte, TCPI_OPT_TIMESTAMPS, b" ts"),
-    flag!(5, Byte, TCPI_OPT_SACK, b" sack"),
-    flag!(5, Byte, TCPI_OPT_ECN, b" ecn"),
-    flag!(5, Byte, TCPI_OPT_ECN_SEEN, b" ecnseen"),
-    flag!(5, Byte, TCPI_OPT_SYN_DATA, b" fastopen"),
-    hidden!(6, LowFour, "snd_wscale"),
-    hidden!(6, HighFour, "rcv_wscale"),
+    json_only!(5, Byte, "options"),
+    bit!(5, Byte, TCPI_OPT_TIMESTAMPS, b" ts"),
+    bit!(5, Byte, TCPI_OPT_SACK, b" sack"),
+    bit!(5, Byte, TCPI_OPT_ECN, b" ecn"),
+    bit!(5, Byte, TCPI_OPT_ECN_SEEN, b" ecnseen"),
+    bit!(5, Byte, TCPI_OPT_SYN_DATA, b" fastopen"),
+    json_only!(6, LowFour, "snd_wscale"),
+    json_only!(6, HighFour, "rcv_wscale"),
     row!(6, Negotiated, Shown::Halves, b" wscale:(", None),
     row!(
         7,
@@ -142,7 +142,7 @@ static TCP_STATE_ROWS: [FieldRow; 16] = [
         b" app_limited",
         Some("delivery_rate_app_limited")
     ),
-    hidden!(7, NextTwo, "fastopen_client_fail"),
+    json_only!(7, NextTwo, "fastopen_client_fail"),
 ];
 
 /// The facts of the times and metrics in `struct tcp_info`, up to `tcpi_total_retrans`.
@@ -155,16 +155,16 @@ static TCP_METRIC_ROWS: [FieldRow; 25] = [
     nonzero!(28, Four, b" sacked:", "sacked"),
     nonzero!(32, Four, b" lost:", "lost"),
     nonzero!(36, Four, b" retrans_now:", "retrans"),
-    hidden!(40, Four, "fackets"),
+    json_only!(40, Four, "fackets"),
     nonzero!(44, Four, b" lastsnd:", "last_data_sent"),
-    hidden!(48, Four, "last_ack_sent"),
+    json_only!(48, Four, "last_ack_sent"),
     nonzero!(52, Four, b" lastrcv:", "last_data_recv"),
     nonzero!(56, Four, b" lastack:", "last_ack_recv"),
     nonzero!(60, Four, b" pmtu:", "pmtu"),
     nonzero!(64, Four, b" rcv_ssthresh:", "rcv_ssthresh"),
     nonzero!(68, Four, b" rtt:", "rtt"),
     row!(72, Measured, Shown::Nonzero, b" rttvar:", None),
-    hidden!(72, Four, "rttvar"),
+    json_only!(72, Four, "rttvar"),
     known!(76, INFINITE_THRESHOLD, b" ssthresh:", "snd_ssthresh"),
     nonzero!(80, Four, b" cwnd:", "snd_cwnd"),
     nonzero!(84, Four, b" advmss:", "advmss"),
@@ -224,9 +224,9 @@ static MPTCP_ROWS: [FieldRow; 27] = [
     nonzero!(3, Byte, b" subflows_max:", "subflows_max"),
     nonzero!(4, Byte, b" add_addr_signal_max:", "add_addr_signal_max"),
     nonzero!(5, Byte, b" add_addr_accepted_max:", "add_addr_accepted_max"),
-    hidden!(8, Four, "flags"),
-    flag!(8, Four, MPTCP_INFO_FLAG_FALLBACK, b" fallback"),
-    flag!(8, Four, MPTCP_INFO_FLAG_REMOTE_KEY_RECEIVED, b" remote_key"),
+    json_only!(8, Four, "flags"),
+    bit!(8, Four, MPTCP_INFO_FLAG_FALLBACK, b" fallback"),
+    bit!(8, Four, MPTCP_INFO_FLAG_REMOTE_KEY_RECEIVED, b" remote_key"),
     hexadecimal!(12, Four, b" token:", "token"),
     hexadecimal!(16, Eight, b" write_seq:", "write_seq"),
     hexadecimal!(24, Eight, b" snd_una:", "snd_una"),
@@ -250,7 +250,7 @@ static MPTCP_ROWS: [FieldRow; 27] = [
 /// Shows the fields of `struct tcp_info` that the bytes contain, as the group `info`.
 pub fn show_tcp_info<S: FactSink>(sink: &mut S, bytes: &[u8]) -> Result<(), AllocError>
     ensures { OnOk result (AddsFacts (S.content sink.old) (S.content sink.new)
-        (tcp_info bytes.now)) }
+        (tcp_facts bytes.now)) }
 {
     sink.begin(b"", "info")?;
     show_tcp_fields(sink, bytes)?;
@@ -260,7 +260,7 @@ pub fn show_tcp_info<S: FactSink>(sink: &mut S, bytes: &[u8]) -> Result<(), Allo
 /// Shows the fields of `struct tcp_info` that the bytes contain.
 fn show_tcp_fields<S: FactSink>(sink: &mut S, bytes: &[u8]) -> Result<(), AllocError>
     ensures { OnOk result (AddsFacts (S.content sink.old) (S.content sink.new)
-        (tcp_fields bytes.now)) }
+        (tcp_field_facts bytes.now)) }
 {
     show_fields(sink, bytes, &TCP_STATE_ROWS)?;
     show_fields(sink, bytes, &TCP_METRIC_ROWS)?;
@@ -270,7 +270,7 @@ fn show_tcp_fields<S: FactSink>(sink: &mut S, bytes: &[u8]) -> Result<(), AllocE
 /// Shows the fields of `struct mptcp_info` that the bytes contain, as the group `info`.
 pub fn show_mptcp_info<S: FactSink>(sink: &mut S, bytes: &[u8]) -> Result<(), AllocError>
     ensures { OnOk result (AddsFacts (S.content sink.old) (S.content sink.new)
-        (mptcp_info bytes.now)) }
+        (mptcp_facts bytes.now)) }
 {
     sink.begin(b"", "info")?;
     show_fields(sink, bytes, &MPTCP_ROWS)?;
@@ -286,7 +286,7 @@ fn show_fields<S: FactSink>(sink: &mut S, bytes: &[u8], rows: &[FieldRow]) -> Re
 }
 
 /// Does what [`show_fields`] does. The contract states it of items, as the loop appends them.
-#[tactic(auto, using(crate::proofs::Rows::kept), unfolding(crate::specs::Tcp::row_facts))]
+#[tactic(auto, using(crate::proofs::Rows::same), unfolding(crate::specs::Tcp::row_facts))]
 fn show_rows<S: FactSink>(sink: &mut S, bytes: &[u8], rows: &[FieldRow]) -> Result<(), AllocError>
     ensures { OnOk result (AddsItems (S.content sink.old) (S.content sink.new)
         (flat_map (λ row. S.items (row_facts bytes.now (field_row_of row))) rows.now)) }

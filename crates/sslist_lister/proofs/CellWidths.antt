@@ -12,7 +12,7 @@ use Rattle.sslist_lister.specs.Widths.{cell_width, name_column, spaces_after}
 -- If `utf8` is set, valid UTF-8 has the width of its characters.
 pub utf8_has_width_of_characters : (utf8 : Bool) (cell : List ℕ) → utf8 ≡ true → IsUtf8 cell
     → str_width false (chars cell) ≡ cell_width utf8 cell
-utf8_has_width_of_characters utf8 cell asked is = rw (asked, is_utf8-from_IsUtf8 cell is) refl
+utf8_has_width_of_characters utf8 cell is_set is = rw (is_set, is_utf8-from_IsUtf8 cell is) refl
 
 second_number_is_selected : (p q : Bool) (x y : ℕ) → (q ≡ true → ⊥) → y ≡ cond (p && q) x y
 second_number_is_selected p q x y wrong =

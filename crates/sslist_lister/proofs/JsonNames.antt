@@ -11,7 +11,7 @@ use Rattle.sock_diag_attributes.specs.declared.unix.name.SocketName.TheVariants.
 use Rattle.sslist_texts.specs.JsonData.{bytes_member, json_text}
 use Rattle.sslist_texts.specs.JsonData.{text_member}
 use Rattle.sslist_facts.specs.Facts.{bytes_facts}
-use Rattle.sslist_lister.specs.AttributeFacts.{name_bytes}
+use Rattle.sslist_lister.specs.AttributeFacts.{name_bytes_facts}
 use Rattle.sslist_lister.specs.private.JsonNames.{HaveSameText, bytes_of_name}
 
 -- the object with one member, a string
@@ -75,7 +75,8 @@ path_is_not_abstract : (p a : List ℕ) → slice_index p 0 ≡ 112 → slice_in
 path_is_not_abstract p a first other = other_first p a (λ same. omega (arith, first, other, same))
 
 names_differ : (b c : List ℕ)
-    → HaveSameText (name_bytes (Pathname b)).members (name_bytes (Abstract c)).members → ⊥
+    → HaveSameText (name_bytes_facts (Pathname b)).members (name_bytes_facts (Abstract c)).members
+    → ⊥
 unfolding bytes_member bytes_facts
 names_differ b c =
     other_kind (codes "path") (codes "path_hex") (codes "abstract") (codes "abstract_hex") b c
@@ -86,7 +87,7 @@ names_differ b c =
 -- Names with the same text are equal.
 pub names_with_same_text : (n m : SocketName (List ℕ)) → IsBytes (bytes_of_name n)
     → IsBytes (bytes_of_name m)
-    → HaveSameText (name_bytes n).members (name_bytes m).members → n ≡ m
+    → HaveSameText (name_bytes_facts n).members (name_bytes_facts m).members → n ≡ m
 unfolding bytes_member bytes_facts
 names_with_same_text (Pathname b) (Pathname c) low_b low_c e =
     ap Pathname (same_kind (codes "path") (codes "path_hex") b c path_is_not_hex low_b low_c

@@ -9,7 +9,6 @@ use Rattle.std.proofs.lemmas.List.Folds.{flat_map-map}
 use Rattle.std.proofs.lemmas.List.FromFn.{fill_by_all}
 use Rattle.json.specs.Json.{Json}
 use Rattle.json.specs.Tree.{json_tokens}
-use Rattle.hex.specs.Hex.{encode_lower}
 use Rattle.netlink_core.specs.Attribute.{Attribute, attribute_kind}
 use Rattle.netlink_core.specs.declared.error.DecodeError.{DecodeError}
 use Rattle.sslist_lister.specs.Collected.{first_valid, other_in_item, slot_value}
@@ -23,7 +22,7 @@ use Rattle.sslist_lister.specs.JsonAttributes.{attributes_members, other_item, v
 use Rattle.sslist_lister.specs.JsonAttributes.{attribute_members, item_members}
 use Rattle.sslist_texts.proofs.Adding.{appended_texts_concatenate}
 use Rattle.sslist_texts.proofs.JsonWriting.{items_of_map, json_rules, tokens_of_each}
-use Rattle.sslist_texts.specs.JsonData.{JsonMember, array_member, number_members}
+use Rattle.sslist_texts.specs.JsonData.{JsonMember, array_member, digits_member, number_members}
 use Rattle.sslist_texts.specs.JsonData.{text_member}
 use Rattle.sslist_lister.specs.Details.{error_reason}
 use Rattle.sslist_texts.specs.JsonWriting.{items_tokens, members_tokens}
@@ -131,7 +130,7 @@ pub ruleset attributes_rules = (json_rules, attributes_are_valid_and_other)
 -- The members of an attribute are its type, its length and its bytes.
 pub attribute_members_are : (a : Attribute) → attribute_members a
     ≡ number_members ((codes "kind", attribute_kind a) ∷ (codes "length", length a.value) ∷ [])
-    ++ text_member (codes "hex") (encode_lower a.value)
+    ++ digits_member (codes "hex") a.value
 unfolding attribute_members
 attribute_members_are a = refl
 

@@ -1,4 +1,6 @@
--- Facts of the attributes of a reply. `utf8` is the option `--utf8`.
+-- Facts of the attributes of a reply. `utf8` is the option `--utf8`. Names in JSON are the kernel's
+-- names in lowercase, without the prefix that all names of a struct or an enum have, except those
+-- of the bytes of a name (`path` and so on).
 use Rattle.std.specs.Prelude.{ℕ, ◌==◌, List, [], codes}
 use Rattle.std.specs.Prelude.{Bool, false, true, None, Some, Ok, Option, Result}
 use Rattle.std.specs.Option.{option_map_or}
@@ -26,16 +28,16 @@ use Rattle.sslist_facts.specs.Md5Keys.{md5_facts}
 use Rattle.sslist_facts.specs.Memberships.{memberships_facts}
 use Rattle.sslist_facts.specs.SctpAddresses.{addresses_facts}
 use Rattle.sslist_facts.specs.SocketFacts.{bbr_facts, dctcp_facts, legacy_memory_facts}
-use Rattle.sslist_facts.specs.SocketFacts.{memory_facts, option_bits, queue_facts, vegas_facts}
+use Rattle.sslist_facts.specs.SocketFacts.{memory_facts, option_facts, queue_facts, vegas_facts}
 use Rattle.sslist_facts.specs.SocketFacts.{vfs_facts}
-use Rattle.sslist_facts.specs.Tcp.{mptcp_info, tcp_info}
+use Rattle.sslist_facts.specs.Tcp.{mptcp_facts, tcp_facts}
 use Rattle.sslist_facts.specs.declared.facts.Shown.TheVariants.{Always, Directions, Hex, Never}
 use Rattle.sslist_lister.specs.UlpInfo.{ulp_facts, ulp_name}
 
 -- ---- the memory of a socket
 
--- `memory_kind sockets`: the type of the attribute with the memory of a socket, an array of the
--- words SK_MEMINFO_..; None for vsock sockets, which have none
+-- `memory_kind sockets`: the type of the attribute with the memory of a socket, an array of numbers
+-- with the indices SK_MEMINFO_..; None for vsock sockets, which have none
 abbrev pub memory_kind : Sockets → Option ℕ
 memory_kind Unix = Some UNIX_DIAG_MEMINFO
 memory_kind (Inet format) = Some INET_DIAG_SKMEMINFO
@@ -58,13 +60,13 @@ memory_member other = codes "meminfo"
 
 -- the bytes of the name of a UNIX socket: `path` or `abstract`, or with the suffix `_hex` if they
 -- are not valid UTF-8
-abbrev pub name_bytes : SocketName (List ℕ) → Facts
-name_bytes (Pathname path) = bytes_facts (codes "path") (codes "path_hex") path
-name_bytes (Abstract name) = bytes_facts (codes "abstract") (codes "abstract_hex") name
+abbrev pub name_bytes_facts : SocketName (List ℕ) → Facts
+name_bytes_facts (Pathname path) = bytes_facts (codes "path") (codes "path_hex") path
+name_bytes_facts (Abstract name) = bytes_facts (codes "abstract") (codes "abstract_hex") name
 
 -- the name of a UNIX socket, which only JSON has here, since the table has a column for it
 unfoldable pub name_facts : SocketName (List ℕ) → Facts
-name_facts name = json_group (codes "name") (name_bytes name)
+name_facts name = json_group (codes "name") (name_bytes_facts name)
 
 -- `shutdown_facts n`: the directions that are shut down, by the value `n` of an attribute
 -- `.._DIAG_SHUTDOWN`. In the table no text precedes them (`[]`).
@@ -80,9 +82,9 @@ owner_facts other user = number_facts Always (codes " uid:") (Some (codes "uid")
 -- ---- attributes of all kinds
 
 -- `any_facts utf8 sockets value`: the facts of an attribute of a reply about these sockets, which
--- says `value`; no facts if its kind is unknown. Only JSON has the name of a UNIX socket, its peer,
--- its owner and its queues here (Never), since the table has columns for them. `icons` are the
--- inodes of connections that wait to be accepted.
+-- says `value`; no facts if its kind is unknown or INET_DIAG_SK_BPF_STORAGES. Only JSON has the
+-- name of a UNIX socket, its peer, its owner and its queues here, since the table has columns for
+-- them. `icons` are the inodes of connections that wait to be accepted.
 abbrev pub any_facts : Bool → Sockets → AnyValue → Facts
 any_facts utf8 sockets (any.name n) = name_facts n
 any_facts utf8 sockets (any.vfs file) = vfs_facts file.inode file.device
@@ -94,8 +96,8 @@ any_facts utf8 sockets (any.memory m) = memory_facts (memory_member sockets) m
 any_facts utf8 sockets (any.shutdown directions) = shutdown_facts directions
 any_facts utf8 sockets (any.owner user) = owner_facts sockets user
 any_facts utf8 sockets (any.legacy_memory m) = legacy_memory_facts m
-any_facts utf8 sockets (any.tcp_info bytes) = tcp_info bytes
-any_facts utf8 sockets (any.mptcp_info bytes) = mptcp_info bytes
+any_facts utf8 sockets (any.tcp_info bytes) = tcp_facts bytes
+any_facts utf8 sockets (any.mptcp_info bytes) = mptcp_facts bytes
 any_facts utf8 sockets (any.congestion name) = text_facts utf8 (codes " cong:") (codes "cong") name
 any_facts utf8 sockets (any.tos n) = number_facts Hex (codes " tos:0x") (Some (codes "tos")) n
 any_facts utf8 sockets (any.traffic_class n) =
@@ -119,7 +121,7 @@ any_facts utf8 sockets (any.ulp bytes) = ulp_facts bytes
 any_facts utf8 sockets (any.bpf_storages bytes) = no_facts
 any_facts utf8 sockets (any.cgroup_id n) =
     number_facts Always (codes " cgroup:") (Some (codes "cgroup_id")) n
-any_facts utf8 sockets (any.options of_socket) = option_bits of_socket.bits
+any_facts utf8 sockets (any.options of_socket) = option_facts of_socket.bits
 any_facts utf8 sockets (any.groups mask) = groups_facts mask
 any_facts utf8 sockets (any.netlink_flags bits) = netlink_flags_facts bits
 any_facts utf8 sockets (any.packet_info p) = packet_facts p

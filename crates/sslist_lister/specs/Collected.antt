@@ -1,5 +1,5 @@
 -- The attributes of a reply, sorted: the first valid attribute of a kind counts, and each one that
--- is invalid or unknown is listed. An item (`Item` of `sock_diag_extras`) is an attribute and what
+-- is invalid or unknown is listed. An item (`Item` of `sock_diag_any`) is an attribute and what
 -- it says, or a rejection.
 use Rattle.std.specs.Prelude.{ℕ, ◌≡◌, ◌==◌, ◌&&◌, if◌then◌else◌, Bool, false, List, [], ◌∷◌}
 use Rattle.std.specs.Prelude.{map, Option, None, Some, option_map, Result, Ok, Err, slice_index_or}
@@ -27,7 +27,7 @@ pub record Summary : Type 0 where
   -- (`.1`), or None
   pub first : List (Option (ℕ × AnyValue))
   -- each unknown or invalid attribute, in the order of the bytes, and its status (`value_status`):
-  -- `Ok false` if its kind is unknown, or the error of its value
+  -- `Ok false` if its kind is unknown or INET_DIAG_SK_BPF_STORAGES, or the error of its value
   pub others : List (Attribute × Result Bool DecodeError)
   -- the error of the bytes after the last attribute, if there are any
   pub end : Option DecodeError

@@ -14,7 +14,7 @@ use Rattle.sock_diag_extras.specs.declared.constants.TheConstants.{NLMSGERR_ATTR
 use Rattle.sslist_texts.specs.Escapes.{escaped_byte}
 use Rattle.sslist_lister.specs.Messages.{MessageParts, request_in}
 use Rattle.sslist_lister.specs.RequestLine.{request_note}
-use Rattle.sslist_lister.specs.UlpInfo.{nested_number, nested_value}
+use Rattle.sslist_lister.specs.Pieces.{nested_number, nested_value}
 
 -- `has_acked_request flags payload`: the payload of an NLMSG_ERROR contains the request that it
 -- answers. The request follows the four bytes of the error number. It has at least the 16 bytes of
@@ -79,7 +79,7 @@ text_and_offset_in bytes =
     ++ offset_text (nested_number (NLMSGERR_ATTR_OFFS, 4) bytes)
 
 -- `unknown_request t`: the text about the request that a message with the type `t` answers, if the
--- message does not contain it, or if it is not known what it asks for. Nothing if the message is
+-- message does not contain it, or if it is not known what it requests. Nothing if the message is
 -- neither an NLMSG_ERROR nor an NLMSG_DONE.
 abbrev pub unknown_request : ℕ → List ℕ
 unknown_request t =

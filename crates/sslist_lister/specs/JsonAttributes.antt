@@ -1,15 +1,13 @@
--- JSON of the attributes of a reply. Names of members are the kernel's names in lowercase, without
--- the prefix that all names of a struct or an enum have.
+-- JSON of a socket: the members of its attributes, by `any_facts`, and the number of its list.
 use Rattle.std.specs.Prelude.{ℕ, List, [], ◌∷◌, ◌++◌, codes, flat_map, length, map, Result, Ok, Err}
 use Rattle.std.specs.Prelude.{Bool, false, None, Option, Some, if◌then◌else◌, nat_lt}
-use Rattle.hex.specs.Hex.{encode_lower}
 use Rattle.json.specs.Json.{Json}
 use Rattle.netlink_core.specs.Attribute.{Attribute, attribute_kind}
 use Rattle.netlink_core.specs.declared.error.DecodeError.{DecodeError}
 use Rattle.sslist_lister.specs.Collected.{Summary}
 use Rattle.sslist_lister.specs.Details.{error_reason}
-use Rattle.sslist_texts.specs.JsonData.{JsonMember, array_member, number_members, object_of}
-use Rattle.sslist_texts.specs.JsonData.{json_text, optional_member, text_member}
+use Rattle.sslist_texts.specs.JsonData.{JsonMember, array_member, digits_member, json_text}
+use Rattle.sslist_texts.specs.JsonData.{number_members, object_of, optional_member, text_member}
 use Rattle.sslist_lister.specs.AttributeFacts.{any_facts}
 use Rattle.sock_diag_any.specs.AnyNla.{AnyValue}
 use Rattle.sock_diag_any.specs.declared.nla.Sockets.{Sockets}
@@ -21,7 +19,7 @@ use Rattle.sock_diag_any.specs.declared.nla.Sockets.{Sockets}
 unfoldable pub attribute_members : Attribute → List JsonMember
 attribute_members a =
     number_members ((codes "kind", attribute_kind a) ∷ (codes "length", length a.value) ∷ [])
-    ++ text_member (codes "hex") (encode_lower a.value)
+    ++ digits_member (codes "hex") a.value
 
 -- `item_members a status`: the members of an attribute with this status: its kind, its value, and
 -- the reason in one word if the value is invalid

@@ -7,6 +7,7 @@ pub mod Protocol
 pub mod Sctp
 pub mod Selection
 pub mod Table
+pub mod Pieces
 pub mod UlpInfo
 pub mod AttributeFacts
 pub mod Collected

@@ -66,9 +66,9 @@ after_header b header = drop (header_size header) b
 abbrev pub inet_reply_lines : Options → ℕ → Option ℕ → InetResponseHeader → RawTimer → List ℕ
     → List ℕ
 inet_reply_lines o list requested header timer bytes =
-    let asked = summary_of (inet_sockets requested false) bytes in
-    let protocol = protocol_in requested asked in
-    let associated = is_association protocol asked in
+    let found = summary_of (inet_sockets requested false) bytes in
+    let protocol = protocol_in requested found in
+    let associated = is_association protocol found in
     inet_output o list (record {
       protocol = protocol;
       is_association = associated;

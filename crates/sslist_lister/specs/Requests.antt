@@ -79,21 +79,21 @@ requested request =
     if not (is_about_sockets request.header.message_type) || (length request.payload == 0)
     then requests.Unknown else requested_of_family (slice_index request.payload 0) request
 
--- `with_newest sockets asked`: the requests after one more, which asks for these sockets. If they
+-- `with_newest sockets queries`: the requests after one more, which requests these sockets. If they
 -- are IPv4 or IPv6 sockets, the request becomes the first one, and at most MAX_OLDER_REQUESTS of
--- the older ones in `asked` follow. Other requests are not added.
+-- the older ones in `queries` follow. Other requests are not added.
 abbrev pub with_newest : Requested → List Query → List Query
-with_newest (requests.Inet newest) asked = newest ∷ take MAX_OLDER_REQUESTS asked
-with_newest sockets asked = asked
+with_newest (requests.Inet newest) queries = newest ∷ take MAX_OLDER_REQUESTS queries
+with_newest sockets queries = queries
 
--- `with_query request asked`: the requests for IPv4 and IPv6 sockets after one more request. A
+-- `with_query request queries`: the requests for IPv4 and IPv6 sockets after one more request. A
 -- request that closes sockets is not added, since it has no replies.
 abbrev pub with_query : MessageParts → List Query → List Query
-with_query request asked =
+with_query request queries =
     if request.header.message_type == c.SOCK_DIAG_BY_FAMILY
-    then with_newest (requested request) asked else asked
+    then with_newest (requested request) queries else queries
 
--- The requests that are kept, and the number of the list of sockets after them.
+-- The requests that are remembered, and the number of the list of sockets after them.
 pub record PastRequests : Type 0 where
   -- those for IPv4 and IPv6 sockets, at most 16, the newest first
   pub queries : List Query
@@ -105,7 +105,7 @@ pub record PastRequests : Type 0 where
 -- what `Requests` of `src/requests.rt` keeps
 abbrev pub past_requests : Requests → PastRequests
 past_requests r = record {
-  queries = r.asked.items;
+  queries = r.queries.items;
   first = first_request r.first;
   list = r.list;
 }
@@ -128,7 +128,7 @@ with_request request past = record {
   list = list_with request past;
 }
 
--- `protocol_of asked sequence port`: the protocol of the newest request that a reply with this
+-- `protocol_of queries sequence port`: the protocol of the newest request that a reply with this
 -- sequence number (`nlmsg_seq`) and this port number (`nlmsg_pid`) may answer: its sequence number
 -- is equal, and its port number is equal or 0. None if there is no such request.
 abbrev pub protocol_of : List Query → ℕ → ℕ → Option ℕ

@@ -3,13 +3,11 @@
 -- JSON are the kernel's names in lowercase, without the prefixes `INET_ULP_INFO_`, `TLS_INFO_` and
 -- `MPTCP_SUBFLOW_ATTR_`; the texts are those of ss(8), but for those of TLS, which in ss(8) have a
 -- space after each colon, and the tokens.
-use Rattle.std.specs.Prelude.{ℕ, ◌==◌, if◌then◌else◌, Bool, List, codes, is_some, length}
-use Rattle.std.specs.Prelude.{Option, None, Some, Result, Ok, Err, false, option_and_then}
-use Rattle.std.specs.Prelude.{option_map}
+use Rattle.std.specs.Prelude.{ℕ, if◌then◌else◌, Bool, List, codes, is_some}
+use Rattle.std.specs.Prelude.{Option, Result, Ok, Err, false, option_map}
 use Rattle.std.specs.Borrow.{Bor}
 use Rattle.std.specs.List.{list_all}
 use Rattle.std.specs.Option.{option_map_or}
-use Rattle.byteorder.specs.Endian.{little_number}
 use Rattle.netlink_core.specs.Parse.{parse_text}
 use Rattle.netlink_core.specs.declared.error.DecodeError.{DecodeError}
 use Rattle.netlink_core.specs.declared.error.DecodeError.TheVariants.{NameEmpty}
@@ -19,31 +17,16 @@ use Rattle.sock_diag_extras.specs.declared.constants.TheConstants.{INET_ULP_INFO
 use Rattle.sock_diag_extras.specs.declared.constants.TheConstants.{INET_ULP_INFO_TLS}
 use Rattle.sock_diag_extras.specs.declared.constants.TheConstants.{TLS_INFO_RX_NO_PAD}
 use Rattle.sock_diag_extras.specs.declared.constants.TheConstants.{TLS_INFO_ZC_RO_TX}
-use Rattle.sslist_facts.specs.Rows.{Text, text_of}
 use Rattle.sslist_facts.specs.Facts.{Facts, both, facts_of_each, flag_facts, json_group}
-use Rattle.sslist_facts.specs.Facts.{no_facts, number_facts, text_facts}
-use Rattle.sock_diag_any.specs.Pieces.{first_of_kind, pieces_in}
+use Rattle.sslist_facts.specs.Facts.{no_facts, number_row_facts, text_facts}
+use Rattle.sslist_facts.specs.Rows.{Text, text_of}
 use Rattle.sslist_facts.specs.declared.facts.Shown.{Shown}
 use Rattle.sslist_facts.specs.declared.facts.Shown.TheVariants.{Bits}
+use Rattle.sslist_lister.specs.Pieces.{nested_number, nested_value}
 use Rattle.sslist_lister.specs.declared.ulp_info.TheConstants.{FLAG_ROWS, SUBFLOW_ROWS, TLS_ROWS}
 use Rattle.sslist_lister.specs.declared.ulp_info.TheConstants.{TOKEN_ROWS}
 use Rattle.sslist_lister.specs.declared.ulp_info.UlpField.{UlpField}
 use Rattle.sslist_lister.specs.declared.ulp_info.UlpField.TheVariants.{Subflow, Tls}
-
--- ---- nested attributes
-
--- `nested_value kind bytes`: the value of the first attribute of this type in the bytes, or None if
--- there is none. Attributes after bytes that are not an attribute are not considered.
-abbrev pub nested_value : ℕ → List ℕ → Option (List ℕ)
-nested_value kind bytes =
-    option_map (λ a. a.value) (first_of_kind kind (pieces_in bytes))
-
--- `nested_number (kind, width) bytes`: the little-endian number in the first attribute of this type
--- in the bytes; None if there is none, or if its value does not have `width` bytes
-abbrev pub nested_number : ℕ × ℕ → List ℕ → Option ℕ
-nested_number (kind, width) bytes = option_and_then
-    (λ value. if length value == width then Some (little_number width value) else None)
-    (nested_value kind bytes)
 
 -- `ulp_number bytes field`: the number of a field in the nested attributes `bytes`; None if they do
 -- not have it
@@ -70,9 +53,8 @@ ulp_row_of row = (row.0, text_of row.1, option_map text_of row.2, row.3)
 -- `ulp_row bytes row`: the fact of a row; no fact if the nested attributes `bytes` do not have its
 -- field
 unfoldable pub ulp_row : List ℕ → UlpRow → Facts
-ulp_row bytes row =
-    option_map_or (number_facts row.0 row.1.now (option_map (λ member. member.now) row.2))
-    (ulp_number bytes row.3) no_facts
+ulp_row bytes row = number_row_facts
+    (row.0, row.1.now, option_map (λ member. member.now) row.2, ulp_number bytes row.3)
 
 -- `has_fields bytes rows`: the nested attributes have the field of each row
 abbrev pub has_fields : List ℕ → List UlpRow → Bool

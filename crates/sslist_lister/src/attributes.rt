@@ -1,6 +1,6 @@
-//! The facts of the attributes of a reply, by the kinds of their values ([`sslist_facts`]). A
-//! function of this module that appends to a sink may fail: then an allocation failed, and the
-//! content of the sink is not specified.
+//! The facts of the attributes of a reply. [`sslist_facts`] has those of most values, and
+//! [`crate::ulp_info`] those of nested attributes. A function of this module that appends to a sink
+//! may fail: then an allocation failed, and the content of the sink is not specified.
 //!
 //! In the contracts, `AddsFacts old new facts` states that the sink shows these facts after what it
 //! showed before. `S.content sink.old` and `S.content sink.new` are what the sink shows before and
@@ -13,7 +13,7 @@ ghost use Rattle.sock_diag_any.specs.AnyNla.{any_model};
 ghost use Rattle.sslist_facts.specs.Facts.{AddsFacts, list_facts, number_facts};
 ghost use Rattle.sslist_facts.specs.declared.facts.Shown.TheVariants.{Hex};
 ghost use Rattle.sslist_lister.specs.AttributeFacts.{any_facts, memory_kind, memory_member};
-ghost use Rattle.sslist_lister.specs.AttributeFacts.{name_bytes, name_facts, owner_facts};
+ghost use Rattle.sslist_lister.specs.AttributeFacts.{name_bytes_facts, name_facts, owner_facts};
 ghost use Rattle.sslist_lister.specs.AttributeFacts.{value_status};
 
 use crate::ulp_info::{show_ulp, status_of_ulp};
@@ -149,7 +149,7 @@ fn show_name_bytes<S: FactSink>(
     name: NameView<'_>,
 ) -> Result<(), AllocError>
     ensures { OnOk result (AddsFacts (S.content sink.old) (S.content sink.new)
-        (name_bytes (name_view_model name.entry))) }
+        (name_bytes_facts (name_view_model name.entry))) }
 {
     match name {
         NameView::Pathname(path) => sink.bytes(alloc, "path", "path_hex", path),
@@ -207,8 +207,8 @@ fn show_hex<S: FactSink>(
     sink.number(Shown::Hex, text, Some(member), number)
 }
 
-/// Returns the kind of the attribute with the memory of a socket, an array of the words
-/// `SK_MEMINFO_..`. Returns `None` for vsock sockets, which have none.
+/// Returns the kind of the attribute with the memory of a socket, an array of numbers with the
+/// indices `SK_MEMINFO_..`. Returns `None` for vsock sockets, which have none.
 pub(crate) fn memory_kind(sockets: Sockets) -> Option<u16>
     ensures { result ≡ memory_kind sockets }
 {
@@ -222,7 +222,7 @@ pub(crate) fn memory_kind(sockets: Sockets) -> Option<u16>
     }
 }
 
-/// Returns the name of that attribute in JSON.
+/// Returns the name in JSON of the memory of a socket.
 fn memory_member(sockets: Sockets) -> &'static str
     ensures { result.now ≡ memory_member sockets }
 {

@@ -14,8 +14,8 @@ ghost use Rattle.sslist_lister.specs.Explanation.{unknown_request};
 ghost use Rattle.sslist_lister.specs.Messages.{message_parts};
 
 use crate::messages::Message;
+use crate::pieces::{find_number, find_value};
 use crate::request_line::push_request_note;
-use crate::ulp_info::{find_number, find_value};
 use netlink_core::{NLMSG_DONE, NLMSG_ERROR, text_bytes};
 use sock_diag_extras::AckView;
 use sock_diag_extras::constants::{NLMSGERR_ATTR_MSG, NLMSGERR_ATTR_OFFS};
@@ -39,7 +39,7 @@ pub(crate) fn push_explanation(text: &mut Vec<u8>, message: &Message<'_>) -> Res
 }
 
 /// Returns the text about the request that a message of this type answers, if the message does not
-/// contain the request, or if it is not known what it asks for. It is empty if the type is neither
+/// contain the request, or if it is not known what it requests. It is empty if the type is neither
 /// `NLMSG_ERROR` nor `NLMSG_DONE`.
 fn unknown_request(message_type: u16) -> &'static [u8]
     ensures { result.now ≡ unknown_request message_type }

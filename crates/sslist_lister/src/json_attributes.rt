@@ -26,7 +26,7 @@ use crate::kinds::reason_of;
 use json::Writer;
 use netlink_core::NlaBuffer;
 use sock_diag_any::Sockets;
-use sslist_texts::json_writing::{write_numbers, write_optional, write_text};
+use sslist_texts::json_writing::{write_digits, write_numbers, write_optional, write_text};
 use std::alloc::{AllocError, Global};
 
 /// The header of a reply, which can be written as JSON.
@@ -234,6 +234,5 @@ fn write_attribute_members(
 {
     let (kind, length) = (nla.kind() as u64, nla.value().len() as u64);
     write_numbers(writer, &[("kind", kind), ("length", length)])?;
-    let digits = hex::encode(alloc, nla.value())?;
-    write_text(writer, "hex", digits.as_str())
+    write_digits(alloc, writer, "hex", nla.value())
 }

@@ -1,10 +1,10 @@
-//! Properties of lines of JSON.
+//! A property of names in lines of JSON.
 
 ghost use Rattle.std.specs.Prelude.{◌≡◌};
 ghost use Rattle.hex.specs.Hex.{IsBytes};
 ghost use Rattle.sock_diag_attributes.specs.NameModel.{name_view_model};
 ghost use Rattle.sslist_texts.specs.JsonData.{json_text, object_of};
-ghost use Rattle.sslist_lister.specs.AttributeFacts.{name_bytes};
+ghost use Rattle.sslist_lister.specs.AttributeFacts.{name_bytes_facts};
 ghost use Rattle.sslist_lister.specs.private.JsonNames.{bytes_of_name};
 
 use sock_diag_attributes::unix::nlas::NameView;
@@ -12,8 +12,8 @@ use sock_diag_attributes::unix::nlas::NameView;
 /// Proof only: the contract states that two different names never have the same JSON text. If the
 /// texts are equal, then the names are.
 pub fn different_names_have_different_texts(v: NameView<'_>, w: NameView<'_>)
-    ensures { json_text (object_of (name_bytes (name_view_model v.entry)).members)
-        ≡ json_text (object_of (name_bytes (name_view_model w.entry)).members)
+    ensures { json_text (object_of (name_bytes_facts (name_view_model v.entry)).members)
+        ≡ json_text (object_of (name_bytes_facts (name_view_model w.entry)).members)
         → name_view_model v.entry ≡ name_view_model w.entry }
 {
     prove_in_range(v);

@@ -282,8 +282,8 @@ fn push_inet(
     ensures error { IfOk result
         (λ error. error ≡ framing_error_of (pieces_in bytes.now)) }
 {
-    let asked = inet_sockets(requested, false);
-    let mut found = Attributes::new(*text.allocator(), asked);
+    let expected = inet_sockets(requested, false);
+    let mut found = Attributes::new(*text.allocator(), expected);
     found.collect(bytes)?;
     let protocol = protocol_in(requested, &found);
     let is_association = is_association(protocol, &found);
@@ -293,29 +293,29 @@ fn push_inet(
         timer,
         header,
     };
-    push_inet_socket(text, options, list, &socket, &found, asked, bytes)?;
+    push_inet_socket(text, options, list, &socket, &found, expected, bytes)?;
     Ok(found.end)
 }
 
 /// Appends what is written for an IPv4 or IPv6 socket, if the options select it. `found` are its
-/// attributes in `bytes`, read as those of a reply about the sockets `asked`. They are read again
-/// if it is about other sockets, by the protocol of the socket.
+/// attributes in `bytes`, read as those of a reply about the sockets `expected`. They are read
+/// again if it is about other sockets, by the protocol of the socket.
 fn push_inet_socket(
     text: &mut Vec<u8>,
     options: Options<'_>,
     list: u64,
     socket: &InetSocket,
     found: &Attributes<'_>,
-    asked: Sockets,
+    expected: Sockets,
     bytes: &[u8],
 ) -> Result<(), AllocError>
-    requires { collected found.now ≡ summary_of asked bytes.now }
+    requires { collected found.now ≡ summary_of expected bytes.now }
     ensures { OnOk result (text.new.items ≡ text.old.items
         ++ inet_output options.entry list socket.now (summary_of
         (inet_sockets socket.now.protocol socket.now.is_association) bytes.now)) }
 {
     let sockets = inet_sockets(socket.protocol, socket.is_association);
-    if are_same(sockets, asked) {
+    if are_same(sockets, expected) {
         return push_inet_output(text, options, list, socket, found);
     }
     push_inet_again(text, options, list, socket, sockets, bytes)

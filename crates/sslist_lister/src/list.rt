@@ -113,7 +113,7 @@ pub fn list_packet(
 ) -> Result<bool, AllocError>
     ensures lists { IfOk result (ListsCapturedPacket options.entry (past_requests requests.old)
         (captured_packet packet.now header.now) written.old.lines.items written.new.lines.items) }
-    ensures asked { OnOk result (past_requests requests.new
+    ensures requested { OnOk result (past_requests requests.new
         ≡ requests_after_packet (past_requests requests.old) packet.now) }
     ensures diagnosed { OnOk result (DiagnosesPacket written.old.front.now number
         (captured_packet packet.now header.now) written.old.diagnostics.items
@@ -141,7 +141,7 @@ fn list_content(
 ) -> Result<bool, AllocError>
     ensures lists { IfOk result (ListsPacket options.entry (past_requests requests.old)
         (captured_packet packet.now header.now) written.old.lines.items written.new.lines.items) }
-    ensures asked { OnOk result (past_requests requests.new
+    ensures requested { OnOk result (past_requests requests.new
         ≡ requests_after_packet (past_requests requests.old) packet.now) }
     ensures diagnosed { OnOk result (DiagnosesContent written.old.front.now number is_whole
         packet.now written.old.diagnostics.items written.new.diagnostics.items) }
@@ -193,7 +193,7 @@ fn list_sock_diag(
 ) -> Result<bool, AllocError>
     ensures lists { IfOk result (ListsDatagram options.entry (past_requests requests.old) header.now
         datagram.now written.old.lines.items written.new.lines.items) }
-    ensures asked { OnOk result (past_requests requests.new
+    ensures requested { OnOk result (past_requests requests.new
         ≡ requests_after_datagram (past_requests requests.old) datagram.now) }
     ensures diagnosed { OnOk result (DiagnosesDatagram written.old.front.now number is_whole
         datagram.now written.old.diagnostics.items written.new.diagnostics.items) }

@@ -40,7 +40,7 @@ pub(crate) fn push_shown_request(
 }
 
 /// Appends the line of a request: the time of its capture, which is in the packet header, and what
-/// it asks for. Example: `-- 2026-11-27T05:13:59.123456000Z unix states:0x400`.
+/// it requests. Example: `-- 2026-11-27T05:13:59.123456000Z unix states:0x400`.
 fn push_request_line(
     text: &mut Vec<u8>,
     header: &PacketHeader,
@@ -56,8 +56,8 @@ fn push_request_line(
     Ok(text.push(b'\n')?)
 }
 
-/// Appends, in parentheses, what the request at the start of `bytes` asks for. Appends `unknown` if
-/// they do not begin with a request, or if it is not known what it asks for.
+/// Appends, in parentheses, what the request at the start of `bytes` requests. Appends `unknown` if
+/// they do not begin with a request, or if it is not known what it requests.
 pub(crate) fn push_request_note(
     text: &mut Vec<u8>,
     unknown: &[u8],
@@ -72,7 +72,7 @@ pub(crate) fn push_request_note(
     }
 }
 
-/// Appends, in parentheses, what a request asks for, or `unknown` if that is not known.
+/// Appends, in parentheses, what a request requests, or `unknown` if that is not known.
 fn push_note_if_known(
     text: &mut Vec<u8>,
     unknown: &[u8],
@@ -88,7 +88,7 @@ fn push_note_if_known(
     }
 }
 
-/// Appends, in parentheses, what a request asks for.
+/// Appends, in parentheses, what a request requests.
 fn push_note(text: &mut Vec<u8>, request: &Message<'_>) -> Result<(), AllocError>
     ensures { OnOk result (text.new.items ≡ text.old.items
         ++ known_request_note (message_parts request.now)) }
@@ -98,14 +98,14 @@ fn push_note(text: &mut Vec<u8>, request: &Message<'_>) -> Result<(), AllocError
     text.extend_from_slice(b")")
 }
 
-/// Returns whether it is known what a request asks for.
+/// Returns whether it is known what a request requests.
 fn is_known_request(requested: &Requested) -> bool
     ensures { result ≡ is_known_request requested.now }
 {
     !matches!(requested, Requested::Unknown)
 }
 
-/// Appends what a request asks for, after `destroy` if it closes these sockets.
+/// Appends what a request requests, after `destroy` if it closes these sockets.
 #[tactic(auto, unfolding(crate::specs::RequestLine::request_text))]
 fn push_request(text: &mut Vec<u8>, request: &Message<'_>) -> Result<(), AllocError>
     ensures { OnOk result (text.new.items ≡ text.old.items

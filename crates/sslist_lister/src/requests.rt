@@ -28,7 +28,7 @@ use sock_diag_records::unix::UNIX_REQUEST_LEN;
 use sslist_command_line::Family;
 use std::alloc::{AllocError, Global};
 
-/// Number of older requests that are kept when a new one is added: with it at most 16 are kept.
+/// Number of older requests that remain when a new one is added: with it there are at most 16.
 pub(crate) const MAX_OLDER_REQUESTS: usize = 15;
 
 /// A request for IPv4 or IPv6 sockets.
@@ -50,11 +50,11 @@ impl Exact for Query {
     ghost exact = { Prim.search rules };
 }
 
-/// The requests of a capture that are kept.
+/// The requests of a capture that are remembered.
 #[derive(Drop)]
 pub struct Requests {
     /// The newest requests for IPv4 and IPv6 sockets, at most 16, the newest first.
-    pub asked: Vec<Query>,
+    pub queries: Vec<Query>,
     /// The first request of any kind.
     pub(crate) first: FirstRequest,
     /// Number of the list of sockets. The first is 1, and each repetition of the first request
@@ -68,7 +68,7 @@ impl Requests {
         ensures { past_requests result ≡ no_requests }
     {
         Requests {
-            asked: Vec::new(alloc),
+            queries: Vec::new(alloc),
             first: FirstRequest::new(alloc),
             list: 1,
         }
@@ -96,12 +96,12 @@ impl Requests {
         }
     }
 
-    /// Adds a request to `asked` if it is to list IPv4 or IPv6 sockets. Then at most
-    /// [`MAX_OLDER_REQUESTS`] older ones are kept. If it fails, an allocation failed, and `asked`
+    /// Adds a request to `queries` if it is to list IPv4 or IPv6 sockets. Then at most
+    /// [`MAX_OLDER_REQUESTS`] older ones remain. If it fails, an allocation failed, and `queries`
     /// is not specified.
     fn add_query(&mut self, request: &Message<'_>) -> Result<(), AllocError>
-        ensures queries { OnOk result (self.new.asked.items
-            ≡ with_query (message_parts request.now) self.old.asked.items) }
+        ensures queries { OnOk result (self.new.queries.items
+            ≡ with_query (message_parts request.now) self.old.queries.items) }
         ensures first { self.new.first ≡ self.old.first }
         ensures list { self.new.list ≡ self.old.list }
     {
@@ -111,26 +111,26 @@ impl Requests {
         let Requested::Inet(newest) = requested_by(request) else {
             return Ok(());
         };
-        self.asked.truncate(MAX_OLDER_REQUESTS);
-        Ok(self.asked.insert(0, newest)?)
+        self.queries.truncate(MAX_OLDER_REQUESTS);
+        Ok(self.queries.insert(0, newest)?)
     }
 
     /// Returns the protocol of the newest request that a reply with these numbers may answer: its
     /// sequence number is equal, and its port number is equal or 0. Returns `None` if there is
     /// none.
     pub(crate) fn find_protocol(&self, sequence_number: u32, port_number: u32) -> Option<u32>
-        ensures { result ≡ protocol_of self.now.asked.items sequence_number port_number }
+        ensures { result ≡ protocol_of self.now.queries.items sequence_number port_number }
     {
-        find_in(self.asked.as_slice(), sequence_number, port_number)
+        find_in(self.queries.as_slice(), sequence_number, port_number)
     }
 }
 
-/// Returns the protocol of the first of the requests `asked` that a reply with these numbers may
+/// Returns the protocol of the first of the requests `queries` that a reply with these numbers may
 /// answer (see [`Requests::find_protocol`]). Returns `None` if there is none.
-fn find_in(asked: &[Query], sequence_number: u32, port_number: u32) -> Option<u32>
-    ensures { result ≡ protocol_of asked.now sequence_number port_number }
+fn find_in(queries: &[Query], sequence_number: u32, port_number: u32) -> Option<u32>
+    ensures { result ≡ protocol_of queries.now sequence_number port_number }
 {
-    for request in asked {
+    for request in queries {
         if request.sequence_number == sequence_number
             && (request.port_number == port_number || request.port_number == 0)
         {
@@ -140,7 +140,7 @@ fn find_in(asked: &[Query], sequence_number: u32, port_number: u32) -> Option<u3
     None
 }
 
-/// What a request asks for.
+/// What is requested.
 #[derive(Clone, Copy)]
 pub(crate) enum Requested {
     /// IPv4 or IPv6 sockets.
@@ -153,7 +153,7 @@ pub(crate) enum Requested {
     Unknown,
 }
 
-/// Returns what a request asks for. Returns `Unknown` for another type of request, an empty
+/// Returns what is requested. Returns `Unknown` for another type of request, an empty
 /// payload, a payload that is too short for a request for IPv4, IPv6 or UNIX sockets, or another
 /// family. The length of requests of the other families is not checked.
 pub(crate) fn requested_by(request: &Message<'_>) -> Requested

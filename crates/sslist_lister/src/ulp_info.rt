@@ -6,19 +6,18 @@
 //! showed before, and `AddsItems` states it of items. `S.content sink.old` and `S.content sink.new`
 //! are what the sink shows before and after the call.
 
-ghost use Rattle.std.specs.Prelude.{◌≡◌, ◌≤◌, OnOk, codes, flat_map, map, option_map, true};
+ghost use Rattle.std.specs.Prelude.{◌≡◌, OnOk, codes, flat_map, map, option_map, true};
 ghost use Rattle.netlink_core.specs.Errors.{map_ok};
-ghost use Rattle.sslist_facts.specs.Rows.{text_of};
 ghost use Rattle.sslist_facts.specs.Facts.{AddsFacts, AddsItems, json_group};
-ghost use Rattle.sslist_lister.specs.UlpInfo.{has_fields, nested_group, nested_number};
-ghost use Rattle.sslist_lister.specs.UlpInfo.{nested_value, presence_facts, subflow_facts};
-ghost use Rattle.sslist_lister.specs.UlpInfo.{tls_facts, token_facts, ulp_name, ulp_number};
-ghost use Rattle.sslist_lister.specs.UlpInfo.{ulp_facts, ulp_parts, ulp_row, ulp_row_of};
-ghost use Rattle.sslist_lister.specs.UlpInfo.{ulp_rows};
+ghost use Rattle.sslist_facts.specs.Rows.{text_of};
+ghost use Rattle.sslist_lister.specs.Pieces.{nested_value};
+ghost use Rattle.sslist_lister.specs.UlpInfo.{has_fields, nested_group, presence_facts};
+ghost use Rattle.sslist_lister.specs.UlpInfo.{subflow_facts, tls_facts, token_facts, ulp_facts};
+ghost use Rattle.sslist_lister.specs.UlpInfo.{ulp_name, ulp_number, ulp_parts, ulp_row};
+ghost use Rattle.sslist_lister.specs.UlpInfo.{ulp_row_of, ulp_rows};
 
 use crate::attributes::Status;
-use crate::pieces::find_kind;
-use byteorder::{ByteOrder, LittleEndian};
+use crate::pieces::{find_number, find_value};
 use netlink_core::{DecodeError, parse_str};
 use sock_diag_extras::constants::{
     INET_ULP_INFO_MPTCP, INET_ULP_INFO_NAME, INET_ULP_INFO_TLS, TLS_INFO_RX_NO_PAD,
@@ -30,7 +29,7 @@ use std::alloc::AllocError;
 
 /// A number in the nested attributes.
 #[derive(Clone, Copy)]
-pub(crate) enum UlpField {
+enum UlpField {
     /// A field about TLS.
     Tls(TlsField),
     /// A field of a subflow of an MPTCP connection.
@@ -276,7 +275,7 @@ fn show_rows<S: FactSink>(sink: &mut S, bytes: &[u8], rows: &[UlpRow]) -> Result
 
 /// Shows a number, if the nested attributes `bytes` have its field. The table shows it by `format`,
 /// after `text`. JSON has it under `member`, or not at all for `None`.
-#[tactic(auto, using(sslist_facts::proofs::Rows::kept), unfolding(crate::specs::UlpInfo::ulp_row))]
+#[tactic(auto, using(sslist_facts::proofs::Rows::same), unfolding(crate::specs::UlpInfo::ulp_row))]
 fn show_row<S: FactSink>(
     sink: &mut S,
     bytes: &[u8],
@@ -323,29 +322,5 @@ fn name_of_protocol<'a>(value: &'a [u8]) -> Result<&'a str, DecodeError>
     match find_value(value, INET_ULP_INFO_NAME) {
         Some(name) => parse_str(name),
         None => Err(DecodeError::NameEmpty),
-    }
-}
-
-/// Returns the little-endian number of `width` bytes in the first attribute of this kind. Returns
-/// `None` if there is no such attribute, or if its value has another length.
-pub(crate) fn find_number(bytes: &[u8], kind: u16, width: usize) -> Option<u64>
-    // `read_uint` reads one to eight bytes.
-    requires one { 1 ≤ width }
-    requires eight { width ≤ 8 }
-    ensures { result ≡ nested_number (kind, width) bytes.now }
-{
-    match find_value(bytes, kind) {
-        Some(value) if value.len() == width => Some(LittleEndian::read_uint(value, width)),
-        _ => None,
-    }
-}
-
-/// Returns the value of the first attribute of this kind in the bytes, if there is one.
-pub(crate) fn find_value<'a>(bytes: &'a [u8], kind: u16) -> Option<&'a [u8]>
-    ensures { option_map (λ value. value.now) result ≡ nested_value kind bytes.entry.now }
-{
-    match find_kind(bytes, kind) {
-        Some(nla) => Some(nla.value()),
-        None => None,
     }
 }

@@ -1,5 +1,5 @@
 -- Tokens of members of JSON objects.
-use Rattle.std.proofs.Common.{arith, ◌≡◌, ℕ, List, [], ◌∷◌, ◌++◌, ◌∙◌, Bool, true, false, cond}
+use Rattle.std.proofs.Common.{arith, ◌≡◌, ℕ, List, [], ◌∷◌, ◌++◌, ◌∙◌, Bool, true, cond}
 use Rattle.std.proofs.Common.{refl, sym, ap, map, flat_map, decimal, IsUtf8, append_assoc}
 use Rattle.std.proofs.Common.{append-nil, None, Some}
 use Rattle.std.specs.Borrow.{Bor}
@@ -13,7 +13,7 @@ use Rattle.json.specs.Token.{boolean, string}
 use Rattle.json.specs.Tree as tree
 use Rattle.sslist_texts.specs.JsonData.{JsonMember, bytes_member, flag_member, items_of}
 use Rattle.sslist_texts.specs.JsonData.{number_members, number_value, numbers_member}
-use Rattle.sslist_texts.specs.JsonData.{object_member, array_member, text_member}
+use Rattle.sslist_texts.specs.JsonData.{array_member, text_member}
 use Rattle.sslist_texts.specs.JsonData.{object_of, optional_member}
 use Rattle.sslist_texts.specs.JsonWriting.{items_tokens, members_tokens}
 use Rattle.sslist_texts.specs.laws.MemberTokens.{tokens_append, object_end, object_member_tokens}
@@ -159,16 +159,6 @@ pub joined_members : (old mid new : List Token) (xs ys : List JsonMember)
 joined_members old mid new xs ys first second =
     joined old mid new (members_tokens xs) (members_tokens ys) first second
     ∙ ap (λ (t : List Token). old ++ t) (sym (tokens_append xs ys))
-
--- The parts of a member whose value is an object.
-pub joined_object : (old begun written new : List Token) (name : List ℕ) (members : List JsonMember)
-    → begun ≡ old ++ key name ∷ begin_object ∷ [] → written ≡ begun ++ members_tokens members
-    → new ≡ written ++ end_object ∷ []
-    → new ≡ old ++ members_tokens (object_member name members)
-joined_object old begun written new name members first second last =
-    joined old begun new (key name ∷ begin_object ∷ []) (members_tokens members ++ end_object ∷ [])
-    first (joined begun written new (members_tokens members) (end_object ∷ []) second last)
-    ∙ ap (λ (t : List Token). old ++ t) (sym (object_member_tokens name members))
 
 -- The parts of an object.
 pub joined_value : (old begun written new : List Token) (members : List JsonMember)

@@ -87,11 +87,16 @@ cookie_member cookie = hex_member (codes "cookie") (little_number 8 cookie)
 abbrev pub address_member : List ℕ → IpAddr → List JsonMember
 address_member name address = text_member name (ip_text address)
 
+-- `digits_member name bytes`: the member of this name whose value is a string: two lowercase
+-- hexadecimal digits for each byte
+abbrev pub digits_member : List ℕ → List ℕ → List JsonMember
+digits_member name bytes = text_member name (encode_lower bytes)
+
 -- `bytes_member name hex_name bytes`: bytes that the owner of a socket chose: under `name` if they
--- are valid UTF-8, or else their lowercase hexadecimal digits under `hex_name`
+-- are valid UTF-8, or else their digits under `hex_name`
 unfoldable pub bytes_member : List ℕ → List ℕ → List ℕ → List JsonMember
 bytes_member name hex_name bytes =
-    if is_utf8 bytes then text_member name bytes else text_member hex_name (encode_lower bytes)
+    if is_utf8 bytes then text_member name bytes else digits_member hex_name bytes
 
 -- ---- texts
 

@@ -116,11 +116,7 @@ pub fn end_column(text: &mut Vec<u8>, start: usize, width: usize) -> Result<(), 
 
 /// Appends a column: a text, spaces until it has `width` bytes, and one more space. A longer text
 /// is not cut.
-pub(crate) fn push_column(
-    text: &mut Vec<u8>,
-    width: usize,
-    content: &[u8],
-) -> Result<(), AllocError>
+fn push_column(text: &mut Vec<u8>, width: usize, content: &[u8]) -> Result<(), AllocError>
     ensures { OnOk result (text.new.items ≡ text.old.items ++ column width content.now) }
 {
     let start = text.len();
@@ -130,7 +126,7 @@ pub(crate) fn push_column(
 
 /// Appends a column, padded to `width` bytes as by [`push_column`], with a number in decimal, or
 /// with `-` for `None`.
-pub(crate) fn push_number_column(
+fn push_number_column(
     text: &mut Vec<u8>,
     width: usize,
     number: Option<u32>,

@@ -7,9 +7,9 @@ ghost use Rattle.std.specs.Prelude.{◌≡◌, ◌∷◌, [], ◌++◌, OnOk, ma
 ghost use Rattle.std.specs.Fmt.{digits};
 ghost use Rattle.json.specs.Token.{begin_object, key, number};
 ghost use Rattle.sslist_texts.specs.JsonData.{address_member, bytes_member, cookie_member};
-ghost use Rattle.sslist_texts.specs.JsonData.{flag_member, hex_member};
-ghost use Rattle.sslist_texts.specs.JsonData.{number_members, numbers_member};
-ghost use Rattle.sslist_texts.specs.JsonData.{optional_member, text_member};
+ghost use Rattle.sslist_texts.specs.JsonData.{digits_member, flag_member, hex_member};
+ghost use Rattle.sslist_texts.specs.JsonData.{number_members, numbers_member, optional_member};
+ghost use Rattle.sslist_texts.specs.JsonData.{text_member};
 ghost use Rattle.sslist_texts.specs.JsonWriting.{KeepsPrefix, members_tokens};
 
 use byteorder::{ByteOrder, LittleEndian};
@@ -124,6 +124,21 @@ pub fn write_hex(
     write_text(writer, name, text.as_str())
 }
 
+/// Writes a member whose value is a string: two lowercase hexadecimal digits for each byte.
+pub fn write_digits(
+    alloc: Global,
+    writer: &mut Writer,
+    name: &str,
+    bytes: &[u8],
+) -> Result<(), AllocError>
+    ensures prefix { KeepsPrefix result writer.old writer.new }
+    ensures members { OnOk result (writer.new.tokens ≡ writer.old.tokens
+        ++ members_tokens (digits_member name.now bytes.now)) }
+{
+    let digits = hex::encode(alloc, bytes)?;
+    write_text(writer, name, digits.as_str())
+}
+
 /// Writes the member `cookie`: the eight bytes as a little-endian number, in lowercase hexadecimal
 /// digits.
 pub fn write_cookie(alloc: Global, writer: &mut Writer, cookie: &[u8; 8]) -> Result<(), AllocError>
@@ -165,9 +180,6 @@ pub fn write_bytes(
 {
     match str::from_utf8(bytes) {
         Ok(text) => write_text(writer, name, text),
-        Err(_) => {
-            let digits = hex::encode(alloc, bytes)?;
-            write_text(writer, hex_name, digits.as_str())
-        }
+        Err(_) => write_digits(alloc, writer, hex_name, bytes),
     }
 }

@@ -153,7 +153,7 @@ impl<W: Write> Lister<W> {
     /// Writes a line for each socket of this machine.
     fn list_all(&mut self) -> io::Result<()> {
         let unix = UnixRequest {
-            state_flags: unix::StateFlags::from_bits_retain(u32::MAX),
+            state_flags: unix::StateFlags::every_state(),
             inode: 0,
             show_flags: ShowFlags::NAME | ShowFlags::PEER | ShowFlags::ICONS | ShowFlags::RQLEN,
             cookie: [0xff; 8],
@@ -178,7 +178,7 @@ impl<W: Write> Lister<W> {
         let protocol = u8::try_from(number).unwrap_or(0);
         let attribute = [RequestAttribute::Protocol(number)];
         for (family, socket_id) in [(AF_INET, SocketId::new_v4()), (AF_INET6, SocketId::new_v6())] {
-            let states = inet::StateFlags::from_bits_retain(u32::MAX);
+            let states = inet::StateFlags::every_state();
             let request = RequestWithAttributes {
                 header: NetlinkHeader { message_type: SOCK_DIAG_BY_FAMILY, ..Default::default() },
                 request: InetRequest { family, protocol, extensions: show, states, socket_id },

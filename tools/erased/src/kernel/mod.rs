@@ -11,7 +11,7 @@
 //! fn main() -> Result<(), Box<dyn std::error::Error>> {
 //!     let request = UnixRequest {
 //!         // `StateFlags::all()` lacks the state of most datagram sockets.
-//!         state_flags: StateFlags::from_bits_retain(u32::MAX),
+//!         state_flags: StateFlags::every_state(),
 //!         inode: 0,
 //!         show_flags: ShowFlags::NAME | ShowFlags::PEER,
 //!         cookie: [0xff; 8],

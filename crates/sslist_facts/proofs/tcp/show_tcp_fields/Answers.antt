@@ -1,10 +1,10 @@
 use Rattle.std.proofs.lemmas.Result.{on_ok_weaker}
-use Rattle.sslist_facts.specs.Tcp.{tcp_fields}
+use Rattle.sslist_facts.specs.Tcp.{tcp_field_facts}
 use Rattle.sslist_facts.proofs.FactItems.{shown_three}
 use Rattle.sslist_facts.proofs.tcp.show_tcp_fields.Goals as goal
 
 pub returns : goal.returns
-unfolding tcp_fields
+unfolding tcp_field_facts
 returns g c =
     let sink = g.S.FactSink in
     on_ok_weaker c.show_fields-3.result

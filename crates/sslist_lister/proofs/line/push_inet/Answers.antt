@@ -7,7 +7,7 @@ push_inet_socket-requires c =
 pub returns-clause-lines : goal.returns-clause-lines
 returns-clause-lines c =
     rw (
-      ← c.inet_sockets-asked.ensures,
+      ← c.inet_sockets-expected.ensures,
       ← c.new-found.ensures.sockets,
       ← c.in_ok-collect.ensures.summary,
       ← c.protocol_in-protocol.ensures,

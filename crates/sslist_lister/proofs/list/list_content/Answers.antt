@@ -19,13 +19,13 @@ returns-in-SockDiag-clause-lists c =
     ))
     c.list_sock_diag.ensures.lists
 
-pub returns-in-SockDiag-clause-asked : goal.returns-in-SockDiag-clause-asked
-returns-in-SockDiag-clause-asked c =
+pub returns-in-SockDiag-clause-requested : goal.returns-in-SockDiag-clause-requested
+returns-in-SockDiag-clause-requested c =
     let found = c.in-SockDiag.ensures in
     on_ok_weaker c.list_sock_diag.result
     (λ noted. noted ∙ request_of_datagram (past_requests c.args.requests.now) c.args.packet.now
     c.in-SockDiag.datagram.now found.0 found.1 found.2)
-    c.list_sock_diag.ensures.asked
+    c.list_sock_diag.ensures.requested
 
 pub returns-in-SockDiag-clause-diagnosed : goal.returns-in-SockDiag-clause-diagnosed
 returns-in-SockDiag-clause-diagnosed c =

@@ -111,7 +111,7 @@ packets-preserved g c =
     now_past c.packets.number c.as_slice-bytes.result.now packet header _ _ lines said
     c.in_ok-is_listed.is_listed c.as_slice-bytes.ensures.value c.clear.ensures.items
     c.clear-in-packets.ensures.items inv.front c.in_ok-is_listed.ensures.lists
-    c.in_ok-is_listed.ensures.asked c.in_ok-is_listed.ensures.diagnosed in
+    c.in_ok-is_listed.ensures.requested c.in_ok-is_listed.ensures.diagnosed in
     let both = one_more_packet c.args.options c.args.front.now (state_of c.in_ok-reader.reader)
     (g.R.Source.left c.read_header.new.input) (g.R.Source.left c.packets.input)
     (g.R.Source.left c.read_packet.new.input) (g.W.Sink.held c.send.new.output)
@@ -219,7 +219,7 @@ returns-in_err-send-2-clause-ended g c =
     c.read_packet.new.packet.items c.in-Some.header _ _ c.list_packet.new.written.lines.items
     c.list_packet.new.written.diagnostics.items c.in_ok-is_listed.is_listed
     c.as_slice-bytes.ensures.value c.clear.ensures.items c.clear-in-packets.ensures.items inv.front
-    c.in_ok-is_listed.ensures.lists c.in_ok-is_listed.ensures.asked
+    c.in_ok-is_listed.ensures.lists c.in_ok-is_listed.ensures.requested
     c.in_ok-is_listed.ensures.diagnosed in
     let reported = reports_then _ _ _ _ _ _ _ _ _ _ _ inv.reported
     (rw c.as_slice.ensures.value at c.report.ensures) in

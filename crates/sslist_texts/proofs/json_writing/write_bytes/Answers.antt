@@ -8,10 +8,8 @@ returns-in-Ok c = record {
       (rw c.in-Ok.ensures.cases.0 at c.write_text.ensures.members);
 }
 
-pub returns-in_ok-digits-in-Err : goal.returns-in_ok-digits-in-Err
-returns-in_ok-digits-in-Err c = record {
-  prefix = c.write_text-in-Err.ensures.prefix;
-  members = rw (other_member _ _ _ c.in-Err.ensures.cases.0)
-      (rw (c.as_str.ensures.value, c.in_ok-digits-in-Err.ensures)
-      at c.write_text-in-Err.ensures.members);
+pub returns-in-Err : goal.returns-in-Err
+returns-in-Err c = record {
+  prefix = c.write_digits.ensures.prefix;
+  members = rw (other_member _ _ _ c.in-Err.ensures.cases.0) c.write_digits.ensures.members;
 }
