@@ -299,32 +299,8 @@ def test_options(program):
     status, table, errors = run(program, [], capture)
     errors = re.escape(errors)
     heading, *rows = table.replace(b"\n\t", b"").splitlines(True)
-    with tempfile.NamedTemporaryFile() as file:
-        file.write(capture)
-        file.flush()
-        choices = [[it] for it in [*KINDS, *DETAILS, "-n", "-a", "-O", "--requests", "--utf8"]]
-        choices += [["-t", "-x", "-oemi"], ["-4"], ["-l6"], ["-lf", "unix"]]
-        for arguments in choices:
-            ended, listed, _ = run(program, arguments, capture)
-            diagnostics = b"(sslist: .*packet 12, message 1: .*\n)?"
-            check(program, [*arguments, file.name], b"", ended, listed, diagnostics)
-            twice = [file.name, *arguments, file.name]
-            check(program, twice, b"", ended, (caption(file.name) + listed) * 2, diagnostics * 2)
-            rest = listed.removeprefix(heading)
-            check(program, [*arguments, "-H"], capture, ended, rest, errors)
-            check(program, ["-H", *twice], b"", ended, rest * 2, diagnostics * 2)
-    for one, other in [(one, other) for one in KINDS for other in KINDS]:
-        kinds = f"{KINDS[one]} {KINDS[other]}".split()
-        chosen = [row for row in rows if row.split()[0].decode() in kinds]
-        assert 0 < len(chosen) < len(rows), (one, other)
-        check(program, ["-O", one, other], capture, status, heading + b"".join(chosen), errors)
-    for letters, names in [
-        *((letter, [name]) for letter, name in LONG_NAMES.items()),
-        ("-la", ["--listening", "--all"]), ("-al", ["--all", "--listening"]),
-        ("-t6nOH", ["--tcp", "--ipv6", "--numeric", "--oneline", "--no-header"]),
-    ]:
-        expected = run(program, [letters], capture)[:2]
-        check(program, names, capture, *expected, errors)
+    check_each(program, capture, heading, errors)
+    check_several(program, capture, status, heading, rows, errors)
     check_selections(program, capture, heading, rows, errors)
     check_endpoints(program, capture, heading, rows, errors)
     check_filters(program)
@@ -343,6 +319,42 @@ def test_options(program):
     check(program, ["--utf8"], named, status, printed, errors)
     escaped = printed.replace("ö".encode(), b"\\xc3\\xb6")
     assert run(program, [], named)[1].split() == escaped.split(), "without --utf8"
+
+
+def check_each(program, capture, heading, errors):
+    """Checks that each option has the same effect before and after files, for one and for two, and
+    that -H removes the heading only."""
+    with tempfile.NamedTemporaryFile() as file:
+        file.write(capture)
+        file.flush()
+        choices = [[it] for it in [*KINDS, *DETAILS, "-n", "-a", "-O", "--requests", "--utf8"]]
+        choices += [["-t", "-x", "-oemi"], ["-4"], ["-l6"], ["-lf", "unix"]]
+        for arguments in choices:
+            ended, listed, _ = run(program, arguments, capture)
+            diagnostics = b"(sslist: .*packet 12, message 1: .*\n)?"
+            check(program, [*arguments, file.name], b"", ended, listed, diagnostics)
+            twice = [file.name, *arguments, file.name]
+            check(program, twice, b"", ended, (caption(file.name) + listed) * 2, diagnostics * 2)
+            rest = listed.removeprefix(heading)
+            check(program, [*arguments, "-H"], capture, ended, rest, errors)
+            check(program, ["-H", *twice], b"", ended, rest * 2, diagnostics * 2)
+
+
+def check_several(program, capture, status, heading, rows, errors):
+    """Checks which rows are listed with two options that select sockets, and that the long names of
+    letters have the effect of the letters."""
+    for one, other in [(one, other) for one in KINDS for other in KINDS]:
+        kinds = f"{KINDS[one]} {KINDS[other]}".split()
+        chosen = [row for row in rows if row.split()[0].decode() in kinds]
+        assert 0 < len(chosen) < len(rows), (one, other)
+        check(program, ["-O", one, other], capture, status, heading + b"".join(chosen), errors)
+    for letters, names in [
+        *((letter, [name]) for letter, name in LONG_NAMES.items()),
+        ("-la", ["--listening", "--all"]), ("-al", ["--all", "--listening"]),
+        ("-t6nOH", ["--tcp", "--ipv6", "--numeric", "--oneline", "--no-header"]),
+    ]:
+        expected = run(program, [letters], capture)[:2]
+        check(program, names, capture, *expected, errors)
 
 
 def check_selections(program, capture, heading, rows, errors):

@@ -1302,43 +1302,50 @@ def test_close(runs):
     compare("no terminal", (found[0], found[2], log.read_text()), (1, error, ""))
 
 
+# The command that closes the three sockets of `CLOSED`, and how an error names each of them.
+CLOSE = ["-Kn", "--yes", "sport >= :22"]
+ENDS = ["tcp 127.0.0.1 port 22, 192.0.2.1 port 443",
+        "tcp 2001:db8::1 port 22, ::ffff:192.0.2.1 port 443",
+        "udp 127.0.0.1 port 22, 192.0.2.1 port 443"]
+
+
 def test_close_errors(runs):
     """Reports each socket that was not closed, also while signals interrupt the calls, but not one
-    that is gone, and closes nothing if not all were listed. Answers to other requests are skipped.
-    """
+    that is gone. Answers to other requests are skipped."""
     file, log = runs.folder / "replies", runs.folder / "closed"
-    kill = ["-Kn", "--yes", "sport >= :22"]
-    ends = ["tcp 127.0.0.1 port 22, 192.0.2.1 port 443",
-            "tcp 2001:db8::1 port 22, ::ffff:192.0.2.1 port 443",
-            "udp 127.0.0.1 port 22, 192.0.2.1 port 443"]
     for number, text in ((1, "Operation not permitted"), (2, ""), (95, "Operation not supported")):
         environment = runs.kernel(file, FAKE_KERNEL_CLOSED=str(log), FAKE_KERNEL_SIGNALS="1",
                                   FAKE_KERNEL_DESTROY=str(-number))
-        found = runs.end(*kill, env=environment)
-        errors = "".join(f"socklist: not closed: {it}: {text}\n" for it in ends if text)
+        found = runs.end(*CLOSE, env=environment)
+        errors = "".join(f"socklist: not closed: {it}: {text}\n" for it in ENDS if text)
         compare(text, (found[0], found[2]), (bool(text), errors))
-    refusal = f"socklist: not closed: {ends[0]}: Operation not permitted\n"
+    refusal = f"socklist: not closed: {ENDS[0]}: Operation not permitted\n"
     for name, more, status, error in (
         ("FIRST", {"FAKE_KERNEL_DESTROY": "-1"}, 1, refusal), ("STALE", {}, 0, ""),
-        ("ENDS", {}, 1, "".join(f"socklist: not closed: {it}: Protocol error\n" for it in ends)),
+        ("ENDS", {}, 1, "".join(f"socklist: not closed: {it}: Protocol error\n" for it in ENDS)),
         ("DENIES", {}, 1, "".join(f"socklist: not closed: {it}: Operation not permitted\n"
-                                  for it in ends)),
+                                  for it in ENDS)),
     ):
         more |= {"FAKE_KERNEL_CLOSED": str(log), f"FAKE_KERNEL_DESTROY_{name}": "1"}
-        compare(name, runs.end(*kill, env=runs.kernel(file, **more))[::2], (status, error))
+        compare(name, runs.end(*CLOSE, env=runs.kernel(file, **more))[::2], (status, error))
     environment = runs.kernel(file, FAKE_KERNEL_CLOSED=str(log))
-    found = runs.end(*kill, env=failing(runs, "recv", 2, environment))
+    found = runs.end(*CLOSE, env=failing(runs, "recv", 2, environment))
     compare("short answer", (found[0], found[2].splitlines()[:-1]),
-            (1, [f"socklist: not closed: {ends[1]}: Protocol error"]))
+            (1, [f"socklist: not closed: {ENDS[1]}: Protocol error"]))
+
+
+def test_close_incomplete(runs):
+    """Closes nothing if not all sockets were listed."""
+    file, log = runs.folder / "replies", runs.folder / "closed"
     environment = runs.kernel(file, FAKE_KERNEL_CLOSED=str(log), FAKE_KERNEL_REFUSES="1")
     log.write_text("")
-    found = runs.end(*kill, env=environment)
+    found = runs.end(*CLOSE, env=environment)
     compare("refused", (found, log.read_text()),
             ((1, "", "sockdump: connect: Operation not permitted\n"), ""))
     lost = dump("tcp", CLOSED[0][1])
     runs.record(*lost[:2], message(sockdump.DONE, 2, 1, 77, struct.pack("<i", -105)))
-    found = runs.end(*kill, env=os.environ | {"LD_PRELOAD": runs.library,
-                                              "FAKE_KERNEL_CLOSED": str(log)})
+    environment = os.environ | {"LD_PRELOAD": runs.library, "FAKE_KERNEL_CLOSED": str(log)}
+    found = runs.end(*CLOSE, env=environment)
     assert found[0] == 1 and found[2].endswith(NOT_CLOSED) and not log.read_text(), found
     runs.record(*dump("tcp", CLOSED[0][1]))
     real = os.path.abspath(runs.programs["sslist"])
@@ -1346,33 +1353,45 @@ def test_close_errors(runs):
             ("*--json*) exit 1", 1), ("*--json*) ;; *) exit 1", 1), ("*) exit 2", 2)):
         runs.use(sockdump=f"exec cat {runs.folder}/capture",
                  sslist=f'{real} "$@" || exit; case "$*" in {script}; esac')
-        found = runs.end(*kill, env=os.environ | {"LD_PRELOAD": runs.library,
-                                                  "FAKE_KERNEL_CLOSED": str(log)})
+        found = runs.end(*CLOSE, env=environment)
         compare(script, (found[0], found[2], log.read_text()),
                 (status, NOT_CLOSED * (status == 1), ""))
+
+
+def test_close_other_objects(runs):
+    """Closes nothing if a line of JSON lacks a member that sslist writes, has a wrong address, or is
+    about another kind of sockets."""
+    log = runs.folder / "closed"
+    log.write_text("")
+    runs.record(*dump("tcp", CLOSED[0][1]))
+    real = os.path.abspath(runs.programs["sslist"])
     listed = subprocess.run([real, "--json", runs.folder / "capture"], stdout=subprocess.PIPE,
                             check=True).stdout.decode()
-    # An object without a member that sslist writes, with a wrong address, and of another kind.
     for old, new in (*((f',"{it}":', ',"no":') for it in (
             "family", "sport", "dport", "if", "src", "dst", "cookie")),
             *(('"127.0.0.1"', f'"{it}"') for it in ("127.0.0.x", "127.0.0.1 ", 46 * "1", "")),
             ('"tcp"', '"raw"'), ('"tcp"', '"udplite"')):
         runs.use(sockdump=f"exec cat {runs.folder}/capture",
                  sslist=f"""{real} "$@" | sed 's/{old}/{new}/'""")
-        found = runs.end(*kill, env=os.environ | {"LD_PRELOAD": runs.library,
+        found = runs.end(*CLOSE, env=os.environ | {"LD_PRELOAD": runs.library,
                                                   "FAKE_KERNEL_CLOSED": str(log)})
         wrong = f"socklist: not a TCP or UDP socket: {listed.replace(old, new)[:60]}\n"
         compare(f"{old} {new}", (found[0], found[2], log.read_text()), (1, wrong + NOT_CLOSED, ""))
+
+
+def test_close_failed_calls(runs):
+    """Reports the call that failed, also if descriptors lack: then no socket or each is closed."""
+    file, log = runs.folder / "replies", runs.folder / "closed"
     runs.record(*dump("tcp", CLOSED[0][1]))
     for name, value, what in (("REFUSES", "socket", "socket"), ("REFUSES", "connect", "connect"),
-                              ("DENIES", "1", f"not closed: {ends[0]}")):
-        found = runs.end(*kill, env=os.environ | {"LD_PRELOAD": runs.library,
+                              ("DENIES", "1", f"not closed: {ENDS[0]}")):
+        found = runs.end(*CLOSE, env=os.environ | {"LD_PRELOAD": runs.library,
                                                   f"FAKE_KERNEL_{name}": value})
         compare(what, found[::2], (1, f"socklist: {what}: Operation not permitted\n"))
     environment = runs.kernel(file, FAKE_KERNEL_CLOSED=str(log))
     for most in range(4, 14):
         log.write_text("")
-        found = runs.end(*kill, env=environment, preexec_fn=with_descriptors(most))
+        found = runs.end(*CLOSE, env=environment, preexec_fn=with_descriptors(most))
         assert len(log.read_text().split()) == (0 if found[0] else 3) and (
             found[0] == 0 or found[2]), f"{most}: {found}"
 

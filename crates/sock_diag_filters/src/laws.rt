@@ -44,8 +44,8 @@ ghost use Rattle.sock_diag_filters.specs.declared.view.RequestView.{RequestView}
 use crate::any::{AnyRequestView, RecordRequestView};
 use crate::assembly::{AssembleError, MAX_PROGRAM};
 use crate::codes::{
-    INET_DIAG_BC_AUTO, INET_DIAG_BC_CGROUP_COND, INET_DIAG_BC_DEV_COND, INET_DIAG_BC_D_COND,
-    INET_DIAG_BC_D_EQ, INET_DIAG_BC_D_GE, INET_DIAG_BC_D_LE, INET_DIAG_BC_JMP,
+    INET_DIAG_BC_AUTO, INET_DIAG_BC_CGROUP_COND, INET_DIAG_BC_D_COND, INET_DIAG_BC_D_EQ,
+    INET_DIAG_BC_D_GE, INET_DIAG_BC_D_LE, INET_DIAG_BC_DEV_COND, INET_DIAG_BC_JMP,
     INET_DIAG_BC_MARK_COND, INET_DIAG_BC_NOP, INET_DIAG_BC_S_COND, INET_DIAG_BC_S_EQ,
     INET_DIAG_BC_S_GE, INET_DIAG_BC_S_LE,
 };
